@@ -1,0 +1,13 @@
+pub mod Tests
+pub mod OrderLaws
+pub mod PatternLaws
+pub mod HalvingLaws
+pub mod ProductLaws
+pub mod RootLaws
+pub mod RootSteps
+pub mod Squares
+pub mod DigitLaws
+pub mod RoundingLaws
+pub mod SquareRootTheorems
+pub mod Table
+pub mod CoefficientTheorems

@@ -1,0 +1,4 @@
+pub mod Outcome
+pub mod Branch
+pub mod Loops
+pub mod Grid

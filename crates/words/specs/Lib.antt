@@ -1,0 +1,4 @@
+-- In order of reading.
+pub mod Words
+pub mod Loop
+pub mod Grid
