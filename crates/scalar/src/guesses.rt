@@ -5,25 +5,65 @@ ghost use Rattle.scalar.specs.Patterns.{infinityPattern};
 use crate::patterns::number;
 use crate::patterns::pattern;
 
-// For the orders 3, 4 and 5: y is the inverse root to four binary digits, r how far it is off (v * y^m is 1 - r),
-// q a polynomial fitted to (1 - r)^(1/m - 1) on r's range, good to 29 digits, and the last line a step by the tangent, which doubles them.
+// For the orders 3, 4 and 5: y is the inverse root to four binary digits, r how far it is off (v * y^m is 1 - r), w * series the root to 29 digits,
+// and the last line a step by the tangent, which doubles them. The series are fits to (1 - r)^(1/m - 1) on r's range.
+const THIRD: [f64; 8] = [
+    0.999_999_999_967_272_1,
+    0.666_666_667_736_782_3,
+    0.555_555_655_578_379,
+    0.493_826_215_659_810_94,
+    0.452_626_685_658_632,
+    0.422_687_133_174_813_27,
+    0.406_518_400_795_604_3,
+    0.372_203_158_339_860_2,
+];
+
+const FOURTH: [f64; 8] = [
+    0.999_999_999_804_089_4,
+    0.750_000_006_628_792,
+    0.656_250_407_930_447_3,
+    0.601_558_530_694_406_1,
+    0.563_830_249_657_843_8,
+    0.536_310_119_258_258_8,
+    0.527_814_822_937_592_1,
+    0.479_993_049_666_199_3,
+];
+
+const FIFTH: [f64; 8] = [
+    0.999_999_998_725_153_1,
+    0.800_000_045_521_438_3,
+    0.720_001_713_569_191_7,
+    0.671_982_555_695_476_7,
+    0.638_031_994_990_906_7,
+    0.614_395_711_056_249_6,
+    0.618_158_281_303_895_4,
+    0.548_255_963_484_277,
+];
+
+const SECOND: [f64; 8] = [
+    1.000_000_000_722_237_2,
+    0.499_999_987_686_855_9,
+    0.374_997_229_288_931_1,
+    0.312_512_124_481_047,
+    0.275_017_717_654_847_8,
+    0.244_436_937_131_224_9,
+    0.0,
+    0.0,
+];
+
+// c[0] + c[1] * r + .. + c[7] * r^7, by pairs.
+fn series(c: [f64; 8], r: f64) -> f64 {
+    let s = r * r;
+    c[0] + c[1] * r + (c[2] + c[3] * r) * s + (c[4] + c[5] * r + (c[6] + c[7] * r) * s) * (s * s)
+}
+
 fn third(b: u64, v: f64) -> f64
     requires { ⌜ b < infinityPattern ⌝ }
 {
     let inverse = 0.333_333_333_333_333_3 / v;
     let y = number(0x553e_f4c7_9b20_5241 - b / 3);
     let h = y * y;
-    let w = v * h;
-    let r = 1.0 - v * y * h;
-    let s = r * r;
-    let q = 0.999_999_999_967_272_1
-        + 0.666_666_667_736_782_3 * r
-        + (0.555_555_655_578_379 + 0.493_826_215_659_810_94 * r) * s
-        + (0.452_626_685_658_632
-            + 0.422_687_133_174_813_27 * r
-            + (0.406_518_400_795_604_3 + 0.372_203_158_339_860_2 * r) * s)
-            * (s * s);
-    let x = w * q;
+    let x = v * h * series(THIRD, 1.0 - v * y * h);
     x - (x * x * x - v) * (x * inverse)
 }
 
@@ -33,16 +73,7 @@ fn fourth(b: u64, v: f64) -> f64
     let inverse = 0.25 / v;
     let y = number(0x4feb_0f10_8648_2b73 - b / 4);
     let w = v * y * (y * y);
-    let r = 1.0 - w * y;
-    let s = r * r;
-    let q = 0.999_999_999_804_089_4
-        + 0.750_000_006_628_792 * r
-        + (0.656_250_407_930_447_3 + 0.601_558_530_694_406_1 * r) * s
-        + (0.563_830_249_657_843_8
-            + 0.536_310_119_258_258_8 * r
-            + (0.527_814_822_937_592_1 + 0.479_993_049_666_199_3 * r) * s)
-            * (s * s);
-    let x = w * q;
+    let x = w * series(FOURTH, 1.0 - w * y);
     let x2 = x * x;
     x - (x2 * x2 - v) * (x * inverse)
 }
@@ -54,17 +85,7 @@ fn fifth(b: u64, v: f64) -> f64
     let y = number(0x4cb8_abd6_f191_fd58 - b / 5);
     let h = y * y;
     let k = h * h;
-    let w = v * k;
-    let r = 1.0 - v * y * k;
-    let s = r * r;
-    let q = 0.999_999_998_725_153_1
-        + 0.800_000_045_521_438_3 * r
-        + (0.720_001_713_569_191_7 + 0.671_982_555_695_476_7 * r) * s
-        + (0.638_031_994_990_906_7
-            + 0.614_395_711_056_249_6 * r
-            + (0.618_158_281_303_895_4 + 0.548_255_963_484_277 * r) * s)
-            * (s * s);
-    let x = w * q;
+    let x = v * k * series(FIFTH, 1.0 - v * y * k);
     let x2 = x * x;
     x - (x2 * x2 * x - v) * (x * inverse)
 }
@@ -141,13 +162,7 @@ pub fn digits_guess(b: u64) -> u64
     let inverse = 0.5 / v;
     let y = number(0x5fe6_f011_1b84_788f - b / 2);
     let w = v * y;
-    let r = 1.0 - w * y;
-    let s = r * r;
-    let q = 1.000_000_000_722_237_2
-        + 0.499_999_987_686_855_9 * r
-        + (0.374_997_229_288_931_1 + 0.312_512_124_481_047 * r) * s
-        + (0.275_017_717_654_847_8 + 0.244_436_937_131_224_9 * r) * (s * s);
-    let x = w * q;
+    let x = w * series(SECOND, 1.0 - w * y);
     let t = x - (x * x - v) * (x * inverse);
     pattern(t) % 0x10_0000_0000_0000 + 0xf_ffff_ffff_ffff
 }

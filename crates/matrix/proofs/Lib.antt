@@ -1,0 +1,10 @@
+pub mod Examples
+pub mod Determinism
+pub mod Sizes
+pub mod Pivots
+pub mod Passes
+pub mod Parts
+pub mod Interchange
+pub mod Cells
+pub mod Rows
+pub mod Cases

@@ -1,0 +1,36 @@
+-- `back_phase` meets its contract.
+use Prim.Native.Nat.{_-_}
+use mathlib.Core.Path.{refl}
+use native.Mathlib.Omega.{arith}
+use borrow.Author.Needs.{needs}
+use Rattle.words.proofs.Loops.{Ran, begun, turned, ended, Long}
+use Rattle.matrix.specs.Substitution.{backAt}
+use Rattle.matrix.specs.Linear.{realSide}
+use Rattle.matrix.proofs.substitution.back_phase.Statement.{statement}
+use Rattle.matrix.proofs.substitution.back_phase.Tie as tie
+
+abbrev Inv-loop : tie.InvT-loop
+Inv-loop n a b₀ kb₀ b kb = Ran (backAt realSide a n) (Long b₀) 1 n kb b₀ b
+
+abbrev μ-loop : tie.MeasureT-loop
+μ-loop n a b₀ kb₀ b kb = n - kb
+
+loop-holds : tie.Need-loop-holds Inv-loop μ-loop
+loop-holds c = begun (omega arith) refl refl
+
+loop-again : tie.Need-loop-again Inv-loop μ-loop
+unfolding backAt
+loop-again c = turned (c .before .before .before .before .before .before .before .before .before .loop .inv) (omega arith) (omega arith) (rw (c .before .before .take-column .ensures, c .before .before .before .before .before .before .divide .ensures))
+
+returns : tie.Need-returns Inv-loop μ-loop
+returns c = ended (c .before .loop .inv) (c .loop-test .left)
+
+pub back-phase-spec : {M : Type 1} → statement M
+back-phase-spec =
+    tie.close
+    (tie.spec
+    Inv-loop
+    μ-loop
+    loop-holds (λ c. omega arith) (λ c κs. search needs) (λ c κs. search needs) (λ c. omega arith) (λ c. omega arith)
+    loop-again (λ c. search needs)
+    returns)

@@ -1,0 +1,35 @@
+-- `add_column` meets its contract.
+use Prim.Native.Nat.{_-_}
+use mathlib.Core.Path.{refl}
+use native.Mathlib.Omega.{arith}
+use borrow.Author.Needs.{needs}
+use Rattle.words.proofs.Loops.{Ran, begun, turned, ended, Long}
+use Rattle.matrix.specs.Complex.{Parts, parts}
+use Rattle.matrix.specs.LinearComplex.{addComplexAt}
+use Rattle.matrix.proofs.substitution_complex.add_column.Statement.{statement}
+use Rattle.matrix.proofs.substitution_complex.add_column.Tie as tie
+
+abbrev Inv-loop : tie.InvT-loop
+Inv-loop n ar ai br₀ bi₀ k t lo hi i₀ br bi i = Ran (addComplexAt (parts ar ai) n k t) (λ (b : Parts). Long br₀ (b .re) × Long bi₀ (b .im)) lo hi i (parts br₀ bi₀) (parts br bi)
+
+abbrev μ-loop : tie.MeasureT-loop
+μ-loop n ar ai br₀ bi₀ k t lo hi i₀ br bi i = hi - i
+
+loop-holds : tie.Need-loop-holds Inv-loop μ-loop
+loop-holds c = begun (omega arith) (refl, refl) refl
+
+loop-again : tie.Need-loop-again Inv-loop μ-loop
+loop-again c = turned (c .before .before .before .before .before .before .before .before .loop .inv) (omega arith) (omega arith) (c .before .before .before .before .add-entry .ensures)
+
+returns : tie.Need-returns Inv-loop μ-loop
+returns c = ended (c .before .loop .inv) (c .loop-test .left)
+
+pub add-column-spec : {M : Type 1} → statement M
+add-column-spec =
+    tie.close
+    (tie.spec
+    Inv-loop
+    μ-loop
+    loop-holds (λ c κs. search needs) (λ c. omega arith) (λ c. omega arith)
+    loop-again (λ c. search needs) (λ c. search needs)
+    returns)

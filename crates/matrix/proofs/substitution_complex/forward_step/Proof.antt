@@ -1,0 +1,16 @@
+-- `forward_step` meets its contract.
+use native.Mathlib.Omega.{arith}
+use borrow.Author.Needs.{needs}
+use Rattle.matrix.specs.LinearComplex.{forwardComplex}
+use Rattle.matrix.proofs.substitution_complex.forward_step.Statement.{statement}
+use Rattle.matrix.proofs.substitution_complex.forward_step.Tie as tie
+
+returns : tie.Need-returns
+unfolding forwardComplex
+returns c = rw (c .before .before .before .before .add-column .ensures, c .before .before .before .before .before .before .before .before .before .before .before .exchange-complex .ensures, c .before .before .before .before .before .before .before .before .before .before .before .before .before .before .entry-complex .ensures)
+
+pub forward-step-spec : {M : Type 1} → statement M
+forward-step-spec =
+    tie.close
+    (tie.spec (λ c κs. search needs) (λ c κs. search needs) (λ c. omega arith) (λ c κs. search needs) (λ c. search needs) (λ c. search needs)
+    returns)
