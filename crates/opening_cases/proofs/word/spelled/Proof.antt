@@ -1,0 +1,58 @@
+-- `word::spelled` is safe and ends: `i` rises to the number of digits. Assumes nothing.
+use borrow.Author.Needs.{needs}
+use Prim.Native.Nat.{_-_}
+use Rattle.opening_cases.proofs.word.spelled.Statement.{statement}
+use Rattle.opening_cases.proofs.word.spelled.Tie as tie
+
+abbrev Inv-loop : tie.InvT-loop
+Inv-loop text value₀ i₀ value i = Unit {0}
+
+abbrev μ-loop : tie.MeasureT-loop
+μ-loop text value₀ i₀ value i = 16 - i
+
+loop-holds : tie.Need-loop-holds Inv-loop μ-loop
+loop-holds c = search needs
+
+element-copy-out-digit : tie.Need-element-copy-out-digit Inv-loop μ-loop
+element-copy-out-digit c = search needs
+
+digit-requires : tie.Need-digit-requires Inv-loop μ-loop
+digit-requires c κs = search needs
+
+returns : tie.Need-returns Inv-loop μ-loop
+returns c = search needs
+
+mul-value : tie.Need-mul-value Inv-loop μ-loop
+mul-value c = search needs
+
+add-value : tie.Need-add-value Inv-loop μ-loop
+add-value c = search needs
+
+add-i : tie.Need-add-i Inv-loop μ-loop
+add-i c = search needs
+
+loop-less : tie.Need-loop-less Inv-loop μ-loop
+loop-less c = search needs
+
+loop-again : tie.Need-loop-again Inv-loop μ-loop
+loop-again c = search needs
+
+returns-2 : tie.Need-returns-2 Inv-loop μ-loop
+returns-2 c = search needs
+
+pub spelled-spec : {M : Type 1} → statement M
+spelled-spec =
+    tie.close
+    (tie.spec
+    Inv-loop
+    μ-loop
+    loop-holds
+    element-copy-out-digit
+    digit-requires
+    returns
+    mul-value
+    add-value
+    add-i
+    loop-less
+    loop-again
+    returns-2)

@@ -1,0 +1,7 @@
+-- In order of reading.
+pub mod RowLaws
+pub mod PartLaws
+pub mod ToleranceLaws
+pub mod OpeningLaws
+pub mod AdmissionLaws
+pub mod OpeningTheorems

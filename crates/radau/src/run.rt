@@ -1,0 +1,109 @@
+// The state of a run. It goes in by value and comes back by value; vectors, matrices and pivots lie in lent memory.
+use crate::settings::Number;
+use crate::settings::Settings;
+
+// How a run ended (status.rs); the Rust's other two statuses never come.
+pub enum Status {
+    Success,
+    UserInterrupt,
+    NeedLargerNMax,
+    StepSizeTooSmall,
+    SingularMatrix,
+}
+
+// The request that is open, one stage for each.
+pub enum Stage {
+    FirstDerivative,
+    FirstReport,
+    // The derivative after a first report that modified the point.
+    FirstDerivativeAgain,
+    // The Jacobian that the host makes.
+    Jacobian,
+    // A derivative for the difference Jacobian: 0 at the point itself, c from 1 to n with amount c moved.
+    Column(usize),
+    // The three stages of a Newton round.
+    Newton1,
+    Newton2,
+    Newton3,
+    // The derivative that refines the first error estimate.
+    Refinement,
+    // The derivative at an accepted point.
+    Accepted,
+    Report,
+    // The derivative after a report that modified the point.
+    DerivativeAgain,
+    Ended(Status),
+}
+
+// Both tolerances are scalars, converted at opening, or lists in lent memory.
+pub enum Tolerances {
+    Scalars(f64, f64),
+    Lists,
+}
+
+// n amounts, of which the first nind1 have index 1, the next nind2 index 2 and the last nind3 index 3.
+pub struct Shape {
+    pub n: usize,
+    pub nind1: usize,
+    pub nind2: usize,
+    pub nind3: usize,
+}
+
+// What opening fixes for the whole run.
+pub struct Fixed {
+    pub tolerances: Tolerances,
+    pub newton_tol: f64,
+    pub xend: f64,
+    pub posneg: f64,
+    pub hmax: f64,
+    pub hmin: f64,
+}
+
+pub struct Counts {
+    pub ode: usize,
+    pub jac: usize,
+    pub lu: usize,
+    pub total: usize,
+    pub accepted: usize,
+    pub rejected: usize,
+}
+
+// The flags and counters of `solve`, apart from its floats: what an account of a run leans on.
+pub struct Control {
+    pub first: bool,
+    pub last: bool,
+    pub reject: bool,
+    pub call_jac: bool,
+    pub call_decomp: bool,
+    pub singular_count: usize,
+    pub newt_iter: usize,
+}
+
+// The floats of `solve` that live from one request to the next.
+pub struct Numbers {
+    pub x: f64,
+    pub xold: f64,
+    pub xph: f64,
+    pub h: f64,
+    pub hold: f64,
+    pub hnew: f64,
+    pub hhfac: f64,
+    pub h_acc: f64,
+    pub err_acc: f64,
+    pub faccon: f64,
+    pub theta: f64,
+    pub dynold: f64,
+    pub thqold: f64,
+    pub xout: Number,
+}
+
+pub struct Run {
+    // As given: refusal 13 tests them again.
+    pub settings: Settings,
+    pub shape: Shape,
+    pub fixed: Fixed,
+    pub counts: Counts,
+    pub control: Control,
+    pub numbers: Numbers,
+    pub stage: Stage,
+}
