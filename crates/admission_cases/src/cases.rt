@@ -1,9 +1,9 @@
 // The cases: an accepted run with one thing altered, and the reply that is handed with it. M is 100,000 and K is 7, so that the bounds of 01's counts are
 // 2 + 3 (K + 1) M = 2,400,002 for ode, 6 (M + 1) = 600,006 for jac, 13 M + 12 = 1,300,012 for lu, M for accepted and 2 M = 200,000 for rejected.
-use radau::run::Run;
-use radau::run::Stage;
-use radau::run::Status;
-use radau::talk::Reply;
+use state::run::Run;
+use state::run::Stage;
+use state::run::Status;
+use state::talk::Reply;
 
 fn with_stage(run: Run, stage: Stage) -> Run {
     let settings = run.settings;

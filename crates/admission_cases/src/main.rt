@@ -5,13 +5,13 @@ mod cases;
 use cases::reply_of;
 use cases::varied;
 use libc::STDOUT_FILENO;
-use radau::run::Run;
-use radau::run::Tolerances;
-use radau::settings::Settings;
-use radau::talk::Opened;
-use radau::talk::Refusal;
-use radau::talk::Reply;
-use radau::talk::Verdict;
+use state::run::Run;
+use state::run::Tolerances;
+use state::settings::Settings;
+use state::talk::Opened;
+use state::talk::Refusal;
+use state::talk::Reply;
+use state::talk::Verdict;
 
 const CASES: u8 = 50;
 
@@ -31,7 +31,7 @@ fn verdict(run: Run, reply: Reply, f0: &[f64], first: usize, last: usize) -> u64
     let four = [0.0; 4];
     let eight = [0.0; 8];
     let ip = [first, last];
-    let answer = radau::admission::admission(
+    let answer = opening::admission::admission(
         run,
         reply,
         &two,
@@ -87,7 +87,7 @@ fn opened() -> Opened {
     let mut y_perturbed = [0.0; 2];
     let mut f_perturbed = [0.0; 2];
     let mut f_origin = [0.0; 2];
-    radau::open(
+    opening::open(
         Settings::new(),
         2,
         0.0,

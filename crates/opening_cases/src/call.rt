@@ -19,7 +19,7 @@ use crate::memory::met_vector;
 use crate::memory::pivots;
 use crate::memory::vector;
 use crate::word::double;
-use radau::open;
+use opening::open;
 
 // Opens, and compares the answer.
 fn opened(

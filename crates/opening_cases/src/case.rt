@@ -5,13 +5,13 @@ use crate::word::double;
 use crate::word::quarter;
 use crate::word::read_word;
 use crate::word::read_words;
-use radau::run::Tolerances;
-use radau::settings::Mass;
-use radau::settings::Number;
-use radau::settings::Rule;
-use radau::settings::Settings;
-use radau::settings::Source;
-use radau::settings::Whole;
+use state::run::Tolerances;
+use state::settings::Mass;
+use state::settings::Number;
+use state::settings::Rule;
+use state::settings::Settings;
+use state::settings::Source;
+use state::settings::Whole;
 
 // The words of an opening.
 pub const OPENING: usize = 40;

@@ -1,0 +1,70 @@
+-- `admission` meets its contract.
+use mathlib.Core.Path.{_∙_}
+use borrow.Author.Needs.{needs}
+use borrow.Author.Tests.{not-true, not-false}
+use Rattle.state.specs.Memory.{Memory, memory, Amounts, amounts, Newton, newton, Given, given, Factors, factors, Differences, differences}
+use Rattle.opening.proofs.OpeningLaws.{in-order, fits-are, groups-of, factors-long}
+use Rattle.opening.proofs.AdmissionLaws.{unfit-order, unfit-length, fit-later}
+use Rattle.opening.proofs.admission.admission.Statement.{statement}
+use Rattle.opening.proofs.admission.admission.Tie as tie
+
+-- the memory, group by group
+abbrev amounts-at : (c : tie.Start) → Amounts
+amounts-at c = let a = c .args in amounts (a .y .now) (a .f0 .now) (a .scal .now) (a .cont .now)
+
+abbrev newton-at : (c : tie.Start) → Newton
+newton-at c = let a = c .args in newton (a .z1 .now) (a .z2 .now) (a .z3 .now) (a .f1 .now) (a .f2 .now) (a .f3 .now)
+
+abbrev given-at : (c : tie.Start) → Given
+given-at c = let a = c .args in given (a .rtol .now) (a .atol .now) (a .mass .now) (a .jac .now)
+
+abbrev factors-at : (c : tie.Start) → Factors
+factors-at c = let a = c .args in factors (a .e1 .now) (a .e2r .now) (a .e2i .now) (a .ip1 .now) (a .ip2 .now)
+
+abbrev differences-at : (c : tie.Start) → Differences
+differences-at c = let a = c .args in differences (a .y-perturbed .now) (a .f-perturbed .now) (a .f-origin .now)
+
+abbrev memory-at : (c : tie.Start) → Memory
+memory-at c = memory (amounts-at c) (newton-at c) (given-at c) (factors-at c) (differences-at c)
+
+returns : tie.Need-returns
+returns c = unfit-order (c .before .before .before .before .before .before .before .before .before .before .before .before .before .before .before .before .before .before .before .before .before .before .before .before .args .run) (c .before .before .before .before .before .before .before .before .before .before .before .before .before .before .before .before .before .before .before .before .before .before .before .before .args .reply) (memory-at (c .before .before .before .before .before .before .before .before .before .before .before .before .before .before .before .before .before .before .before .before .before .before .before .before)) (c .if1 .taken)
+
+amounts-fit-requires : tie.Need-amounts-fit-requires
+amounts-fit-requires c κs = in-order _ (c .if1 .left) .1
+
+given-fit-requires : tie.Need-given-fit-requires
+given-fit-requires c κs = in-order _ (c .before .before .if1 .left) .1
+
+factors-fit-requires : tie.Need-factors-fit-requires
+factors-fit-requires c κs = in-order _ (c .before .before .before .if1 .left) .1
+
+returns-2 : tie.Need-returns-2
+returns-2 c = let s = c .before .before .before .before .before .before .before .before .before .before .before .before .before .before .before .before .before .before .before .before .before .before .before .before .before .before .before .before .before .before in
+    unfit-length (s .args .run) (s .args .reply) (memory-at s) (c .before .before .before .before .before .before .if1 .left)
+    (fits-are _ (amounts-at s) (newton-at s) (given-at s) (factors-at s) (differences-at s) _ _ _ _ _ (c .before .before .before .before .before .amounts-fit .ensures) (c .before .before .before .before .newton-fit .ensures) (c .before .before .before .given-fit .ensures) (c .before .before .factors-fit .ensures) (c .before .differences-fit .ensures) ∙ not-true _ (c .if2 .taken))
+
+admit-requires : tie.Need-admit-requires
+admit-requires c κs = let s = c .before .before .before .before .before .before .before .before .before .before .before .before .before .before .before .before .before .before .before .before .before .before .before .before .before .before .before .before .before .before in
+    let g = groups-of _ (amounts-at s) (newton-at s) (given-at s) (factors-at s) (differences-at s)
+    (fits-are _ (amounts-at s) (newton-at s) (given-at s) (factors-at s) (differences-at s) _ _ _ _ _ (c .before .before .before .before .before .amounts-fit .ensures) (c .before .before .before .before .newton-fit .ensures) (c .before .before .before .given-fit .ensures) (c .before .before .factors-fit .ensures) (c .before .differences-fit .ensures) ∙ not-false _ (c .if2 .left)) in
+    let l = factors-long _ _ _ _ _ _ (g .factors-fit) in
+    (in-order _ (c .before .before .before .before .before .before .if1 .left), (l .3, l .4))
+
+returns-3 : tie.Need-returns-3
+returns-3 c = let s = c .before .before .before .before .before .before .before .before .before .before .before .before .before .before .before .before .before .before .before .before .before .before .before .before .before .before .before .before .before .before .before in
+    c .admit .ensures
+    ∙ fit-later (s .args .run) (s .args .reply) (memory-at s) (c .before .before .before .before .before .before .before .if1 .left)
+    (fits-are _ (amounts-at s) (newton-at s) (given-at s) (factors-at s) (differences-at s) _ _ _ _ _ (c .before .before .before .before .before .before .amounts-fit .ensures) (c .before .before .before .before .before .newton-fit .ensures) (c .before .before .before .before .given-fit .ensures) (c .before .before .before .factors-fit .ensures) (c .before .before .differences-fit .ensures) ∙ not-false _ (c .before .if2 .left))
+
+pub admission-spec : {M : Type 1} → statement M
+admission-spec =
+    tie.close
+    (tie.spec
+    returns
+    amounts-fit-requires (λ c κs. search needs)
+    given-fit-requires
+    factors-fit-requires (λ c κs. search needs)
+    returns-2
+    admit-requires
+    returns-3)

@@ -1,0 +1,15 @@
+-- `first_run` meets its contract.
+use borrow.Author.Needs.{needs}
+use Rattle.opening.specs.Opening.{firstRun}
+use Rattle.opening.proofs.first.first_run.Statement.{statement}
+use Rattle.opening.proofs.first.first_run.Tie as tie
+
+returns : tie.Need-returns
+unfolding firstRun
+returns c = rw (c .numbers .ensures, c .before .first-h .ensures, c .before .before .ceiling .ensures, c .before .before .before .signum .ensures, c .before .before .before .before .control .ensures, c .before .before .before .before .before .shape .ensures, c .before .before .before .before .before .before .fixed .ensures)
+
+pub first-run-spec : {M : Type 1} → statement M
+first-run-spec =
+    tie.close
+    (tie.spec (λ c κs. search needs) (λ c κs. search needs) (λ c κs. search needs) (λ c κs. search needs) (λ c κs. search needs) (λ c κs. search needs) (λ c κs. search needs)
+    returns)

@@ -1,0 +1,19 @@
+-- `is_not_finite` meets its contract: what lies between the two infinities is finite.
+use mathlib.Core.Path.{_≡_, refl}
+use mathlib.Core.Bool.{true, false, not, _&&_}
+use lib.Ieee.{Float, nan, inf, fin, lt, div, neg, ofBits}
+use Rattle.words.specs.Words.{double, _⊘_}
+use Rattle.opening.specs.Rows.{notFinite}
+use Rattle.opening.proofs.parts.is_not_finite.Statement.{statement}
+use Rattle.opening.proofs.parts.is_not_finite.Tie as tie
+
+-- 1.0
+between : (x : Float) → not (lt (neg (double 0x3ff0_0000_0000_0000) ⊘ double 0) x && lt x (double 0x3ff0_0000_0000_0000 ⊘ double 0)) ≡ notFinite x
+unfolding lt div neg ofBits
+between nan = refl
+between (inf true) = refl
+between (inf false) = refl
+between (fin s m e) = refl
+
+pub is-not-finite-spec : {M : Type 1} → statement M
+is-not-finite-spec = tie.close (tie.spec (λ c. between _))

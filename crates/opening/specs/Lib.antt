@@ -1,0 +1,5 @@
+-- In order of reading.
+pub mod Rows
+pub mod Tolerances
+pub mod Opening
+pub mod Admission

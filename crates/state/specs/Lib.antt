@@ -1,0 +1,5 @@
+-- In order of reading.
+pub mod Settings
+pub mod Numbers
+pub mod Memory
+pub mod Result
