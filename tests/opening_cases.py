@@ -37,6 +37,7 @@ Full; lists become what the pairs say; all else becomes +0."""
 
 import copy
 import math
+import pathlib
 import shutil
 import subprocess
 import sys
@@ -98,9 +99,9 @@ MOST_BYTES = 900_000
 
 
 def insist(fact, words):
-    """Stop where something that this script leans on does not hold."""
+    """Stop where something that the script leans on does not hold."""
     if not fact:
-        sys.exit(f"opening_cases: {words}")
+        sys.exit(f"{pathlib.Path(sys.argv[0]).stem}: {words}")
 
 
 # --- An opening ------------------------------------------------------------------------------
@@ -315,26 +316,31 @@ def float_word(value):
     return 0 if value is None else pattern_of(value)
 
 
-def words_of(o):
-    rows = rows_of(o)
-    row = min(rows, default=0)
-    choices = [getattr(o, name) is not None for name in OPTIONS] + [getattr(o, name) for name in SWITCHES]
-    part, place, pattern = o.exception or (None, 0xFFFF, 0)
+def head_words(o, further=()):
+    """The words of n, the ends and the settings. Further switches have the bits behind those of CHOICES."""
+    choices = [getattr(o, name) is not None for name in OPTIONS] + [getattr(o, name) for name in (*SWITCHES, *further)]
     words = [o.n, pattern_of(o.x0), pattern_of(o.xend), sum(1 << bit for bit, on in enumerate(choices) if on)]
     words += [o.max_steps, o.newton_maxiter, pattern_of(o.uround), pattern_of(o.safety_factor)]
     words += [pattern_of(o.scale_min), pattern_of(o.scale_max), float_word(o.max_step), float_word(o.min_step)]
     words += [float_word(o.newton_tol), float_word(o.first_step), pattern_of(o.rtol), pattern_of(o.atol)]
-    words += [o.nind1 or 0, o.nind2 or 0, o.nind3 or 0] + packed((row, *rows.get(row, NOTHING_TOLD)))
+    return words + [o.nind1 or 0, o.nind2 or 0, o.nind3 or 0]
+
+
+def words_of(o):
+    rows = rows_of(o)
+    row = min(rows, default=0)
+    part, place, pattern = o.exception or (None, 0xFFFF, 0)
+    words = head_words(o) + packed((row, *rows.get(row, NOTHING_TOLD)))
     insist(all(o.lengths[name] <= ROOM.get(name, 34) for name in NAMES), "a part is longer than the program has room for")
     words += packed(o.lengths[name] for name in NAMES)
     words += packed((NAMES.index(part) if part else 0xFFFF, place)) + [pattern]
     words += [word % 2**64 for rule in RULES for word in o.contents[rule]]
-    insist(all(0 <= word < 2**64 for word in words), "a word does not fit")
     return words + (Answer(o).words() if row == 0 else [])
 
 
-def text_of(o):
-    words = words_of(o)
+def text_of(words):
+    """Four words to a line."""
+    insist(all(0 <= word < 2**64 for word in words), "a word does not fit")
     lines = [words[place : place + 4] for place in range(0, len(words), 4)]
     return "".join(" ".join(f"{word:016x}" for word in line) + "\n" for line in lines)
 
@@ -608,13 +614,13 @@ def every_case():
     found = {}
     for make in makers:
         for o in make():
-            found.setdefault(text_of(o), o)
+            found.setdefault(text_of(words_of(o)), o)
     return found
 
 
 def summary(cases):
     """What the program writes where every answer is met."""
-    counts = {row: 0 for row in [*ROWS, 0]}
+    counts = {row: 0 for row in [0, *ROWS]}
     for o in cases.values():
         counts[min(rows_of(o), default=0)] += 1
     told = [f"{f'refused {row}' if row else 'accepted'}: {count} agree 0 differ\n" for row, count in counts.items()]

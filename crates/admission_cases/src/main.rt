@@ -1,149 +1,47 @@
-// Hands runs that are fit, unfit or ended, and replies of the right and of the wrong kind, to `admission`, and writes document 01's number of each verdict,
-// 0 where the advance is admitted. What is expected, in `stdout`, follows 01's list 'Unfit means one of' clause by clause, each at its boundary and past it.
-mod cases;
+// Hands forged states of runs, with replies of every kind, to `admission`, and compares each verdict with what the case says. It tells the first cases that do not
+// agree, and then gives a summary, a line for each kind of case. tests/admission_cases.py makes the cases from document 01's words.
+mod call;
+mod case;
 
-use cases::reply_of;
-use cases::varied;
-use libc::STDOUT_FILENO;
-use state::run::Run;
-use state::run::Tolerances;
-use state::settings::Settings;
-use state::talk::Opened;
-use state::talk::Refusal;
-use state::talk::Reply;
-use state::talk::Verdict;
+use call::number_told;
+use case::Case;
+use case::read_case;
+use replay::count::Counts;
+use replay::found::Found;
+use replay::told::counted;
+use replay::told::malformed;
+use replay::told::write_summary;
+use replay::word::Reading;
 
-const CASES: u8 = 50;
+// More cases than there are.
+const MOST_CASES: u64 = 20_000;
 
-// 01's number of a refusal that an advance can give, 99 for any other.
-fn number(refusal: Refusal) -> u64 {
-    match refusal {
-        Refusal::Unfit => 13,
-        Refusal::HasEnded => 14,
-        Refusal::WrongReply => 15,
-        _ => 99,
+// The counts after one case more.
+fn with_case(counts: Counts, names: &[u8], case: Case) -> Counts {
+    let found = Found::nothing().compared(number_told(case), case.wanted());
+    counted(counts, names, case.row(), found)
+}
+
+fn replayed(names: &[u8]) -> Counts {
+    let mut counts = Counts::none();
+    for _ in 0..MOST_CASES {
+        let case = read_case();
+        let reading = case.reading;
+        match reading {
+            Reading::End => return counts,
+            Reading::Malformed => return malformed(counts),
+            Reading::Good => counts = with_case(counts, names, case),
+        }
     }
+    counts
 }
 
-// The verdict on a run of two amounts, with this part f0 and these pivots.
-fn verdict(run: Run, reply: Reply, f0: &[f64], first: usize, last: usize) -> u64 {
-    let two = [0.0; 2];
-    let four = [0.0; 4];
-    let eight = [0.0; 8];
-    let ip = [first, last];
-    let answer = opening::admission::admission(
-        run,
-        reply,
-        &two,
-        f0,
-        &two,
-        &eight,
-        &two,
-        &two,
-        &two,
-        &two,
-        &two,
-        &two,
-        &two,
-        &two,
-        &four,
-        &four,
-        &four,
-        &four,
-        &four,
-        &ip,
-        &ip,
-        &two,
-        &two,
-        &two,
-    );
-    match answer {
-        Verdict::Passed => 0,
-        Verdict::Refused(refusal) => number(refusal),
-    }
-}
-
-// An accepted opening of two amounts from 0 to 1, which the cases start from.
-fn opened() -> Opened {
-    let y = [1.0; 2];
-    let mut f0 = [0.0; 2];
-    let mut scal = [0.0; 2];
-    let mut cont = [0.0; 8];
-    let mut z1 = [0.0; 2];
-    let mut z2 = [0.0; 2];
-    let mut z3 = [0.0; 2];
-    let mut f1 = [0.0; 2];
-    let mut f2 = [0.0; 2];
-    let mut f3 = [0.0; 2];
-    let mut rtol = [0.0; 2];
-    let mut atol = [0.0; 2];
-    let mut mass = [0.0; 4];
-    let mut jac = [0.0; 4];
-    let mut e1 = [0.0; 4];
-    let mut e2r = [0.0; 4];
-    let mut e2i = [0.0; 4];
-    let mut ip1 = [0usize; 2];
-    let mut ip2 = [0usize; 2];
-    let mut y_perturbed = [0.0; 2];
-    let mut f_perturbed = [0.0; 2];
-    let mut f_origin = [0.0; 2];
-    opening::open(
-        Settings::new(),
-        2,
-        0.0,
-        1.0,
-        Tolerances::Scalars(1e-6, 1e-6),
-        &y,
-        &mut f0,
-        &mut scal,
-        &mut cont,
-        &mut z1,
-        &mut z2,
-        &mut z3,
-        &mut f1,
-        &mut f2,
-        &mut f3,
-        &mut rtol,
-        &mut atol,
-        &mut mass,
-        &mut jac,
-        &mut e1,
-        &mut e2r,
-        &mut e2i,
-        &mut ip1,
-        &mut ip2,
-        &mut y_perturbed,
-        &mut f_perturbed,
-        &mut f_origin,
-    )
-}
-
-// One case: its number and the verdict's.
-fn write_case(case: u8, run: Run) {
-    let right = [0.0; 2];
-    let wrong = [0.0; 3];
-    let first = if case == 2 { 2 } else { 1 };
-    let last = if case == 3 { 9 } else { 1 };
-    let told = if case == 1 {
-        verdict(varied(case, run), reply_of(case), &wrong, first, last)
-    } else {
-        verdict(varied(case, run), reply_of(case), &right, first, last)
-    };
-    io::print_decimal(STDOUT_FILENO, case as u64);
-    io::write_all(STDOUT_FILENO, b" ");
-    io::print_decimal(STDOUT_FILENO, told);
-    io::write_all(STDOUT_FILENO, b"\n");
-}
-
+// The names of the rows, in the order of tests/admission_cases.py.
 fn main() {
-    match opened() {
-        Opened::Asked(run, _, _) => {
-            for case in 0..CASES {
-                write_case(case, run);
-            }
-        }
-        Opened::Refused(_) => {
-            io::write_all(STDOUT_FILENO, b"refused\n");
-        }
-    }
+    let names = b"n fit:\nn unfit:\nlengths unfit:\nsettings fit:\nsettings unfit:\n\
+        partition fit:\npartition unfit:\nattempts fit:\nattempts unfit:\n\
+        rounds fit:\nrounds unfit:\ncolumn fit:\ncolumn unfit:\nsingular count fit:\nsingular count unfit:\n\
+        pivots fit:\npivots unfit:\ncounts fit:\ncounts unfit:\ntwo clauses:\n13 before 14:\n13 before 15:\n\
+        ended 14:\nreplies admitted:\nreplies 15:\nuntested:\n";
+    write_summary(replayed(names), names);
 }

@@ -1,4 +1,6 @@
 -- Laws of counting loops whose turns do not disturb each other, for any state.
+--     none, more     a loop by its number of turns: no turn, and one more
+--     whole          what holds at every number of turns up to the loop's, at its end
 --     past           one more act, before the loop or after it
 --     through        what every turn keeps, the loop keeps
 --     split          a loop of two acts is two loops
@@ -15,16 +17,16 @@ use Rattle.words.proofs.Loops.{loop-none, loop-more, Any}
 -- ---- a loop by its number of turns
 
 module _ {A : Type 0} (f : ℕ → A → A) (lo : ℕ) (a : A) where
-  none : loop f lo (lo + 0) a ≡ a
+  pub none : loop f lo (lo + 0) a ≡ a
   none = let e : lo + 0 ≡ lo = omega arith in ap (λ (h : ℕ). loop f lo h a) e ∙ loop-none f lo a
 
-  more : (d : ℕ) → loop f lo (lo + suc d) a ≡ f (lo + d) (loop f lo (lo + d) a)
+  pub more : (d : ℕ) → loop f lo (lo + suc d) a ≡ f (lo + d) (loop f lo (lo + d) a)
   more d =
       let e : lo + suc d ≡ lo + d + 1 = omega arith in
       let l : lo ≤ lo + d = omega arith in
       ap (λ (h : ℕ). loop f lo h a) e ∙ loop-more f lo (lo + d) a l
 
-whole : (F : ℕ → Type 0) (lo hi : ℕ) → lo ≤ hi → ((d : ℕ) → lo + d ≤ hi → F (lo + d)) → F hi
+pub whole : (F : ℕ → Type 0) (lo hi : ℕ) → lo ≤ hi → ((d : ℕ) → lo + d ≤ hi → F (lo + d)) → F hi
 whole F lo hi l p =
     let e : lo + (hi - lo) ≡ hi = omega arith in
     let u : lo + (hi - lo) ≤ hi = omega arith in

@@ -8,3 +8,4 @@ pub mod Interchange
 pub mod Cells
 pub mod Rows
 pub mod Cases
+pub mod Backward

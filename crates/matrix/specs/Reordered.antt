@@ -1,10 +1,14 @@
--- Where this port's code goes another way than lu.rs, which no offered contract speaks of:
+-- Where this port's code goes another way than lu.rs and linear.rs, which no offered contract speaks of:
 --     a real update goes row by row, along contiguous memory, where lu.rs goes column by column (proofs/Rows.antt: the matrix is the same)
 --     a complex update is one loop that asks for the multiplier's case in each turn, where lu.rs has three loops (proofs/Cases.antt: the same)
-use Prim.Native.Nat.{ℕ, _+_}
+--     a real back phase goes row by row, where linear.rs goes column by column (proofs/Backward.antt: the right side is the same)
+use Prim.Native.Nat.{ℕ, _+_, _-_}
+use mathlib.Core.List.{List}
+use lib.ListN.{set}
 use lib.Ieee.{Float, neg, eq, ne}
-use Rattle.words.specs.Words.{_⊕_, _⊗_, double}
+use Rattle.words.specs.Words.{_⊕_, _⊗_, _⊘_, _!_, double}
 use Rattle.words.specs.Loop.{loop, pick}
+use Rattle.words.specs.Grid.{at}
 use Rattle.matrix.specs.declared.complex.Complex.{Complex}
 use Rattle.matrix.specs.Complex.{complex, Parts, atComplex, timesComplex}
 use Rattle.matrix.specs.Elimination.{Kind}
@@ -30,3 +34,11 @@ multipliedOf t x =
 
 unfoldable pub multipliedAt : ℕ → ℕ → ℕ → Complex → ℕ → Parts → Parts
 multipliedAt n k j t i a = addedComplex n i j a (multipliedOf t (atComplex a n i k))
+
+-- row n - ib of the back phase: the terms of linear.rs:88 in its order, the last entry's first, then linear.rs:84 or 93
+module _ (a : List Float) (n : ℕ) where
+  unfoldable pub sumAt : ℕ → List Float → ℕ → Float → Float
+  sumAt i b kb s = s ⊕ at a n i (n - kb) ⊗ neg (b ! (n - kb))
+
+  unfoldable pub rowSolvedAt : ℕ → List Float → List Float
+  rowSolvedAt ib b = set b (n - ib) (loop (sumAt (n - ib) b) 1 ib (b ! (n - ib)) ⊘ at a n (n - ib) (n - ib))

@@ -1,6 +1,6 @@
 // `lin_solve_complex` of linear.rs.
 use crate::answers::Solved;
-use crate::substitution::stray_pivot;
+use crate::stray::stray_pivot;
 use crate::substitution_complex::solve;
 ghost use mathlib.Core.Path.{_≡_};
 ghost use Rattle.matrix.specs.Answers.{solution};

@@ -1,4 +1,5 @@
-// The phases of `lin_solve`, loop by loop as linear.rs has them (58-93), on slices whose lengths and pivots were tested.
+// The phases of `lin_solve` (linear.rs:58-93), on slices whose lengths and pivots were tested. The forward phase goes loop by loop as in linear.rs, the back
+// phase along the rows, which lie in one piece; that leaves what linear.rs leaves (proofs/Backward.antt), the order 1 included.
 use crate::entry::at;
 ghost use mathlib.Core.Path.{_≡_};
 ghost use Prim.Native.Nat.{ℕ, _+_, _-_, _<_, _≤_};
@@ -6,21 +7,9 @@ ghost use lib.ListN.{length, getD, set};
 ghost use Rattle.words.specs.Words.{_!_};
 ghost use Rattle.words.specs.Loop.{loop};
 ghost use Rattle.words.specs.Grid.{Square};
-ghost use Rattle.matrix.specs.Substitution.{stray, exchanged, forwardAt, backAt, solved};
-ghost use Rattle.matrix.specs.Linear.{realSide, divided, addAt, forward, takeAt, back};
-
-// Whether one of the first n - 1 pivots is no row of an n by n matrix.
-pub fn stray_pivot(n: usize, ip: &[usize]) -> bool
-    requires { ⌜ (1 ≤ n) × (length (now ip) ≡ n) ⌝ }
-    ensures { λ r. ⌜ r ≡ stray n (now (ip .entry)) ⌝ }
-{
-    let mut found = false;
-    let nm1 = n - 1;
-    for k in 0..nm1 {
-        found = found | (n <= ip[k]);
-    }
-    found
-}
+ghost use Rattle.matrix.specs.Substitution.{exchanged, forwardAt, solved};
+ghost use Rattle.matrix.specs.Linear.{realSide, addAt, forward};
+ghost use Rattle.matrix.specs.Reordered.{rowSolvedAt};
 
 // Entries m and k change places.
 pub fn exchange(b: &mut [f64], m: usize, k: usize)
@@ -32,35 +21,32 @@ pub fn exchange(b: &mut [f64], m: usize, k: usize)
     b[k] = x;
 }
 
-// Entry k over the diagonal entry.
-pub fn divide(n: usize, a: &[f64], b: &mut [f64], k: usize)
-    requires { ⌜ Square n (now a) ⌝ }
-    requires { ⌜ (length (now b) ≡ n) × (k < n) ⌝ }
-    ensures { λ _. ⌜ now (b .exit) ≡ divided (now (a .entry)) n k (now (b .entry)) ⌝ }
-{
-    b[k] = b[k] / at(n, a, k, k);
-}
-
-// Below entry k, b gains b[k] times column k.
+// Below entry k, b gains b[k] times column k. No turn writes b[k], so it is read once.
 pub fn add_column(n: usize, a: &[f64], b: &mut [f64], k: usize)
     requires { ⌜ Square n (now a) ⌝ }
     requires { ⌜ (length (now b) ≡ n) × (k < n) ⌝ }
     ensures { λ _. ⌜ now (b .exit) ≡ loop (addAt (now (a .entry)) n k) (k + 1) n (now (b .entry)) ⌝ }
 {
+    let x = b[k];
     for i in k + 1..n {
-        b[i] = b[i] + at(n, a, i, k) * b[k];
+        b[i] = b[i] + at(n, a, i, k) * x;
     }
 }
 
-// Above entry k, b loses b[k] times column k.
-pub fn take_column(n: usize, a: &[f64], b: &mut [f64], k: usize)
+// Row n - ib of the back phase: its entry loses what the entries below it, solved by then, take from it, the last of them first, and is divided by
+// the diagonal entry.
+pub fn solve_row(n: usize, a: &[f64], b: &mut [f64], ib: usize)
     requires { ⌜ Square n (now a) ⌝ }
-    requires { ⌜ (length (now b) ≡ n) × (k < n) ⌝ }
-    ensures { λ _. ⌜ now (b .exit) ≡ back (now (a .entry)) n k (now (b .entry)) ⌝ }
+    requires { ⌜ (length (now b) ≡ n) × (1 ≤ ib) × (ib ≤ n) ⌝ }
+    ensures { λ _. ⌜ now (b .exit) ≡ rowSolvedAt (now (a .entry)) n ib (now (b .entry)) ⌝ }
 {
-    for i in 0..k {
-        b[i] = b[i] + at(n, a, i, k) * -b[k];
+    let i = n - ib;
+    let mut sum = b[i];
+    for kb in 1..ib {
+        let k = n - kb;
+        sum = sum + at(n, a, i, k) * -b[k];
     }
+    b[i] = sum / at(n, a, i, i);
 }
 
 // Step k of the forward phase, its pivot in row m.
@@ -88,13 +74,12 @@ pub fn forward_phase(n: usize, a: &[f64], b: &mut [f64], ip: &[usize])
 
 pub fn back_phase(n: usize, a: &[f64], b: &mut [f64])
     requires { ⌜ Square n (now a) ⌝ }
-    requires { ⌜ (length (now b) ≡ n) × (1 ≤ n) ⌝ }
-    ensures { λ _. ⌜ now (b .exit) ≡ loop (backAt realSide (now (a .entry)) n) 1 n (now (b .entry)) ⌝ }
+    requires { ⌜ length (now b) ≡ n ⌝ }
+    ensures { λ _. ⌜ now (b .exit) ≡ loop (rowSolvedAt (now (a .entry)) n) 1 (n + 1) (now (b .entry)) ⌝ }
 {
-    for kb in 1..n {
-        let k = n - kb;
-        divide(n, a, b, k);
-        take_column(n, a, b, k);
+    let past = n + 1;
+    for ib in 1..past {
+        solve_row(n, a, b, ib);
     }
 }
 
@@ -105,11 +90,6 @@ pub fn solve(n: usize, a: &[f64], b: &mut [f64], ip: &[usize])
     requires { ⌜ ((k : ℕ) → k < n - 1 → getD (now ip) k 0 < n) ⌝ }
     ensures { λ _. ⌜ now (b .exit) ≡ solved realSide (now (a .entry)) n (now (ip .entry)) (now (b .entry)) ⌝ }
 {
-    if n == 1 {
-        divide(n, a, b, 0);
-        return;
-    }
     forward_phase(n, a, b, ip);
     back_phase(n, a, b);
-    divide(n, a, b, 0);
 }

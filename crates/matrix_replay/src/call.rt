@@ -2,10 +2,10 @@
 // routine did its work.
 use crate::line::Case;
 use crate::memory::ROOM;
-use crate::memory::within;
 use dense::Interpolated;
 use matrix::Decomposed;
 use matrix::Solved;
+use replay::word::within;
 
 fn decomposed(answer: Decomposed) -> u64 {
     match answer {

@@ -1,6 +1,4 @@
 // The routines under test: which one a letter means, and the rows of the summary, a row for each routine and one for the refusals.
-ghost use Prim.Native.Nat.{_≤_};
-use libc::STDOUT_FILENO;
 
 pub const ROWS: usize = 7;
 
@@ -10,9 +8,7 @@ pub fn is_worked(wanted: u64) -> bool {
 }
 
 // The row of a case in the summary, or ROWS where the letter means no routine.
-pub fn row(letter: u8, wanted: u64) -> usize
-    ensures { λ r. ⌜ r ≤ 7 ⌝ }
-{
+pub fn row(letter: u8, wanted: u64) -> usize {
     let routine = row_of_routine(letter);
     if is_worked(wanted) {
         return routine;
@@ -20,9 +16,7 @@ pub fn row(letter: u8, wanted: u64) -> usize
     if routine < ROWS { 6 } else { ROWS }
 }
 
-fn row_of_routine(letter: u8) -> usize
-    ensures { λ r. ⌜ r ≤ 7 ⌝ }
-{
+fn row_of_routine(letter: u8) -> usize {
     match letter {
         b'd' => 0,
         b'D' => 1,
@@ -37,17 +31,4 @@ fn row_of_routine(letter: u8) -> usize
 // Whether the routine writes to the matrix and the pivots, and not to the right side.
 pub fn is_decomposition(letter: u8) -> bool {
     (letter == b'd') | (letter == b'D')
-}
-
-// Answers as write_all does.
-pub fn write_name(row: usize) -> bool {
-    match row {
-        0 => io::write_all(STDOUT_FILENO, b"lu_decomp"),
-        1 => io::write_all(STDOUT_FILENO, b"lu_decomp_complex"),
-        2 => io::write_all(STDOUT_FILENO, b"lin_solve"),
-        3 => io::write_all(STDOUT_FILENO, b"lin_solve_complex"),
-        4 => io::write_all(STDOUT_FILENO, b"interpolate"),
-        5 => io::write_all(STDOUT_FILENO, b"bounds"),
-        _ => io::write_all(STDOUT_FILENO, b"refusals"),
-    }
 }

@@ -2,25 +2,18 @@
 // the routine may write, bit by bit, with what the case says. It tells the first value of the first cases that do not agree, and
 // then gives a summary, a line for each routine and one for the refusals.
 mod call;
-mod count;
 mod kind;
 mod line;
 mod memory;
 
-ghost use Prim.Native.Nat.{_<_};
 use call::called;
-use count::Counts;
-use count::write_summary;
 use kind::ROWS;
 use kind::is_decomposition;
 use kind::is_worked;
 use kind::row;
-use kind::write_name;
-use libc::STDOUT_FILENO;
 use line::Case;
 use line::Head;
 use line::read_head;
-use memory::Found;
 use memory::ROOM;
 use memory::fill;
 use memory::fill_pivots;
@@ -28,13 +21,15 @@ use memory::keep;
 use memory::keep_pivots;
 use memory::meet;
 use memory::meet_pivots;
-use memory::within;
+use replay::count::Counts;
+use replay::found::Found;
+use replay::told::counted;
+use replay::told::malformed;
+use replay::told::write_summary;
+use replay::word::within;
 
 // More cases than there are.
 const MOST_CASES: u64 = 20_000;
-
-// How many of the cases that do not agree are told.
-const MOST_TOLD: u64 = 8;
 
 // The matrix and the pivots that the case gives.
 fn given_factors(case: Case, ar: &mut [f64], ai: &mut [f64], ip: &mut [usize]) -> bool {
@@ -114,50 +109,10 @@ fn refused(
     keep_pivots(ip, &ip_before, fourth)
 }
 
-fn malformed(counts: Counts) -> Counts {
-    if counts.missed < MOST_TOLD {
-        io::write_all(STDOUT_FILENO, b"malformed case ");
-        io::print_decimal(STDOUT_FILENO, counts.seen);
-        io::write_all(STDOUT_FILENO, b"\n");
-    }
-    counts.unread()
-}
-
-fn differing(counts: Counts, at: usize, found: Found) -> Counts
-    requires { ⌜ at < 7 ⌝ }
-{
-    if counts.missed < MOST_TOLD {
-        write_name(at);
-        io::write_all(STDOUT_FILENO, b" case ");
-        io::print_decimal(STDOUT_FILENO, counts.seen);
-        io::write_all(STDOUT_FILENO, b" value ");
-        io::print_decimal(STDOUT_FILENO, found.place);
-        io::write_all(STDOUT_FILENO, b" gave ");
-        io::print_hex(STDOUT_FILENO, found.gave, 16);
-        io::write_all(STDOUT_FILENO, b" wanted ");
-        io::print_hex(STDOUT_FILENO, found.wanted, 16);
-        io::write_all(STDOUT_FILENO, b"\n");
-    }
-    counts.differed(at)
-}
-
-fn counted(counts: Counts, case: Case, found: Found) -> Counts {
-    let at = row(case.letter, case.wanted);
-    if ROWS <= at {
-        return malformed(counts);
-    }
-    if found.malformed {
-        return malformed(counts);
-    }
-    if found.differ == 0 {
-        return counts.agreed(at);
-    }
-    differing(counts, at, found)
-}
-
 // The counts after one case more.
 fn judged(
     counts: Counts,
+    names: &[u8],
     case: Case,
     ar: &mut [f64; ROOM],
     ai: &mut [f64; ROOM],
@@ -175,13 +130,14 @@ fn judged(
     } else {
         refused(case, ar, ai, br, bi, ip)
     };
-    if good & side {
-        return counted(counts, case, found);
+    let at = row(case.letter, case.wanted);
+    if good & side & (at < ROWS) {
+        return counted(counts, names, at, found);
     }
     malformed(counts)
 }
 
-fn replayed() -> Counts {
+fn replayed(names: &[u8]) -> Counts {
     let mut counts = Counts::none();
     let mut ar = [0.0; ROOM];
     let mut ai = [0.0; ROOM];
@@ -194,13 +150,25 @@ fn replayed() -> Counts {
             Head::End => return counts,
             Head::Malformed => return malformed(counts),
             Head::Good(case) => {
-                counts = judged(counts, case, &mut ar, &mut ai, &mut br, &mut bi, &mut ip);
+                counts = judged(
+                    counts,
+                    names,
+                    case,
+                    &mut ar,
+                    &mut ai,
+                    &mut br,
+                    &mut bi,
+                    &mut ip,
+                );
             }
         }
     }
     counts
 }
 
+// The names of the rows, in the order of `row`.
 fn main() {
-    write_summary(replayed());
+    let names =
+        b"lu_decomp\nlu_decomp_complex\nlin_solve\nlin_solve_complex\ninterpolate\nbounds\nrefusals\n";
+    write_summary(replayed(names), names);
 }

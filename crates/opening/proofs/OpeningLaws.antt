@@ -128,15 +128,34 @@ groups-of n a z g f d h =
     let p = five _ _ _ _ _ h in
     record { amounts-fit = p .0; newton-fit = p .1; given-fit = p .2; factors-fit = p .3; differences-fit = p .4 }
 
--- the code's five tests are the one of the row
-pub fits-are : (n : ℕ) (a : Amounts) (z : Newton) (g : Given) (f : Factors) (d : Differences) (p q r s t : Bool)
+-- the code tests six vectors in two calls
+shift : (a q f1 f2 f3 : Bool) → (a && (q && f1 && f2 && f3)) ≡ (a && q && (f1 && f2 && f3))
+shift true true f1 f2 f3 = refl
+shift true false f1 f2 f3 = refl
+shift false q f1 f2 f3 = refl
+
+abbrev vectorsFit : ℕ → List Float → List Float → List Float → Bool
+vectorsFit n a b c = eqb (length a) n && eqb (length b) n && eqb (length c) n
+
+-- the code's six tests are the one of the row
+pub fits-are : (n : ℕ) (a : Amounts) (z : Newton) (g : Given) (f : Factors) (d : Differences) (p q u r s t : Bool)
     → p ≡ amountsFit n (length (a .y)) (length (a .f0)) (length (a .scal)) (length (a .cont))
-    → q ≡ newtonFit n (length (z .z1)) (length (z .z2)) (length (z .z3)) (length (z .f1)) (length (z .f2)) (length (z .f3))
+    → q ≡ vectorsFit n (z .z1) (z .z2) (z .z3)
+    → u ≡ vectorsFit n (z .f1) (z .f2) (z .f3)
     → r ≡ givenFit n (length (g .rtol)) (length (g .atol)) (length (g .mass)) (length (g .jac))
     → s ≡ factorsFit n (length (f .e1)) (length (f .e2r)) (length (f .e2i)) (length (f .ip1)) (length (f .ip2))
-    → t ≡ differencesFit n (length (d .«y_perturbed»)) (length (d .«f_perturbed»)) (length (d .«f_origin»))
-    → lengthsFit n (memory a z g f d) ≡ (p && q && r && s && t)
-fits-are n a z g f d p q r s t h i j k l = rw (h, i, j, k, l)
+    → t ≡ vectorsFit n (d .«y_perturbed») (d .«f_perturbed») (d .«f_origin»)
+    → lengthsFit n (memory a z g f d) ≡ (p && q && u && r && s && t)
+unfolding newtonFit differencesFit
+fits-are n a z g f d p q u r s t h i v j k l =
+    rw (h, i, v, j, k, l)
+    (ap (λ (b : Bool).
+    b
+    && givenFit n (length (g .rtol)) (length (g .atol)) (length (g .mass)) (length (g .jac))
+    && factorsFit n (length (f .e1)) (length (f .e2r)) (length (f .e2i)) (length (f .ip1)) (length (f .ip2))
+    && vectorsFit n (d .«y_perturbed») (d .«f_perturbed») (d .«f_origin»))
+    (shift (amountsFit n (length (a .y)) (length (a .f0)) (length (a .scal)) (length (a .cont))) (vectorsFit n (z .z1) (z .z2) (z .z3))
+    (eqb (length (z .f1)) n) (eqb (length (z .f2)) n) (eqb (length (z .f3)) n)))
 
 neither : (a b : Bool) → (a || b) ≡ false → (a ≡ false) × (b ≡ false)
 neither true b e = absurd (true≢false e)

@@ -34,10 +34,12 @@ use Rattle.opening.specs.Rows.{Opening, openingRows, verdictOf, ceilingO
 
 -- ---- the partition (radau.rs:214-248): a count left out is 0, but nind1 is what the others leave
 
+-- with none given n - 0 - 0 is n [radau.rs:235-237] [alike radau.rs:221-225]
 unfoldable pub nind1Of : ℕ → Whole → ℕ → ℕ → ℕ
 nind1Of n whole.Absent two three = n - two - three
 nind1Of n (whole.Given one) two three = one
 
+-- [radau.rs:212-219]
 unfoldable pub shapeOf : ℕ → Settings → Shape
 shapeOf n s =
     let two = orNone (s .nind2) in
@@ -46,16 +48,18 @@ shapeOf n s =
 
 -- ---- the first step (radau.rs:250-264)
 
--- |first_step|, else 1e-6, with the direction's sign
+-- |first_step|, else 1e-6, with the direction's sign [radau.rs:252-257]
 unfoldable pub wishedStep : Number → Float → Float
 wishedStep (number.Given h0) posneg = absOf h0 ⊗ posneg
 wishedStep number.Absent posneg = double 0x3eb0_c6f7_a0b5_ed8d ⊗ posneg
 
+-- [radau.rs:264]
 unfoldable pub firstStepOf : Settings → Float → Float → Float
 firstStepOf s posneg hmax = clampOf (wishedStep (s .«first_step») posneg) (neg hmax) hmax
 
 -- ---- the run before its first request (radau.rs:287-330)
 
+-- its own line is the direction [radau.rs:250-251]
 unfoldable pub fixedOf : Settings → Float → Float → Conversion → Fixed
 fixedOf s x0 xend c =
     record {
@@ -67,10 +71,11 @@ fixedOf s x0 xend c =
       hmin = floorOf s;
     }
 
--- the first derivative is counted with its request
+-- the first derivative is counted with its request (radau.rs:332) [radau.rs:287-289]
 abbrev pub firstCounts : Counts
 firstCounts = record { ode = 1; jac = 0; lu = 0; total = 0; accepted = 0; rejected = 0 }
 
+-- the flags [radau.rs:323-326], with what was set before them (radau.rs:293, 299-300); rounds are counted anew in each attempt (radau.rs:482)
 abbrev pub firstControl : Control
 firstControl = record { first = true; last = false; reject = false; «call_jac» = true; «call_decomp» = true; «singular_count» = 0; «newt_iter» = 0 }
 
@@ -79,21 +84,27 @@ abbrev pub firstNumbers : Float → Float → Numbers
 firstNumbers x h =
     record {
       x = x;
+      -- [radau.rs:318-321]
       xold = x;
       xph = double 0;
       h = h;
+      -- [radau.rs:295-302]
       hold = h;
       hnew = double 0;
       hhfac = h;
       «h_acc» = double 0;
       «err_acc» = double 0;
+      -- [radau.rs:310-312]
       faccon = double 0x3ff0_0000_0000_0000;
       theta = double 0;
+      -- [radau.rs:314-316]
       dynold = double 0;
       thqold = double 0;
+      -- [radau.rs:334-335]
       xout = number.Absent;
     }
 
+-- [radau.rs:291-293]
 unfoldable pub firstRun : Settings → ℕ → Float → Float → Conversion → Run
 firstRun s n x0 xend c =
     record {
@@ -118,10 +129,12 @@ pub record Working : Type 0 where
 abbrev pub working : List Float → List Float → List Float → List Float → Working
 working f0 scal cont jac = record { f0 = f0; scal = scal; cont = cont; jac = jac }
 
+-- the host is not asked: it gave its mass at opening [radau.rs:360-361]
 unfoldable pub massKept : Mass → ℕ → List Float → List Float
 massKept mass.Identity size m = zeros size
 massKept mass.Full size m = m
 
+-- [radau.rs:268-285]
 unfoldable pub clearedOf : Mass → ℕ → Converted → Memory → Memory
 clearedOf s n c m =
     memory
@@ -140,6 +153,7 @@ pub record Outcome : Type 0 where
 abbrev pub outcome : Opened → Memory → Outcome
 outcome answer memory = record { answer = answer; memory = memory }
 
+-- the first derivative is asked [radau.rs:330-332]
 unfoldable pub acceptedOf : Opening → Outcome
 acceptedOf o =
     let c = convertedOf (o .settings .rule) (o .n) (o .tolerances) (o .memory .given .rtol) (o .memory .given .atol) in

@@ -125,12 +125,15 @@ numberRows s =
 
 abbrev pub rangeRows : Settings → List Test
 rangeRows s =
+    -- [radau.rs:136-143]
     test (outside 1 1_000_000 (s .«max_steps»)) refusal.MaxSteps
-    -- 1e-35, 1.0
+    -- 1e-35, 1.0 [radau.rs:144-153]
     ∷ test (le (s .uround) (double 0x38aa_95a5_b7f8_7a0f) || le (double 0x3ff0_0000_0000_0000) (s .uround)) refusal.Uround
-    -- 1e-4, 1.0
+    -- 1e-4, 1.0 [radau.rs:154-163]
     ∷ test (le (s .«safety_factor») (double 0x3f1a_36e2_eb1c_432d) || le (double 0x3ff0_0000_0000_0000) (s .«safety_factor»)) refusal.SafetyFactor
+    -- [radau.rs:169-174]
     ∷ test (le (s .«scale_min») (double 0) || not (lt (s .«scale_min») (s .«scale_max»))) refusal.Scales
+    -- [radau.rs:180-187]
     ∷ test (outside 1 16 (s .«newton_maxiter»)) refusal.NewtonMaxiter
     ∷ []
 
@@ -150,11 +153,14 @@ toleranceRows rtol atol =
 
 -- ---- rows 10 to 12
 
--- sums are exact: whole numbers without overflow (radau.rs:211-248)
+-- sums are exact: whole numbers without overflow
 unfoldable pub partitionFails : ℕ → Whole → Whole → Whole → Bool
+-- [radau.rs:226-234]
 partitionFails n whole.Absent two three = ltb n (orNone two + orNone three)
+-- [radau.rs:238-248]
 partitionFails n (whole.Given one) two three = not (eqb (one + orNone two + orNone three) n)
 
+-- h is 0 only where first_step is: 1e-6 isn't, and the direction is 1 or -1 [radau.rs:258-263]
 unfoldable pub givenZero : Number → Bool
 givenZero number.Absent = false
 givenZero (number.Given v) = eq v (double 0)
@@ -163,10 +169,11 @@ unfoldable pub givenBelow : Number → Bool
 givenBelow number.Absent = false
 givenBelow (number.Given v) = lt v (double 0)
 
--- the step ceiling, and the smallest step (radau.rs:177-178)
+-- the step ceiling [radau.rs:176-177]
 abbrev pub ceilingOf : Settings → Float → Float → Float
 ceilingOf s x0 xend = orElse (s .«max_step») (absOf (xend ⊖ x0))
 
+-- the smallest step [radau.rs:178]
 abbrev pub floorOf : Settings → Float
 floorOf s = orElse (s .«min_step») (double 0)
 

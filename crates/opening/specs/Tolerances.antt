@@ -21,7 +21,7 @@ use Rattle.state.specs.Memory.{zeros}
 abbrev pub pair : Float → Float → Pair
 pair rtol atol = record { rtol = rtol; atol = atol }
 
--- one turn on one pair: the quotient is kept, and rtol becomes 0.1 * rtol^(2/3) (radau.rs:195-197)
+-- one turn on one pair: the quotient is kept, and rtol becomes 0.1 * rtol^(2/3) [radau.rs:195-198]
 unfoldable pub turnAt : ℕ → Pair → Pair
 turnAt i p =
     let rtol = double 0x3fb9_9999_9999_999a ⊗ twoThirdsOf (p .rtol) in
@@ -57,6 +57,7 @@ converted conversion rtols atols = record { conversion = conversion; rtols = rto
 abbrev pub conversion : Tolerances → Float → Conversion
 conversion tolerances tolst = record { tolerances = tolerances; tolst = tolst }
 
+-- [radau.rs:189-194]
 unfoldable pub convertedOf : Rule → ℕ → Tolerances → List Float → List Float → Converted
 convertedOf r n (Scalars rtol atol) rtols atols =
     let p = loop turnAt 0 (scalarTurns r n) (pair rtol atol) in
@@ -65,7 +66,7 @@ convertedOf r n Lists rtols atols =
     let c = loop listTurnAt 0 n (columns rtols atols) in
     converted (conversion Lists (c .rtols ! 0)) (c .rtols) (c .atols)
 
--- radau.rs:201-207: 10.0 * uround / tolst, against 0.03 and the root
+-- 10.0 * uround / tolst, against 0.03 and the root [radau.rs:200-207]
 unfoldable pub newtonTolOf : Number → Float → Float → Float
 newtonTolOf (number.Given v) uround tolst = v
 newtonTolOf number.Absent uround tolst =

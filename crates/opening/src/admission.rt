@@ -1,12 +1,11 @@
 // The tests that stand before an advance: 13 for an unfit state, 14 for a run that has ended, 15 for a reply of another kind than was asked for.
 use crate::checks::amounts_fit;
 use crate::checks::check_ranges;
-use crate::checks::differences_fit;
 use crate::checks::factors_fit;
 use crate::checks::given_fit;
-use crate::checks::newton_fit;
 use crate::checks::next;
 use crate::checks::sum_differs;
+use crate::checks::vectors_fit;
 use crate::checks::with_test;
 use state::run::Run;
 use state::run::Stage;
@@ -205,18 +204,11 @@ pub fn admission(
         return Verdict::Refused(Refusal::Unfit);
     }
     let fit = amounts_fit(n, y.len(), f0.len(), scal.len(), cont.len())
-        & newton_fit(
-            n,
-            z1.len(),
-            z2.len(),
-            z3.len(),
-            f1.len(),
-            f2.len(),
-            f3.len(),
-        )
+        & vectors_fit(n, z1.len(), z2.len(), z3.len())
+        & vectors_fit(n, f1.len(), f2.len(), f3.len())
         & given_fit(n, rtol.len(), atol.len(), mass.len(), jac.len())
         & factors_fit(n, e1.len(), e2r.len(), e2i.len(), ip1.len(), ip2.len())
-        & differences_fit(n, y_perturbed.len(), f_perturbed.len(), f_origin.len());
+        & vectors_fit(n, y_perturbed.len(), f_perturbed.len(), f_origin.len());
     if !fit {
         return Verdict::Refused(Refusal::Unfit);
     }

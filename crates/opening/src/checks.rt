@@ -13,11 +13,11 @@ use state::talk::Refusal;
 use state::talk::Value;
 use state::talk::Verdict;
 ghost use mathlib.Core.Path.{_≡_};
-ghost use mathlib.Core.Bool.{not};
+ghost use mathlib.Core.Bool.{not, _&&_};
 ghost use mathlib.Core.List.{List, [], _∷_, _++_};
 ghost use Prim.Native.Nat.{_+_, _≤_};
 ghost use lib.Dec.{eqb};
-ghost use Rattle.state.specs.Memory.{amountsFit, newtonFit, givenFit, factorsFit, differencesFit};
+ghost use Rattle.state.specs.Memory.{amountsFit, givenFit, factorsFit};
 ghost use Rattle.opening.specs.Rows.{Test, test, verdictOf, badNumber, endRows, listRows, numberRows, rangeRows, toleranceRows, partitionFails, givenZero, givenBelow, stepRows, valueRows, nextOf};
 
 // Row 2: the lengths of each group of parts.
@@ -29,18 +29,11 @@ pub fn amounts_fit(n: usize, y: usize, f0: usize, scal: usize, cont: usize) -> b
     (y == n) & (f0 == n) & (scal == n) & (cont == wide)
 }
 
-pub fn newton_fit(
-    n: usize,
-    z1: usize,
-    z2: usize,
-    z3: usize,
-    f1: usize,
-    f2: usize,
-    f3: usize,
-) -> bool
-    ensures { λ r. ⌜ r ≡ newtonFit n z1 z2 z3 f1 f2 f3 ⌝ }
+// Three parts of n entries: z1 to z3, f1 to f3, and those of the differences.
+pub fn vectors_fit(n: usize, a: usize, b: usize, c: usize) -> bool
+    ensures { λ r. ⌜ r ≡ (eqb a n && eqb b n && eqb c n) ⌝ }
 {
-    (z1 == n) & (z2 == n) & (z3 == n) & (f1 == n) & (f2 == n) & (f3 == n)
+    (a == n) & (b == n) & (c == n)
 }
 
 pub fn given_fit(n: usize, rtol: usize, atol: usize, mass: usize, jac: usize) -> bool
@@ -57,12 +50,6 @@ pub fn factors_fit(n: usize, e1: usize, e2r: usize, e2i: usize, ip1: usize, ip2:
 {
     let square = n * n;
     (e1 == square) & (e2r == square) & (e2i == square) & (ip1 == n) & (ip2 == n)
-}
-
-pub fn differences_fit(n: usize, y_perturbed: usize, f_perturbed: usize, f_origin: usize) -> bool
-    ensures { λ r. ⌜ r ≡ differencesFit n «y_perturbed» «f_perturbed» «f_origin» ⌝ }
-{
-    (y_perturbed == n) & (f_perturbed == n) & (f_origin == n)
 }
 
 // The verdict of the tests so far and one more.

@@ -1,6 +1,6 @@
 // Setting what was not given to +0, group by group of the lent memory.
-use crate::parts::zero;
-use crate::parts::zero_pivots;
+use state::parts::zero;
+use state::parts::zero_pivots;
 ghost use mathlib.Core.Path.{_≡_};
 ghost use lib.ListN.{length};
 ghost use Rattle.state.specs.Memory.{newton, factors, differences, zeros, noughts};

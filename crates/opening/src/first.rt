@@ -2,12 +2,12 @@
 use crate::absent::ceiling;
 use crate::absent::floor;
 use crate::absent::or_none;
-use crate::parts::zero;
 use crate::tolerances::Conversion;
 use crate::tolerances::newton_tolerance;
 use scalar::abs;
 use scalar::clamp;
 use scalar::signum;
+use state::parts::zero;
 use state::run::Control;
 use state::run::Counts;
 use state::run::Fixed;

@@ -1,10 +1,9 @@
 // Opening a run: the tests of document 01's table, then the run before its first request.
 use crate::checks::amounts_fit;
 use crate::checks::check_values;
-use crate::checks::differences_fit;
 use crate::checks::factors_fit;
 use crate::checks::given_fit;
-use crate::checks::newton_fit;
+use crate::checks::vectors_fit;
 use crate::clear::clear_differences;
 use crate::clear::clear_factors;
 use crate::clear::clear_newton;
@@ -110,18 +109,11 @@ pub fn open(
         return Opened::Refused(Refusal::Order);
     }
     let fit = amounts_fit(n, y.len(), f0.len(), scal.len(), cont.len())
-        & newton_fit(
-            n,
-            z1.len(),
-            z2.len(),
-            z3.len(),
-            f1.len(),
-            f2.len(),
-            f3.len(),
-        )
+        & vectors_fit(n, z1.len(), z2.len(), z3.len())
+        & vectors_fit(n, f1.len(), f2.len(), f3.len())
         & given_fit(n, rtol.len(), atol.len(), mass.len(), jac.len())
         & factors_fit(n, e1.len(), e2r.len(), e2i.len(), ip1.len(), ip2.len())
-        & differences_fit(n, y_perturbed.len(), f_perturbed.len(), f_origin.len());
+        & vectors_fit(n, y_perturbed.len(), f_perturbed.len(), f_origin.len());
     if !fit {
         return Opened::Refused(Refusal::Length);
     }

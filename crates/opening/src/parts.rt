@@ -1,29 +1,6 @@
-// Loops over one part of lent memory that opening needs.
+// Searches through one part of lent memory that opening needs.
 ghost use mathlib.Core.Path.{_≡_};
-ghost use lib.ListN.{length};
-ghost use Rattle.state.specs.Memory.{zeros, noughts};
 ghost use Rattle.opening.specs.Rows.{notFinite, notAbove, below, placeOf};
-
-// Sets every entry to +0.
-pub fn zero(part: &mut [f64])
-    ensures { λ _. ⌜ now (part .exit) ≡ zeros (length (now (part .entry))) ⌝ }
-{
-    let mut i = 0;
-    while i < part.len() {
-        part[i] = 0.0;
-        i += 1;
-    }
-}
-
-pub fn zero_pivots(part: &mut [usize])
-    ensures { λ _. ⌜ now (part .exit) ≡ noughts (length (now (part .entry))) ⌝ }
-{
-    let mut i = 0;
-    while i < part.len() {
-        part[i] = 0;
-        i += 1;
-    }
-}
 
 // Whether x is a NaN or an infinity.
 pub fn is_not_finite(x: f64) -> bool

@@ -1,9 +1,9 @@
 // The conversion of tolerances at opening (radau.rs:189-207).
-use crate::parts::zero;
 use scalar::max;
 use scalar::min;
 use scalar::sqrt;
 use scalar::two_thirds;
+use state::parts::zero;
 use state::run::Tolerances;
 use state::settings::Number;
 use state::settings::Rule;

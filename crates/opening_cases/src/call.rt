@@ -2,9 +2,6 @@
 // parts that it was lent and its own, cut to their lengths, and then holds its own arrays against what is wanted.
 use crate::answer::met_answer;
 use crate::case::Case;
-use crate::case::X0;
-use crate::case::XEND;
-use crate::found::Found;
 use crate::memory::COEFFICIENTS;
 use crate::memory::MATRIX;
 use crate::memory::VECTOR;
@@ -18,8 +15,11 @@ use crate::memory::met_tolerances;
 use crate::memory::met_vector;
 use crate::memory::pivots;
 use crate::memory::vector;
-use crate::word::double;
 use opening::open;
+use replay::found::Found;
+use replay::settings::X0;
+use replay::settings::XEND;
+use replay::word::double;
 
 // Opens, and compares the answer.
 fn opened(

@@ -4,13 +4,13 @@ use crate::case::CONTENTS;
 use crate::case::Case;
 use crate::case::EXCEPTION;
 use crate::case::LENGTHS;
-use crate::case::LISTS;
-use crate::case::MASS_FULL;
-use crate::found::Found;
-use crate::word::double;
-use crate::word::pattern;
-use crate::word::quarter;
-use crate::word::within;
+use replay::found::Found;
+use replay::settings::LISTS;
+use replay::settings::MASS_FULL;
+use replay::word::double;
+use replay::word::pattern;
+use replay::word::quarter;
+use replay::word::within;
 use std::num::wrapping_add_u64;
 
 // The entries of an array that holds n amounts, 4 n coefficients or n n entries of a matrix, for n up to 33 and one more.

@@ -1,18 +1,17 @@
 // Replays the vectors of standard input: calls each line's routine at the line's operands, and compares
 // the result, bit by bit, with the line's answer. It writes the first lines that do not agree, each with
 // what the routine gave, and then a summary, a line for each routine.
-mod count;
 mod line;
 mod routine;
 
-ghost use Prim.Native.Nat.{_<_};
-use count::Counts;
-use count::write_summary;
 use libc::STDIN_FILENO;
 use libc::STDOUT_FILENO;
 use line::Decoded;
 use line::decode;
-use line::pattern;
+use replay::count::Counts;
+use replay::told::MOST_TOLD;
+use replay::told::write_summary;
+use replay::word::pattern;
 use routine::ROUTINES;
 use routine::result;
 use routine::row;
@@ -20,11 +19,8 @@ use routine::row;
 // More lines than the vectors have.
 const MOST_LINES: u64 = 20_000;
 
-// How many of the lines that do not agree are written.
-const MOST_SHOWN: u64 = 8;
-
 fn malformed(counts: Counts, text: &[u8; 73]) -> Counts {
-    if counts.missed < MOST_SHOWN {
+    if counts.missed < MOST_TOLD {
         io::write_all(STDOUT_FILENO, b"malformed ");
         io::write_all(STDOUT_FILENO, text);
         io::write_all(STDOUT_FILENO, b"\n");
@@ -32,10 +28,8 @@ fn malformed(counts: Counts, text: &[u8; 73]) -> Counts {
     counts.unread()
 }
 
-fn differing(counts: Counts, text: &[u8; 73], at: usize, gave: u64) -> Counts
-    requires { ⌜ at < 13 ⌝ }
-{
-    if counts.missed < MOST_SHOWN {
+fn differing(counts: Counts, text: &[u8; 73], at: usize, gave: u64) -> Counts {
+    if counts.missed < MOST_TOLD {
         io::write_all(STDOUT_FILENO, b"gave ");
         io::print_hex(STDOUT_FILENO, gave, 16);
         io::write_all(STDOUT_FILENO, b" at ");
@@ -72,6 +66,9 @@ fn replayed() -> Counts {
     counts
 }
 
+// The names of the rows, in the order of `row`.
 fn main() {
-    write_summary(replayed());
+    let names =
+        b"sqrt\nroot\ninverse_root\npower\ntwo_thirds\nfour_fifths\nquarter\nabs\nmax\nmin\nclamp\nsignum\ncoefficient\n";
+    write_summary(replayed(), names);
 }

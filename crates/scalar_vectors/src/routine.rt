@@ -1,14 +1,10 @@
-// The routines under test: which one a letter means, what it gives, and its name in the summary.
-ghost use Prim.Native.Nat.{_≤_};
+// The routines under test: which one a letter means, and what it gives.
 use crate::line::Vector;
-use libc::STDOUT_FILENO;
 
 pub const ROUTINES: usize = 13;
 
 // The routine's row in the summary, or ROUTINES where the letter means none.
-pub fn row(letter: u8) -> usize
-    ensures { λ r. ⌜ r ≤ 13 ⌝ }
-{
+pub fn row(letter: u8) -> usize {
     match letter {
         b's' => 0,
         b'r' => 1,
@@ -57,24 +53,5 @@ pub fn result(vector: Vector) -> f64 {
         b'g' => scalar::signum(a),
         b'k' => coefficient(digits),
         _ => 0.0 / 0.0,
-    }
-}
-
-// Answers as write_all does.
-pub fn write_name(row: usize) -> bool {
-    match row {
-        0 => io::write_all(STDOUT_FILENO, b"sqrt"),
-        1 => io::write_all(STDOUT_FILENO, b"root"),
-        2 => io::write_all(STDOUT_FILENO, b"inverse_root"),
-        3 => io::write_all(STDOUT_FILENO, b"power"),
-        4 => io::write_all(STDOUT_FILENO, b"two_thirds"),
-        5 => io::write_all(STDOUT_FILENO, b"four_fifths"),
-        6 => io::write_all(STDOUT_FILENO, b"quarter"),
-        7 => io::write_all(STDOUT_FILENO, b"abs"),
-        8 => io::write_all(STDOUT_FILENO, b"max"),
-        9 => io::write_all(STDOUT_FILENO, b"min"),
-        10 => io::write_all(STDOUT_FILENO, b"clamp"),
-        11 => io::write_all(STDOUT_FILENO, b"signum"),
-        _ => io::write_all(STDOUT_FILENO, b"coefficient"),
     }
 }

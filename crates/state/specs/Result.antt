@@ -1,10 +1,11 @@
--- The result, which only an ended run gives: h, the point reached, the status and the six counts (radau.rs:798, with the point beside it).
+-- The result, which only an ended run gives: h, the point reached, the status and the six counts.
 use Rattle.state.specs.declared.run.Run.{Run}
 use Rattle.state.specs.declared.run.Stage.{Stage}
 use Rattle.state.specs.declared.run.Stage.the-variants as stage
 use Rattle.state.specs.declared.talk.Result.{Result}
 use Rattle.state.specs.declared.talk.Result.the-variants as result
 
+-- the Rust's result, with the point beside it [radau.rs:798]
 unfoldable pub resultAt : Run → Stage → Result
 resultAt r stage.FirstDerivative = result.NotEnded
 resultAt r stage.FirstReport = result.NotEnded

@@ -5,10 +5,10 @@ use Rattle.matrix_replay.proofs.replayed.Statement.{statement}
 use Rattle.matrix_replay.proofs.replayed.Tie as tie
 
 abbrev Inv-loop : tie.InvT-loop
-Inv-loop counts₀ ar₀ ai₀ br₀ bi₀ ip₀ counter₀ counts ar ai br bi ip counter = Unit {0}
+Inv-loop names counts₀ ar₀ ai₀ br₀ bi₀ ip₀ counter₀ counts ar ai br bi ip counter = Unit {0}
 
 abbrev μ-loop : tie.MeasureT-loop
-μ-loop counts₀ ar₀ ai₀ br₀ bi₀ ip₀ counter₀ counts ar ai br bi ip counter = 20000 - counter
+μ-loop names counts₀ ar₀ ai₀ br₀ bi₀ ip₀ counter₀ counts ar ai br bi ip counter = 20000 - counter
 
 none-requires : tie.Need-none-requires Inv-loop μ-loop
 none-requires c κs = search needs

@@ -5,70 +5,14 @@ use Rattle.opening_cases.proofs.replayed.Statement.{statement}
 use Rattle.opening_cases.proofs.replayed.Tie as tie
 
 abbrev Inv-loop : tie.InvT-loop
-Inv-loop counts₀ counter₀ counts counter = Unit {0}
+Inv-loop names counts₀ counter₀ counts counter = Unit {0}
 
 abbrev μ-loop : tie.MeasureT-loop
-μ-loop counts₀ counter₀ counts counter = 20000 - counter
-
-none-requires : tie.Need-none-requires Inv-loop μ-loop
-none-requires c κs = search needs
-
-loop-holds : tie.Need-loop-holds Inv-loop μ-loop
-loop-holds c = search needs
-
-read-case-requires : tie.Need-read-case-requires Inv-loop μ-loop
-read-case-requires c κs = search needs
-
-enum-told : tie.Need-enum-told Inv-loop μ-loop
-enum-told c = search needs
-
-returns : tie.Need-returns Inv-loop μ-loop
-returns c = search needs
-
-enum-told-2 : tie.Need-enum-told-2 Inv-loop μ-loop
-enum-told-2 c = search needs
-
-malformed-requires : tie.Need-malformed-requires Inv-loop μ-loop
-malformed-requires c κs = search needs
-
-returns-2 : tie.Need-returns-2 Inv-loop μ-loop
-returns-2 c = search needs
-
-enum-told-3 : tie.Need-enum-told-3 Inv-loop μ-loop
-enum-told-3 c = search needs
-
-counted-requires : tie.Need-counted-requires Inv-loop μ-loop
-counted-requires c κs = search needs
-
-add-counter : tie.Need-add-counter Inv-loop μ-loop
-add-counter c = search needs
-
-loop-less : tie.Need-loop-less Inv-loop μ-loop
-loop-less c = search needs
-
-loop-again : tie.Need-loop-again Inv-loop μ-loop
-loop-again c = search needs
-
-returns-3 : tie.Need-returns-3 Inv-loop μ-loop
-returns-3 c = search needs
+μ-loop names counts₀ counter₀ counts counter = 20000 - counter
 
 pub replayed-spec : {M : Type 1} → statement M
 replayed-spec =
     tie.close
     (tie.spec
     Inv-loop
-    μ-loop
-    none-requires
-    loop-holds
-    read-case-requires
-    enum-told
-    returns
-    enum-told-2
-    malformed-requires
-    returns-2
-    enum-told-3
-    counted-requires
-    add-counter
-    loop-less
-    loop-again
-    returns-3)
+    μ-loop (λ c κs. search needs) (λ c. search needs) (λ c κs. search needs) (λ c. search needs) (λ c. search needs) (λ c. search needs) (λ c κs. search needs) (λ c. search needs) (λ c. search needs) (λ c κs. search needs) (λ c. search needs) (λ c. search needs) (λ c. search needs) (λ c. search needs))

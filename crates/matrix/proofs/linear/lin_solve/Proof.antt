@@ -12,9 +12,6 @@ use Rattle.matrix.proofs.linear.lin_solve.Tie as tie
 mul-if2 : tie.Need-mul-if2
 mul-if2 c = omega (arith, order (c .before .before .before .before .args .n) (c .if1 .taken))
 
-stray-pivot-requires : tie.Need-stray-pivot-requires
-stray-pivot-requires c κs = let l = three (c .before .before .before .before .before .args .n) _ (c .before .before .before .before .before .args .n) _ _ (c .if2 .taken) in (order (c .before .before .before .before .before .args .n) (c .before .if1 .taken) .low, l .2)
-
 returns : tie.Need-returns
 unfolding linSolveOf
 returns c = yes _ _ _ (c .before .before .before .if1 .taken) (yes _ _ _ (c .before .before .if2 .taken) (yes _ _ _ (sym (c .before .stray-pivot .ensures) ∙ c .if3 .taken) refl))
@@ -42,8 +39,7 @@ pub lin-solve-spec : {M : Type 1} → statement M
 lin-solve-spec =
     tie.close
     (tie.spec
-    mul-if2
-    stray-pivot-requires
+    mul-if2 (λ c κs. tt)
     returns
     solve-requires (λ c. search needs)
     returns-2

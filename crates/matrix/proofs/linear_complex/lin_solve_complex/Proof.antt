@@ -12,9 +12,6 @@ use Rattle.matrix.proofs.linear_complex.lin_solve_complex.Tie as tie
 mul-nn : tie.Need-mul-nn
 mul-nn c = omega (arith, order (c .before .before .before .before .before .before .args .n) (c .if1 .taken))
 
-stray-pivot-requires : tie.Need-stray-pivot-requires
-stray-pivot-requires c κs = let l = five (c .before .before .before .before .before .before .before .args .n) _ _ _ _ _ (c .if2 .taken) in (order (c .before .before .before .before .before .before .before .args .n) (c .before .if1 .taken) .low, l .4)
-
 returns : tie.Need-returns
 unfolding linSolveComplexOf
 returns c = yes _ _ _ (c .before .before .before .if1 .taken) (yes _ _ _ (c .before .before .if2 .taken) (yes _ _ _ (sym (c .before .stray-pivot .ensures) ∙ c .if3 .taken) refl))
@@ -42,8 +39,7 @@ pub lin-solve-complex-spec : {M : Type 1} → statement M
 lin-solve-complex-spec =
     tie.close
     (tie.spec
-    mul-nn
-    stray-pivot-requires
+    mul-nn (λ c κs. tt)
     returns
     solve-requires (λ c. search needs) (λ c. search needs)
     returns-2

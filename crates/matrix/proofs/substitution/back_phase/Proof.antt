@@ -4,23 +4,21 @@ use mathlib.Core.Path.{refl}
 use native.Mathlib.Omega.{arith}
 use borrow.Author.Needs.{needs}
 use Rattle.words.proofs.Loops.{Ran, begun, turned, ended, Long}
-use Rattle.matrix.specs.Substitution.{backAt}
-use Rattle.matrix.specs.Linear.{realSide}
+use Rattle.matrix.specs.Reordered.{rowSolvedAt}
 use Rattle.matrix.proofs.substitution.back_phase.Statement.{statement}
 use Rattle.matrix.proofs.substitution.back_phase.Tie as tie
 
 abbrev Inv-loop : tie.InvT-loop
-Inv-loop n a b₀ kb₀ b kb = Ran (backAt realSide a n) (Long b₀) 1 n kb b₀ b
+Inv-loop n a b₀ past ib₀ b ib = Ran (rowSolvedAt a n) (Long b₀) 1 past ib b₀ b
 
 abbrev μ-loop : tie.MeasureT-loop
-μ-loop n a b₀ kb₀ b kb = n - kb
+μ-loop n a b₀ past ib₀ b ib = past - ib
 
 loop-holds : tie.Need-loop-holds Inv-loop μ-loop
 loop-holds c = begun (omega arith) refl refl
 
 loop-again : tie.Need-loop-again Inv-loop μ-loop
-unfolding backAt
-loop-again c = turned (c .before .before .before .before .before .before .before .before .before .loop .inv) (omega arith) (omega arith) (rw (c .before .before .take-column .ensures, c .before .before .before .before .before .before .divide .ensures))
+loop-again c = turned (c .before .before .before .before .before .loop .inv) (omega arith) (omega arith) (c .before .before .solve-row .ensures)
 
 returns : tie.Need-returns Inv-loop μ-loop
 returns c = ended (c .before .loop .inv) (c .loop-test .left)
@@ -30,7 +28,7 @@ back-phase-spec =
     tie.close
     (tie.spec
     Inv-loop
-    μ-loop
-    loop-holds (λ c. omega arith) (λ c κs. search needs) (λ c κs. search needs) (λ c. omega arith) (λ c. omega arith)
+    μ-loop (λ c. omega arith)
+    loop-holds (λ c κs. search needs) (λ c. omega arith) (λ c. omega arith)
     loop-again (λ c. search needs)
     returns)

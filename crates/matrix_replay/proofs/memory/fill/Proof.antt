@@ -16,8 +16,8 @@ abbrev μ-loop : tie.MeasureT-loop
 loop-holds : tie.Need-loop-holds Inv-loop μ-loop
 loop-holds c = search needs
 
-read-value-requires : tie.Need-read-value-requires Inv-loop μ-loop
-read-value-requires c κs = search needs
+read-word-requires : tie.Need-read-word-requires Inv-loop μ-loop
+read-word-requires c κs = search needs
 
 enum-known-next : tie.Need-enum-known-next Inv-loop μ-loop
 enum-known-next c = search needs
@@ -30,9 +30,6 @@ mul-part c = search needs
 
 slice-write-part : tie.Need-slice-write-part Inv-loop μ-loop
 slice-write-part c = search needs
-
-enum-told : tie.Need-enum-told Inv-loop μ-loop
-enum-told c = search needs
 
 add-i : tie.Need-add-i Inv-loop μ-loop
 add-i c = search needs
@@ -57,12 +54,11 @@ fill-spec =
     Inv-loop
     μ-loop
     loop-holds
-    read-value-requires
+    read-word-requires
     enum-known-next
     double-requires
     mul-part
     slice-write-part
-    enum-told
     add-i
     loop-less
     loop-again

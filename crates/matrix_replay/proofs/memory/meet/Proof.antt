@@ -24,8 +24,11 @@ shared-slice-read-pattern c = search needs
 pattern-requires : tie.Need-pattern-requires Inv-loop μ-loop
 pattern-requires c κs = search needs
 
-held-against-line-requires : tie.Need-held-against-line-requires Inv-loop μ-loop
-held-against-line-requires c κs = search needs
+read-word-requires : tie.Need-read-word-requires Inv-loop μ-loop
+read-word-requires c κs = search needs
+
+held-against-requires : tie.Need-held-against-requires Inv-loop μ-loop
+held-against-requires c κs = search needs
 
 add-i : tie.Need-add-i Inv-loop μ-loop
 add-i c = search needs
@@ -49,7 +52,8 @@ meet-spec =
     mul-pattern
     shared-slice-read-pattern
     pattern-requires
-    held-against-line-requires
+    read-word-requires
+    held-against-requires
     add-i
     loop-less
     loop-again

@@ -15,14 +15,17 @@ abbrev μ-loop : tie.MeasureT-loop
 loop-holds : tie.Need-loop-holds Inv-loop μ-loop
 loop-holds c = search needs
 
-mul-held-against-line : tie.Need-mul-held-against-line Inv-loop μ-loop
-mul-held-against-line c = search needs
+mul-held-against : tie.Need-mul-held-against Inv-loop μ-loop
+mul-held-against c = search needs
 
-shared-slice-read-held-against-line : tie.Need-shared-slice-read-held-against-line Inv-loop μ-loop
-shared-slice-read-held-against-line c = search needs
+shared-slice-read-held-against : tie.Need-shared-slice-read-held-against Inv-loop μ-loop
+shared-slice-read-held-against c = search needs
 
-held-against-line-requires : tie.Need-held-against-line-requires Inv-loop μ-loop
-held-against-line-requires c κs = search needs
+read-word-requires : tie.Need-read-word-requires Inv-loop μ-loop
+read-word-requires c κs = search needs
+
+held-against-requires : tie.Need-held-against-requires Inv-loop μ-loop
+held-against-requires c κs = search needs
 
 add-i : tie.Need-add-i Inv-loop μ-loop
 add-i c = search needs
@@ -43,9 +46,10 @@ meet-pivots-spec =
     Inv-loop
     μ-loop
     loop-holds
-    mul-held-against-line
-    shared-slice-read-held-against-line
-    held-against-line-requires
+    mul-held-against
+    shared-slice-read-held-against
+    read-word-requires
+    held-against-requires
     add-i
     loop-less
     loop-again

@@ -1,8 +1,9 @@
 -- `admission` meets its contract.
-use mathlib.Core.Path.{_∙_}
+use mathlib.Core.Path.{_≡_, _∙_}
+use mathlib.Core.Bool.{true, _&&_}
 use borrow.Author.Needs.{needs}
 use borrow.Author.Tests.{not-true, not-false}
-use Rattle.state.specs.Memory.{Memory, memory, Amounts, amounts, Newton, newton, Given, given, Factors, factors, Differences, differences}
+use Rattle.state.specs.Memory.{Memory, memory, Amounts, amounts, Newton, newton, Given, given, Factors, factors, Differences, differences, lengthsFit}
 use Rattle.opening.proofs.OpeningLaws.{in-order, fits-are, groups-of, factors-long}
 use Rattle.opening.proofs.AdmissionLaws.{unfit-order, unfit-length, fit-later}
 use Rattle.opening.proofs.admission.admission.Statement.{statement}
@@ -27,42 +28,58 @@ differences-at c = let a = c .args in differences (a .y-perturbed .now) (a .f-pe
 abbrev memory-at : (c : tie.Start) → Memory
 memory-at c = memory (amounts-at c) (newton-at c) (given-at c) (factors-at c) (differences-at c)
 
+-- where the six tests of the lengths are done
+abbrev start : (c : tie.After-vectors-fit3) → tie.Start
+start c = c .before .before .before .before .before .before .before .before .before .before .before .before .before .before .before .before .before .before .before .before .before .before .before .before .before .before .before .before .before .before
+
+tested : (c : tie.After-vectors-fit3)
+    → lengthsFit (start c .args .run .shape .n) (memory-at (start c))
+    ≡ (c .before .before .before .before .before .amounts-fit .result
+    && c .before .before .before .before .vectors-fit .result
+    && c .before .before .before .vectors-fit2 .result
+    && c .before .before .given-fit .result
+    && c .before .factors-fit .result
+    && c .vectors-fit3 .result)
+tested c =
+    let s = start c in
+    fits-are (s .args .run .shape .n) (amounts-at s) (newton-at s) (given-at s) (factors-at s) (differences-at s) _ _ _ _ _ _
+    (c .before .before .before .before .before .amounts-fit .ensures) (c .before .before .before .before .vectors-fit .ensures) (c .before .before .before .vectors-fit2 .ensures) (c .before .before .given-fit .ensures) (c .before .factors-fit .ensures) (c .vectors-fit3 .ensures)
+
+-- past them all lengths fit
+fitted : (c : tie.Else2) → lengthsFit (start (c .before) .args .run .shape .n) (memory-at (start (c .before))) ≡ true
+fitted c = tested (c .before) ∙ not-false _ (c .if2 .left)
+
 returns : tie.Need-returns
-returns c = unfit-order (c .before .before .before .before .before .before .before .before .before .before .before .before .before .before .before .before .before .before .before .before .before .before .before .before .args .run) (c .before .before .before .before .before .before .before .before .before .before .before .before .before .before .before .before .before .before .before .before .before .before .before .before .args .reply) (memory-at (c .before .before .before .before .before .before .before .before .before .before .before .before .before .before .before .before .before .before .before .before .before .before .before .before)) (c .if1 .taken)
+returns c = let s = c .before .before .before .before .before .before .before .before .before .before .before .before .before .before .before .before .before .before .before .before .before .before .before .before in unfit-order (s .args .run) (s .args .reply) (memory-at s) (c .if1 .taken)
 
 amounts-fit-requires : tie.Need-amounts-fit-requires
 amounts-fit-requires c κs = in-order _ (c .if1 .left) .1
 
 given-fit-requires : tie.Need-given-fit-requires
-given-fit-requires c κs = in-order _ (c .before .before .if1 .left) .1
+given-fit-requires c κs = in-order _ (c .before .before .before .if1 .left) .1
 
 factors-fit-requires : tie.Need-factors-fit-requires
-factors-fit-requires c κs = in-order _ (c .before .before .before .if1 .left) .1
+factors-fit-requires c κs = in-order _ (c .before .before .before .before .if1 .left) .1
 
 returns-2 : tie.Need-returns-2
-returns-2 c = let s = c .before .before .before .before .before .before .before .before .before .before .before .before .before .before .before .before .before .before .before .before .before .before .before .before .before .before .before .before .before .before in
-    unfit-length (s .args .run) (s .args .reply) (memory-at s) (c .before .before .before .before .before .before .if1 .left)
-    (fits-are _ (amounts-at s) (newton-at s) (given-at s) (factors-at s) (differences-at s) _ _ _ _ _ (c .before .before .before .before .before .amounts-fit .ensures) (c .before .before .before .before .newton-fit .ensures) (c .before .before .before .given-fit .ensures) (c .before .before .factors-fit .ensures) (c .before .differences-fit .ensures) ∙ not-true _ (c .if2 .taken))
+returns-2 c = let s = start (c .before) in
+    unfit-length (s .args .run) (s .args .reply) (memory-at s) (c .before .before .before .before .before .before .before .if1 .left) (tested (c .before) ∙ not-true _ (c .if2 .taken))
 
 admit-requires : tie.Need-admit-requires
-admit-requires c κs = let s = c .before .before .before .before .before .before .before .before .before .before .before .before .before .before .before .before .before .before .before .before .before .before .before .before .before .before .before .before .before .before in
-    let g = groups-of _ (amounts-at s) (newton-at s) (given-at s) (factors-at s) (differences-at s)
-    (fits-are _ (amounts-at s) (newton-at s) (given-at s) (factors-at s) (differences-at s) _ _ _ _ _ (c .before .before .before .before .before .amounts-fit .ensures) (c .before .before .before .before .newton-fit .ensures) (c .before .before .before .given-fit .ensures) (c .before .before .factors-fit .ensures) (c .before .differences-fit .ensures) ∙ not-false _ (c .if2 .left)) in
+admit-requires c κs = let s = start (c .before) in
+    let g = groups-of _ (amounts-at s) (newton-at s) (given-at s) (factors-at s) (differences-at s) (fitted c) in
     let l = factors-long _ _ _ _ _ _ (g .factors-fit) in
-    (in-order _ (c .before .before .before .before .before .before .if1 .left), (l .3, l .4))
+    (in-order _ (c .before .before .before .before .before .before .before .if1 .left), (l .3, l .4))
 
 returns-3 : tie.Need-returns-3
-returns-3 c = let s = c .before .before .before .before .before .before .before .before .before .before .before .before .before .before .before .before .before .before .before .before .before .before .before .before .before .before .before .before .before .before .before in
-    c .admit .ensures
-    ∙ fit-later (s .args .run) (s .args .reply) (memory-at s) (c .before .before .before .before .before .before .before .if1 .left)
-    (fits-are _ (amounts-at s) (newton-at s) (given-at s) (factors-at s) (differences-at s) _ _ _ _ _ (c .before .before .before .before .before .before .amounts-fit .ensures) (c .before .before .before .before .before .newton-fit .ensures) (c .before .before .before .before .given-fit .ensures) (c .before .before .before .factors-fit .ensures) (c .before .before .differences-fit .ensures) ∙ not-false _ (c .before .if2 .left))
+returns-3 c = let s = start (c .before .before) in c .admit .ensures ∙ fit-later (s .args .run) (s .args .reply) (memory-at s) (c .before .before .before .before .before .before .before .before .if1 .left) (fitted (c .before))
 
 pub admission-spec : {M : Type 1} → statement M
 admission-spec =
     tie.close
     (tie.spec
     returns
-    amounts-fit-requires (λ c κs. search needs)
+    amounts-fit-requires (λ c κs. search needs) (λ c κs. search needs)
     given-fit-requires
     factors-fit-requires (λ c κs. search needs)
     returns-2

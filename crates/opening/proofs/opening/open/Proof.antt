@@ -28,18 +28,24 @@ differences-at c = let a = c .args in differences (a .y-perturbed .now) (a .f-pe
 abbrev opening-at : (c : tie.Start) → Opening
 opening-at c = let a = c .args in opening (a .settings) (a .n) (a .x0) (a .xend) (a .tolerances) (memory (amounts-at c) (newton-at c) (given-at c) (factors-at c) (differences-at c))
 
--- where the five tests of the lengths are done
-abbrev start : (c : tie.After-differences-fit) → tie.Start
-start c = c .before .before .before .before .before .before .before .before .before .before .before .before .before .before .before .before .before .before .before .before .before .before .before .before .before .before .before .before
+-- where the six tests of the lengths are done
+abbrev start : (c : tie.After-vectors-fit3) → tie.Start
+start c = c .before .before .before .before .before .before .before .before .before .before .before .before .before .before .before .before .before .before .before .before .before .before .before .before .before .before .before .before .before
 
-abbrev tests : (c : tie.After-differences-fit) → Bool
-tests c = c .before .before .before .before .amounts-fit .result && c .before .before .before .newton-fit .result && c .before .before .given-fit .result && c .before .factors-fit .result && c .differences-fit .result
+abbrev tests : (c : tie.After-vectors-fit3) → Bool
+tests c =
+    c .before .before .before .before .before .amounts-fit .result
+    && c .before .before .before .before .vectors-fit .result
+    && c .before .before .before .vectors-fit2 .result
+    && c .before .before .given-fit .result
+    && c .before .factors-fit .result
+    && c .vectors-fit3 .result
 
-tested : (c : tie.After-differences-fit) → lengthsFit (start c .args .n) (opening-at (start c) .memory) ≡ tests c
+tested : (c : tie.After-vectors-fit3) → lengthsFit (start c .args .n) (opening-at (start c) .memory) ≡ tests c
 tested c =
     let s = start c in
-    fits-are (s .args .n) (amounts-at s) (newton-at s) (given-at s) (factors-at s) (differences-at s) _ _ _ _ _
-    (c .before .before .before .before .amounts-fit .ensures) (c .before .before .before .newton-fit .ensures) (c .before .before .given-fit .ensures) (c .before .factors-fit .ensures) (c .differences-fit .ensures)
+    fits-are (s .args .n) (amounts-at s) (newton-at s) (given-at s) (factors-at s) (differences-at s) _ _ _ _ _ _
+    (c .before .before .before .before .before .amounts-fit .ensures) (c .before .before .before .before .vectors-fit .ensures) (c .before .before .before .vectors-fit2 .ensures) (c .before .before .given-fit .ensures) (c .before .factors-fit .ensures) (c .vectors-fit3 .ensures)
 
 -- past them all lengths fit
 fitted : (c : tie.Else2) → lengthsFit (start (c .before) .args .n) (opening-at (start (c .before)) .memory) ≡ true
@@ -55,22 +61,22 @@ amounts-fit-requires : tie.Need-amounts-fit-requires
 amounts-fit-requires c κs = in-order _ (c .if1 .left) .1
 
 given-fit-requires : tie.Need-given-fit-requires
-given-fit-requires c κs = in-order _ (c .before .before .if1 .left) .1
+given-fit-requires c κs = in-order _ (c .before .before .before .if1 .left) .1
 
 factors-fit-requires : tie.Need-factors-fit-requires
-factors-fit-requires c κs = in-order _ (c .before .before .before .if1 .left) .1
+factors-fit-requires c κs = in-order _ (c .before .before .before .before .if1 .left) .1
 
 returns-2 : tie.Need-returns-2
-returns-2 c = open-length (opening-at (c .before .before .before .before .before .before .before .before .before .before .before .before .before .before .before .before .before .before .before .before .before .before .before .before .before .before .before .before .before)) (c .before .before .before .before .before .before .if1 .left) (tested (c .before) ∙ not-true _ (c .if2 .taken))
+returns-2 c = open-length (opening-at (c .before .before .before .before .before .before .before .before .before .before .before .before .before .before .before .before .before .before .before .before .before .before .before .before .before .before .before .before .before .before)) (c .before .before .before .before .before .before .before .if1 .left) (tested (c .before) ∙ not-true _ (c .if2 .taken))
 
 check-given-requires : tie.Need-check-given-requires
-check-given-requires c κs = in-order _ (c .before .before .before .before .before .before .before .before .before .if1 .left) .1
+check-given-requires c κs = in-order _ (c .before .before .before .before .before .before .before .before .before .before .if1 .left) .1
 
 convert-requires : tie.Need-convert-requires
-convert-requires c κs = let l = given-long _ _ _ _ _ (groups (c .before .before .before .before .before .before .before .before .before .before .before .before .before .before .before .before .before .before .before .before .before .before .before .before .before .before .before .before .before .before .before .before .before .before .before .before .before .before .before .before .before .before .before .before .before .before .before .before .before .before .before .before .before .before .before .before .before .before .before .before .before .before .before .before .before .before .before .before .before .before) .given-fit) in (in-order _ (c .before .before .before .before .before .before .before .before .before .before .before .before .before .before .before .before .before .before .before .before .before .before .before .before .before .before .before .before .before .before .before .before .before .before .before .before .before .before .before .before .before .before .before .before .before .before .before .before .before .before .before .before .before .before .before .before .before .before .before .before .before .before .before .before .before .before .before .before .before .before .before .before .before .before .before .before .if1 .left) .0, l .0, l .1)
+convert-requires c κs = let l = given-long _ _ _ _ _ (groups (c .before .before .before .before .before .before .before .before .before .before .before .before .before .before .before .before .before .before .before .before .before .before .before .before .before .before .before .before .before .before .before .before .before .before .before .before .before .before .before .before .before .before .before .before .before .before .before .before .before .before .before .before .before .before .before .before .before .before .before .before .before .before .before .before .before .before .before .before .before .before) .given-fit) in (in-order _ (c .before .before .before .before .before .before .before .before .before .before .before .before .before .before .before .before .before .before .before .before .before .before .before .before .before .before .before .before .before .before .before .before .before .before .before .before .before .before .before .before .before .before .before .before .before .before .before .before .before .before .before .before .before .before .before .before .before .before .before .before .before .before .before .before .before .before .before .before .before .before .before .before .before .before .before .before .before .if1 .left) .0, l .0, l .1)
 
 returns-3 : tie.Need-returns-3
-returns-3 c = open-refused (opening-at (c .before .before .before .before .before .before .before .before .before .before .before .before .before .before .before .before .before .before .before .before .before .before .before .before .before .before .before .before .before .before .before .before .before .before .before .before)) _ (c .before .before .before .before .before .before .before .before .before .before .before .before .before .if1 .left) (fitted (c .before .before .before .before .before .before .before)) (sym (c .before .before .before .check-given .ensures) ∙ c .before .r .given .1)
+returns-3 c = open-refused (opening-at (c .before .before .before .before .before .before .before .before .before .before .before .before .before .before .before .before .before .before .before .before .before .before .before .before .before .before .before .before .before .before .before .before .before .before .before .before .before)) _ (c .before .before .before .before .before .before .before .before .before .before .before .before .before .before .if1 .left) (fitted (c .before .before .before .before .before .before .before)) (sym (c .before .before .before .check-given .ensures) ∙ c .before .r .given .1)
 
 same-length-4 : tie.Need-same-length-4
 same-length-4 c = c .before .before .before .before .before .before .before .before .before .before .before .before .before .before .before .before .before .before .before .before .before .before .before .before .before .before .before .before .before .before .before .before .before .before .before .before .before .before .before .before .before .before .before .before .before .before .before .before .before .before .before .before .before .before .before .before .before .before .before .before .before .before .before .before .before .clear-working .kept .0
@@ -127,18 +133,18 @@ same-length-24 : tie.Need-same-length-24
 same-length-24 c = c .before .before .before .before .before .before .before .before .before .before .before .before .before .before .before .before .before .before .clear-differences .kept .1 .1 .0
 
 returns-4 : tie.Need-returns-4
-returns-4 c = let s = c .before .before .before .before .before .before .before .before .before .before .before .before .before .before .before .before .before .before .before .before .before .before .before .before .before .before .before .before .before .before .before .before .before .before .before .before .before .before .before .before .before .before .before .before .before .before .before .before .before .before .before .before .before .before .before .before .before .before .before .before .before .before .before .before .before .before .before .before .before .before .before .before .before .before .before .before .before .before .before .before .before .before .before .before .before .before .before .before .before .before .before .before .before .before .before .before .before .before .before .before .before .before .before .before .before in
+returns-4 c = let s = c .before .before .before .before .before .before .before .before .before .before .before .before .before .before .before .before .before .before .before .before .before .before .before .before .before .before .before .before .before .before .before .before .before .before .before .before .before .before .before .before .before .before .before .before .before .before .before .before .before .before .before .before .before .before .before .before .before .before .before .before .before .before .before .before .before .before .before .before .before .before .before .before .before .before .before .before .before .before .before .before .before .before .before .before .before .before .before .before .before .before .before .before .before .before .before .before .before .before .before .before .before .before .before .before .before .before in
     rw (c .first-run .ensures)
     (accepted-by (s .args .settings) (s .args .n) (s .args .x0) (s .args .xend) (s .args .tolerances) (amounts-at s) (newton-at s) (given-at s) (factors-at s) (differences-at s) (groups (c .before .before .before .before .before .before .before .before .before .before .before .before .before .before .before .before .before .before .before .before .before .before .before .before .before .before .before .before .before .before .before .before .before .before .before .before .before .before .before .before .before .before .before .before .before .before .before .before .before .before .before .before .before .before .before .before .before .before .before .before .before .before .before .before .before .before .before .before .before .before .before .before .before .before .before .before))
     _ _ _ _ _ _ _ _ (c .before .before .before .before .before .before .before .before .before .before .before .before .before .before .before .before .before .before .before .before .before .before .before .before .before .before .before .before .before .before .before .before .before .before .before .before .before .before .before .before .before .before .before .before .before .before .before .before .before .before .before .before .before .before .before .before .before .before .before .before .before .before .before .before .before .clear-working .ensures) (c .before .before .before .before .before .before .before .before .before .before .before .before .before .before .before .before .before .before .before .before .before .before .before .before .before .before .before .before .before .before .before .before .before .before .before .before .before .before .before .before .before .before .before .before .before .before .before .before .before .before .clear-newton .ensures) (c .before .before .before .before .before .before .before .before .before .before .before .before .before .before .before .before .before .before .before .before .before .before .before .before .before .before .before .before .before .before .before .before .clear-factors .ensures) (c .before .before .before .before .before .before .before .before .before .before .before .before .before .before .before .before .before .before .clear-differences .ensures) (c .before .before .before .before .before .before .before .before .before .before .keep-mass .ensures) (c .before .before .before .before .before .convert .ensures)
-    ∙ open-accepted (opening-at s) (c .before .before .before .before .before .before .before .before .before .before .before .before .before .before .before .before .before .before .before .before .before .before .before .before .before .before .before .before .before .before .before .before .before .before .before .before .before .before .before .before .before .before .before .before .before .before .before .before .before .before .before .before .before .before .before .before .before .before .before .before .before .before .before .before .before .before .before .before .before .before .before .before .before .before .before .before .before .before .before .before .before .before .if1 .left) (fitted (c .before .before .before .before .before .before .before .before .before .before .before .before .before .before .before .before .before .before .before .before .before .before .before .before .before .before .before .before .before .before .before .before .before .before .before .before .before .before .before .before .before .before .before .before .before .before .before .before .before .before .before .before .before .before .before .before .before .before .before .before .before .before .before .before .before .before .before .before .before .before .before .before .before .before .before .before)) (sym (c .before .before .before .before .before .before .before .before .before .before .before .before .before .before .before .before .before .before .before .before .before .before .before .before .before .before .before .before .before .before .before .before .before .before .before .before .before .before .before .before .before .before .before .before .before .before .before .before .before .before .before .before .before .before .before .before .before .before .before .before .before .before .before .before .before .before .before .before .before .before .before .before .check-given .ensures) ∙ c .before .before .before .before .before .before .before .before .before .before .before .before .before .before .before .before .before .before .before .before .before .before .before .before .before .before .before .before .before .before .before .before .before .before .before .before .before .before .before .before .before .before .before .before .before .before .before .before .before .before .before .before .before .before .before .before .before .before .before .before .before .before .before .before .before .before .before .before .before .before .enum-told .given .1))
+    ∙ open-accepted (opening-at s) (c .before .before .before .before .before .before .before .before .before .before .before .before .before .before .before .before .before .before .before .before .before .before .before .before .before .before .before .before .before .before .before .before .before .before .before .before .before .before .before .before .before .before .before .before .before .before .before .before .before .before .before .before .before .before .before .before .before .before .before .before .before .before .before .before .before .before .before .before .before .before .before .before .before .before .before .before .before .before .before .before .before .before .before .if1 .left) (fitted (c .before .before .before .before .before .before .before .before .before .before .before .before .before .before .before .before .before .before .before .before .before .before .before .before .before .before .before .before .before .before .before .before .before .before .before .before .before .before .before .before .before .before .before .before .before .before .before .before .before .before .before .before .before .before .before .before .before .before .before .before .before .before .before .before .before .before .before .before .before .before .before .before .before .before .before .before)) (sym (c .before .before .before .before .before .before .before .before .before .before .before .before .before .before .before .before .before .before .before .before .before .before .before .before .before .before .before .before .before .before .before .before .before .before .before .before .before .before .before .before .before .before .before .before .before .before .before .before .before .before .before .before .before .before .before .before .before .before .before .before .before .before .before .before .before .before .before .before .before .before .before .before .check-given .ensures) ∙ c .before .before .before .before .before .before .before .before .before .before .before .before .before .before .before .before .before .before .before .before .before .before .before .before .before .before .before .before .before .before .before .before .before .before .before .before .before .before .before .before .before .before .before .before .before .before .before .before .before .before .before .before .before .before .before .before .before .before .before .before .before .before .before .before .before .before .before .before .before .before .enum-told .given .1))
 
 pub open-spec : {M : Type 1} → statement M
 open-spec =
     tie.close
     (tie.spec
     returns
-    amounts-fit-requires (λ c κs. search needs)
+    amounts-fit-requires (λ c κs. search needs) (λ c κs. search needs)
     given-fit-requires
     factors-fit-requires (λ c κs. search needs)
     returns-2

@@ -1,0 +1,4 @@
+-- In order of reading.
+pub mod Fixed
+pub mod Wrong
+pub mod Traps

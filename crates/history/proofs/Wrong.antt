@@ -1,0 +1,134 @@
+-- Three wrong solvers, each shut out by the contract of an advance (01, 'How tight the contracts are'): one that refuses everything, one that always gives the same answer,
+-- and one that is right at its first advance and then only pretends, ending with Success.
+use Prim.Native.Nat.{ℕ}
+use mathlib.Core.Path.{_≡_, refl, sym, ap, _∙_}
+use mathlib.Core.Bool.{Bool, true, false, true≢false}
+use mathlib.Core.List.{List, [], _∷_}
+use lib.Ieee.{Float, le, ofBits}
+use Rattle.words.specs.Words.{double}
+use Rattle.words.specs.Loop.{loop, pick}
+use Rattle.state.specs.declared.run.Run.{Run}
+use Rattle.state.specs.declared.run.Stage.{Stage}
+use Rattle.state.specs.declared.run.Stage.the-variants as stage
+use Rattle.state.specs.declared.run.Status.the-variants as status
+use Rattle.state.specs.declared.run.Tolerances.the-variants.{Scalars}
+use Rattle.state.specs.declared.talk.Answer.{Answer}
+use Rattle.state.specs.declared.talk.Answer.the-variants as answer
+use Rattle.state.specs.declared.talk.Place.the-variants.{Nowhere}
+use Rattle.state.specs.declared.talk.Refusal.the-variants.{Unfit}
+use Rattle.state.specs.declared.talk.Reply.{Reply}
+use Rattle.state.specs.declared.talk.Reply.the-variants as reply
+use Rattle.state.specs.declared.talk.Request.{Request}
+use Rattle.state.specs.declared.talk.Request.the-variants as request
+use Rattle.state.specs.Settings.{defaultsOf}
+use Rattle.state.specs.Memory.{Memory, memory, amounts, newton, given, factors, differences, amountsFit, newtonFit, givenFit, factorsFit, differencesFit}
+use Rattle.opening.specs.Rows.{verdictOf}
+use Rattle.opening.specs.Admission.{askingAt, answersReport, stray, strayAt}
+use Rattle.opening.specs.Opening.{firstCounts, firstControl, firstNumbers}
+use Rattle.radau.specs.Advance.{Outcome, outcome, advanceOf, advanceBy, startedOf, repliedOf, calledOf}
+use Rattle.radau.specs.Matrices.{passesOf, passAt}
+use Rattle.radau.specs.Report.{reportedOf}
+
+-- what a solver is, for one advance, and what the contract asks of it
+abbrev pub Solver : Type 0
+Solver = Run → Reply → Memory → Outcome
+
+abbrev pub Meets : Solver → Type 0
+Meets s = (r : Run) (p : Reply) (m : Memory) → s r p m ≡ advanceOf r p m .core
+
+-- ---- a run of one amount, and its memory
+
+abbrev pub one : List Float
+one = double 0 ∷ []
+
+abbrev pub sampleMemory : Memory
+sampleMemory =
+    memory (amounts one one one (double 0 ∷ double 0 ∷ double 0 ∷ double 0 ∷ [])) (newton one one one one one one) (given one one one one) (factors one one one (0 ∷ []) (0 ∷ []))
+    (differences one one one)
+
+abbrev pub sampleAt : Stage → Run
+sampleAt s =
+    record {
+      settings = defaultsOf;
+      shape = record { n = 1; nind1 = 1; nind2 = 0; nind3 = 0 };
+      fixed = record { tolerances = Scalars (double 0) (double 0); «newton_tol» = double 0; xend = double 0; posneg = double 0; hmax = double 0; hmin = double 0 };
+      counts = firstCounts;
+      control = firstControl;
+      numbers = firstNumbers (double 0) (double 0);
+      stage = s;
+    }
+
+-- the first advance is admitted, and asks for a report
+first-asks : advanceOf (sampleAt stage.FirstDerivative) reply.Filled sampleMemory .core .answer
+    ≡ answer.Asked (sampleAt stage.FirstReport) (request.Report (double 0) (double 0) false) Nowhere
+unfolding advanceBy repliedOf calledOf passesOf passAt loop pick verdictOf amountsFit newtonFit givenFit factorsFit differencesFit askingAt answersReport stray strayAt le ofBits
+first-asks = refl
+
+-- an interrupt at that report is answered by the end, with its status
+interrupt-ends : advanceOf (sampleAt stage.FirstReport) reply.Interrupt sampleMemory .core .answer
+    ≡ answer.Asked (sampleAt (stage.Ended status.UserInterrupt)) (request.Ended status.UserInterrupt) Nowhere
+unfolding advanceBy repliedOf calledOf passesOf passAt loop pick verdictOf amountsFit newtonFit givenFit factorsFit differencesFit askingAt answersReport stray strayAt le ofBits startedOf reportedOf
+interrupt-ends = refl
+
+-- ---- the wrong solvers
+
+-- whether an answer is a refusal, and whether it is the end with an interrupt
+abbrev refuses : Answer → Bool
+refuses (answer.Asked r q p) = false
+refuses (answer.Refused r x) = true
+
+abbrev interrupts : Request → Bool
+interrupts (request.Derivative x) = false
+interrupts (request.Jacobian x) = false
+interrupts (request.Report xold x offered) = false
+interrupts (request.Ended status.Success) = false
+interrupts (request.Ended status.UserInterrupt) = true
+interrupts (request.Ended status.NeedLargerNMax) = false
+interrupts (request.Ended status.StepSizeTooSmall) = false
+interrupts (request.Ended status.SingularMatrix) = false
+
+abbrev interrupted : Answer → Bool
+interrupted (answer.Asked r q p) = interrupts q
+interrupted (answer.Refused r x) = false
+
+-- refuses everything
+abbrev pub refusesAll : Solver
+refusesAll r p m = outcome (answer.Refused r Unfit) m
+
+pub not-refuses-all : Meets refusesAll → ⊥
+not-refuses-all meets =
+    true≢false (ap (λ (o : Outcome). refuses (o .answer)) (meets (sampleAt stage.FirstDerivative) reply.Filled sampleMemory) ∙ ap refuses first-asks)
+
+-- gives one answer whatever it is asked
+abbrev pub saysAlways : Outcome → Solver
+saysAlways o r p m = o
+
+pub not-always : (o : Outcome) → Meets (saysAlways o) → ⊥
+not-always o meets =
+    let first = ap (λ (x : Outcome). interrupted (x .answer)) (meets (sampleAt stage.FirstDerivative) reply.Filled sampleMemory) ∙ ap interrupted first-asks in
+    let later = ap (λ (x : Outcome). interrupted (x .answer)) (meets (sampleAt stage.FirstReport) reply.Interrupt sampleMemory) ∙ ap interrupted interrupt-ends in
+    true≢false (sym later ∙ first)
+
+-- is right at the first advance, and later ends with Success
+unfoldable pub rightAt : Stage → Solver
+rightAt stage.FirstDerivative r p m = advanceOf r p m .core
+rightAt stage.FirstReport r p m = outcome (answer.Asked r (request.Ended status.Success) Nowhere) m
+rightAt stage.FirstDerivativeAgain r p m = outcome (answer.Asked r (request.Ended status.Success) Nowhere) m
+rightAt stage.Jacobian r p m = outcome (answer.Asked r (request.Ended status.Success) Nowhere) m
+rightAt (stage.Column c) r p m = outcome (answer.Asked r (request.Ended status.Success) Nowhere) m
+rightAt stage.Newton1 r p m = outcome (answer.Asked r (request.Ended status.Success) Nowhere) m
+rightAt stage.Newton2 r p m = outcome (answer.Asked r (request.Ended status.Success) Nowhere) m
+rightAt stage.Newton3 r p m = outcome (answer.Asked r (request.Ended status.Success) Nowhere) m
+rightAt stage.Refinement r p m = outcome (answer.Asked r (request.Ended status.Success) Nowhere) m
+rightAt stage.Accepted r p m = outcome (answer.Asked r (request.Ended status.Success) Nowhere) m
+rightAt stage.Report r p m = outcome (answer.Asked r (request.Ended status.Success) Nowhere) m
+rightAt stage.DerivativeAgain r p m = outcome (answer.Asked r (request.Ended status.Success) Nowhere) m
+rightAt (stage.Ended s) r p m = outcome (answer.Asked r (request.Ended status.Success) Nowhere) m
+
+abbrev pub pretends : Solver
+pretends r p m = rightAt (r .stage) r p m
+
+pub not-pretends : Meets pretends → ⊥
+unfolding rightAt
+not-pretends meets =
+    true≢false (sym (ap (λ (o : Outcome). interrupted (o .answer)) (meets (sampleAt stage.FirstReport) reply.Interrupt sampleMemory) ∙ ap interrupted interrupt-ends))

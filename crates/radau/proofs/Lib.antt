@@ -1,0 +1,14 @@
+-- In order of reading.
+pub mod AdmittedLaws
+pub mod LogLaws
+pub mod MatrixLaws
+pub mod PassLaws
+pub mod FitLaws
+pub mod AttemptLaws
+pub mod ThreeLaws
+pub mod RoundLaws
+pub mod JudgeLaws
+pub mod ReportLaws
+pub mod JacobianLaws
+pub mod AdvanceLaws
+pub mod RepliedLaws

@@ -1,0 +1,304 @@
+-- `replied` meets its contract, stage by stage.
+use native.Mathlib.Omega.{arith}
+use borrow.Author.Needs.{needs}
+use Rattle.state.specs.Memory.{Memory, memory, amounts, Newton, newton, given, Factors, factors, Differences, differences}
+use Rattle.radau.proofs.AdvanceLaws.{first-derivative, first-report, first-again, jacobian-made, column-made, newton-1, newton-2, newton-3, refinement, accepted-there, report-answered, derivative-again, ended-already}
+use Rattle.radau.proofs.RepliedLaws.{told-asks, again-told, round-asks, column-asks, square-at}
+use Rattle.radau.proofs.advance.replied.Statement.{statement}
+use Rattle.radau.proofs.advance.replied.Tie as tie
+
+-- the memory at entry
+abbrev newton-at : (c : tie.Start) → Newton
+newton-at c = let a = c .args in newton (a .z1 .now) (a .z2 .now) (a .z3 .now) (a .f1 .now) (a .f2 .now) (a .f3 .now)
+
+abbrev factors-at : (c : tie.Start) → Factors
+factors-at c = let a = c .args in factors (a .e1 .now) (a .e2r .now) (a .e2i .now) (a .ip1 .now) (a .ip2 .now)
+
+abbrev differences-at : (c : tie.Start) → Differences
+differences-at c = let a = c .args in differences (a .y-perturbed .now) (a .f-perturbed .now) (a .f-origin .now)
+
+abbrev memory-at : (c : tie.Start) → Memory
+memory-at c =
+    let a = c .args in
+    memory (amounts (a .y .now) (a .f0 .now) (a .scal .now) (a .cont .now)) (newton-at c) (given (a .rtol .now) (a .atol .now) (a .mass .now) (a .jac .now)) (factors-at c) (differences-at c)
+
+enum-told : tie.Need-enum-told
+enum-told c = search needs
+
+enum-told-2 : tie.Need-enum-told-2
+enum-told-2 c = search needs
+
+reported-requires : tie.Need-reported-requires
+reported-requires c κs = omega (arith, c .before .before .before .before .before .before .before .before .before .before .before .before .before .before .before .before .before .before .before .before .before .before .before .before .pre .0 .0)
+
+started-requires : tie.Need-started-requires
+started-requires c κs = let m = c .before .before .before .before .before .before .before .before .before .before .before .before .before .before .before .before .before .before .before .before .before .before .before .before .before .before .before .pre .1 in (told-asks (c .before .before .before .before .before .before .before .before .before .before .before .before .before .before .before .before .before .before .before .before .before .before .before .before .before .before .before .pre .0 .0) _ _ _ (c .before .before .reported .ensures) (m .y), omega (arith, m .rtol, m .y), omega (arith, m .atol, m .y), omega (arith, m .scal, m .y))
+
+enum-told-3 : tie.Need-enum-told-3
+enum-told-3 c = search needs
+
+started-requires-2 : tie.Need-started-requires-2
+started-requires-2 c κs = let m = c .before .before .before .before .before .before .before .before .before .before .before .before .before .before .before .before .before .before .before .before .before .before .before .before .before .before .pre .1 in (again-told (c .before .before .before .before .before .before .before .before .before .before .before .before .before .before .before .before .before .before .before .before .before .before .before .before .before .before .pre .0 .0) _ (m .y), omega (arith, m .rtol, m .y), omega (arith, m .atol, m .y), omega (arith, m .scal, m .y))
+
+enum-told-4 : tie.Need-enum-told-4
+enum-told-4 c = search needs
+
+enum-known-stage : tie.Need-enum-known-stage
+enum-known-stage c = search needs
+
+column-requires : tie.Need-column-requires
+column-requires c κs = let m = c .before .before .before .before .before .before .before .before .before .before .before .before .before .before .before .before .before .before .before .before .before .before .before .before .before .before .before .before .pre .1 in let f = c .before .before .before .before .before .before .before .before .before .before .before .before .before .before .before .before .before .before .before .before .before .before .before .before .before .before .before .before .pre .0 .0 in (f .low, column-asks (c .before .before .before .before .before .before .before .before .before .before .before .before .before .before .before .before .before .before .before .before .before .before .before .before .before .before .before .before .pre .0 .1) (c .before .before .before .before .stage .given .1), m .y, m .«y_perturbed», m .«f_perturbed», m .«f_origin», m .jac)
+
+enum-told-5 : tie.Need-enum-told-5
+enum-told-5 c = search needs
+
+ask-stage-requires : tie.Need-ask-stage-requires
+ask-stage-requires c κs = let m = c .before .before .before .before .before .before .before .before .before .before .before .before .before .before .before .before .before .before .before .before .before .before .before .before .before .before .before .before .before .pre .1 in (omega (arith, c .before .before .before .before .before .before .before .before .before .before .before .before .before .before .before .before .before .before .before .before .before .before .before .before .before .before .before .before .before .pre .0 .0), (m .y, m .newton .z2, m .cont))
+
+enum-told-6 : tie.Need-enum-told-6
+enum-told-6 c = search needs
+
+ask-stage-requires-2 : tie.Need-ask-stage-requires-2
+ask-stage-requires-2 c κs = let m = c .before .before .before .before .before .before .before .before .before .before .before .before .before .before .before .before .before .before .before .before .before .before .before .before .before .before .before .pre .1 in (omega (arith, c .before .before .before .before .before .before .before .before .before .before .before .before .before .before .before .before .before .before .before .before .before .before .before .before .before .before .before .pre .0 .0), (m .y, m .newton .z3, m .cont))
+
+enum-told-7 : tie.Need-enum-told-7
+enum-told-7 c = search needs
+
+round-requires : tie.Need-round-requires
+round-requires c κs = let m = c .before .before .before .before .before .before .before .before .before .before .before .before .before .before .before .before .before .before .before .before .before .before .before .before .before .before .before .before .before .before .before .pre .1 in ((omega (arith, c .before .before .before .before .before .before .before .before .before .before .before .before .before .before .before .before .before .before .before .before .before .before .before .before .before .before .before .before .before .before .before .pre .0 .0), c .before .before .before .before .before .before .before .before .before .before .before .before .before .before .before .before .before .before .before .before .before .before .before .before .before .before .before .before .before .before .before .pre .0 .1 .rounds, m .mass, m .scal), m .newton)
+
+conclude-requires : tie.Need-conclude-requires
+conclude-requires c κs = let m = c .before .before .before .before .before .before .before .before .before .before .before .before .before .before .before .before .before .before .before .before .before .before .before .before .before .before .before .before .before .before .before .before .before .before .before .before .before .before .before .before .before .before .before .before .before .before .before .before .before .before .before .before .pre .1 in let a = c .before .before .before .before .before .before .before .before .before .before .before .before .before .before .before .before .before .before .before .before .before .before .before .before .before .before .before .before .before .before .before .before .before .before .before .before .before .before .before .before .before .before .before .before .before .before .before .before .before .before .before .before .args in ((round-asks (c .before .before .before .before .before .before .before .before .before .before .before .before .before .before .before .before .before .before .before .before .before .before .before .before .before .before .before .before .before .before .before .before .before .before .before .before .before .before .before .before .before .before .before .before .before .before .before .before .before .before .before .before .pre .0 .0) (a .mass .now) (a .scal .now) (factors-at (c .before .before .before .before .before .before .before .before .before .before .before .before .before .before .before .before .before .before .before .before .before .before .before .before .before .before .before .before .before .before .before .before .before .before .before .before .before .before .before .before .before .before .before .before .before .before .before .before .before .before .before .before)) (newton-at (c .before .before .before .before .before .before .before .before .before .before .before .before .before .before .before .before .before .before .before .before .before .before .before .before .before .before .before .before .before .before .before .before .before .before .before .before .before .before .before .before .before .before .before .before .before .before .before .before .before .before .before .before)) _ (c .before .before .before .before .before .before .before .before .before .before .before .before .before .before .before .before .before .before .before .before .before .before .before .before .before .before .before .before .before .before .before .before .before .before .before .before .before .before .before .before .before .before .before .before .before .before .before .before .before .before .before .before .pre .0 .1 .rounds) (c .before .before .before .before .before .before .before .before .before .before .before .before .before .before .before .before .before .before .before .before .round .ensures) (m .y), square-at _ (m .y) (m .mass), omega (arith, m .f0, m .y), omega (arith, m .scal, m .y), omega (arith, m .cont, m .y)), (omega (arith, m .newton, m .y, c .before .before .before .before .before .before .before .before .before .before .before .before .before .before .before .before .before .before .before .before .round .kept), omega (arith, m .newton, m .y, c .before .before .before .before .before .before .before .before .before .before .before .before .before .before .before .before .before .before .before .before .round .kept), omega (arith, m .newton, m .y, c .before .before .before .before .before .before .before .before .before .before .before .before .before .before .before .before .before .before .before .before .round .kept), omega (arith, m .newton, m .y, c .before .before .before .before .before .before .before .before .before .before .before .before .before .before .before .before .before .before .before .before .round .kept), omega (arith, m .newton, m .y, c .before .before .before .before .before .before .before .before .before .before .before .before .before .before .before .before .before .before .before .before .round .kept)))
+
+enum-told-8 : tie.Need-enum-told-8
+enum-told-8 c = search needs
+
+refined-requires : tie.Need-refined-requires
+refined-requires c κs = let m = c .before .before .before .before .before .before .before .before .before .before .before .before .before .before .before .before .before .before .before .before .before .before .before .before .before .before .before .before .before .before .before .before .pre .1 in let z = m .newton in ((omega (arith, c .before .before .before .before .before .before .before .before .before .before .before .before .before .before .before .before .before .before .before .before .before .before .before .before .before .before .before .before .before .before .before .before .pre .0 .0), m .scal, m .y, m .cont), (z .z1, z .z2, z .z3, z .f1, z .f2))
+
+enum-told-9 : tie.Need-enum-told-9
+enum-told-9 c = search needs
+
+scaled-requires : tie.Need-scaled-requires
+scaled-requires c κs = let m = c .before .before .before .before .before .before .before .before .before .before .before .before .before .before .before .before .before .before .before .before .before .before .before .before .before .before .before .before .pre .1 in (m .rtol, m .atol, m .y, m .scal)
+
+enum-told-10 : tie.Need-enum-told-10
+enum-told-10 c = search needs
+
+reported-requires-2 : tie.Need-reported-requires-2
+reported-requires-2 c κs = omega (arith, c .before .before .before .before .before .before .before .before .before .before .before .before .before .before .before .before .before .before .before .before .before .before .before .before .pre .0 .0)
+
+enum-told-11 : tie.Need-enum-told-11
+enum-told-11 c = search needs
+
+enum-known-stage-2 : tie.Need-enum-known-stage-2
+enum-known-stage-2 c = search needs
+
+returns : tie.Need-returns
+returns c = first-derivative (c .before .before .before .before .before .before .before .before .before .before .before .before .before .before .before .before .before .before .before .before .before .before .before .before .before .args .run) (c .before .before .before .before .before .before .before .before .before .before .before .before .before .before .before .before .before .before .before .before .before .before .before .before .before .args .reply) (memory-at (c .before .before .before .before .before .before .before .before .before .before .before .before .before .before .before .before .before .before .before .before .before .before .before .before .before)) _ (c .before .enum-told .given .1) (c .ask-first-report .ensures)
+
+same-length : tie.Need-same-length
+same-length c = omega (arith, c .before .before .started .kept)
+
+same-length-2 : tie.Need-same-length-2
+same-length-2 c = omega (arith, c .before .before .started .kept)
+
+returns-2 : tie.Need-returns-2
+returns-2 c = first-report (c .before .before .before .before .before .before .before .before .before .before .before .before .before .before .before .before .before .before .before .before .before .before .before .before .before .before .before .before .before .before .args .run) (c .before .before .before .before .before .before .before .before .before .before .before .before .before .before .before .before .before .before .before .before .before .before .before .before .before .before .before .before .before .before .args .reply) (memory-at (c .before .before .before .before .before .before .before .before .before .before .before .before .before .before .before .before .before .before .before .before .before .before .before .before .before .before .before .before .before .before)) _ _ (c .before .before .before .before .before .before .enum-told2 .given .1) (c .before .before .before .before .before .reported .ensures) (c .before .before .started .ensures (c .before .before .before .before .before .before .before .before .before .before .before .before .before .before .before .before .before .before .before .before .before .before .before .before .before .before .before .before .before .before .args .f0 .now) (c .before .before .before .before .before .before .before .before .before .before .before .before .before .before .before .before .before .before .before .before .before .before .before .before .before .before .before .before .before .before .args .cont .now) (c .before .before .before .before .before .before .before .before .before .before .before .before .before .before .before .before .before .before .before .before .before .before .before .before .before .before .before .before .before .before .args .mass .now) (c .before .before .before .before .before .before .before .before .before .before .before .before .before .before .before .before .before .before .before .before .before .before .before .before .before .before .before .before .before .before .args .jac .now) (newton-at (c .before .before .before .before .before .before .before .before .before .before .before .before .before .before .before .before .before .before .before .before .before .before .before .before .before .before .before .before .before .before)) (factors-at (c .before .before .before .before .before .before .before .before .before .before .before .before .before .before .before .before .before .before .before .before .before .before .before .before .before .before .before .before .before .before)) (differences-at (c .before .before .before .before .before .before .before .before .before .before .before .before .before .before .before .before .before .before .before .before .before .before .before .before .before .before .before .before .before .before)))
+
+same-length-3 : tie.Need-same-length-3
+same-length-3 c = omega (arith, c .before .before .started2 .kept)
+
+same-length-4 : tie.Need-same-length-4
+same-length-4 c = omega (arith, c .before .before .started2 .kept)
+
+returns-3 : tie.Need-returns-3
+returns-3 c = first-again (c .before .before .before .before .before .before .before .before .before .before .before .before .before .before .before .before .before .before .before .before .before .before .before .before .before .before .before .before .before .args .run) (c .before .before .before .before .before .before .before .before .before .before .before .before .before .before .before .before .before .before .before .before .before .before .before .before .before .before .before .before .before .args .reply) (memory-at (c .before .before .before .before .before .before .before .before .before .before .before .before .before .before .before .before .before .before .before .before .before .before .before .before .before .before .before .before .before)) _ (c .before .before .before .before .before .enum-told3 .given .1) (c .before .before .started2 .ensures (c .before .before .before .before .before .before .before .before .before .before .before .before .before .before .before .before .before .before .before .before .before .before .before .before .before .before .before .before .before .args .f0 .now) (c .before .before .before .before .before .before .before .before .before .before .before .before .before .before .before .before .before .before .before .before .before .before .before .before .before .before .before .before .before .args .cont .now) (c .before .before .before .before .before .before .before .before .before .before .before .before .before .before .before .before .before .before .before .before .before .before .before .before .before .before .before .before .before .args .mass .now) (c .before .before .before .before .before .before .before .before .before .before .before .before .before .before .before .before .before .before .before .before .before .before .before .before .before .before .before .before .before .args .jac .now) (newton-at (c .before .before .before .before .before .before .before .before .before .before .before .before .before .before .before .before .before .before .before .before .before .before .before .before .before .before .before .before .before)) (factors-at (c .before .before .before .before .before .before .before .before .before .before .before .before .before .before .before .before .before .before .before .before .before .before .before .before .before .before .before .before .before)) (differences-at (c .before .before .before .before .before .before .before .before .before .before .before .before .before .before .before .before .before .before .before .before .before .before .before .before .before .before .before .before .before)))
+
+returns-4 : tie.Need-returns-4
+returns-4 c = jacobian-made (c .before .before .before .before .before .before .before .before .before .before .before .before .before .before .before .before .before .before .before .before .before .before .before .before .args .run) (c .before .before .before .before .before .before .before .before .before .before .before .before .before .before .before .before .before .before .before .before .before .before .before .before .args .reply) (memory-at (c .before .before .before .before .before .before .before .before .before .before .before .before .before .before .before .before .before .before .before .before .before .before .before .before)) (c .enum-told4 .given .1)
+
+same-length-5 : tie.Need-same-length-5
+same-length-5 c = omega (arith, c .before .before .before .before .column .kept)
+
+same-length-6 : tie.Need-same-length-6
+same-length-6 c = omega (arith, c .before .before .before .before .column .kept)
+
+same-length-7 : tie.Need-same-length-7
+same-length-7 c = omega (arith, c .before .before .before .before .column .kept)
+
+returns-5 : tie.Need-returns-5
+returns-5 c = column-made (c .before .before .before .before .before .before .before .before .before .before .before .before .before .before .before .before .before .before .before .before .before .before .before .before .before .before .before .before .before .before .before .before .before .args .run) (c .before .before .before .before .before .before .before .before .before .before .before .before .before .before .before .before .before .before .before .before .before .before .before .before .before .before .before .before .before .before .before .before .before .args .reply) (memory-at (c .before .before .before .before .before .before .before .before .before .before .before .before .before .before .before .before .before .before .before .before .before .before .before .before .before .before .before .before .before .before .before .before .before)) _ _ _ _ (c .before .before .before .before .before .before .before .before .before .stage .given .1) (c .before .before .before .before .column .ensures)
+
+same-length-8 : tie.Need-same-length-8
+same-length-8 c = omega (arith, c .before .before .ask-stage .kept)
+
+same-length-9 : tie.Need-same-length-9
+same-length-9 c = omega (arith, c .before .before .ask-stage .kept)
+
+same-length-10 : tie.Need-same-length-10
+same-length-10 c = omega (arith, c .before .before .ask-stage .kept)
+
+returns-6 : tie.Need-returns-6
+returns-6 c = newton-1 (c .before .before .before .before .before .before .before .before .before .before .before .before .before .before .before .before .before .before .before .before .before .before .before .before .before .before .before .before .before .before .before .before .args .run) (c .before .before .before .before .before .before .before .before .before .before .before .before .before .before .before .before .before .before .before .before .before .before .before .before .before .before .before .before .before .before .before .before .args .reply) (memory-at (c .before .before .before .before .before .before .before .before .before .before .before .before .before .before .before .before .before .before .before .before .before .before .before .before .before .before .before .before .before .before .before .before)) _ _ (c .before .before .before .before .before .before .before .before .enum-told5 .given .1) (c .before .before .ask-stage .ensures)
+
+same-length-11 : tie.Need-same-length-11
+same-length-11 c = omega (arith, c .before .before .ask-stage2 .kept)
+
+same-length-12 : tie.Need-same-length-12
+same-length-12 c = omega (arith, c .before .before .ask-stage2 .kept)
+
+same-length-13 : tie.Need-same-length-13
+same-length-13 c = omega (arith, c .before .before .ask-stage2 .kept)
+
+returns-7 : tie.Need-returns-7
+returns-7 c = newton-2 (c .before .before .before .before .before .before .before .before .before .before .before .before .before .before .before .before .before .before .before .before .before .before .before .before .before .before .before .before .before .before .args .run) (c .before .before .before .before .before .before .before .before .before .before .before .before .before .before .before .before .before .before .before .before .before .before .before .before .before .before .before .before .before .before .args .reply) (memory-at (c .before .before .before .before .before .before .before .before .before .before .before .before .before .before .before .before .before .before .before .before .before .before .before .before .before .before .before .before .before .before)) _ _ (c .before .before .before .before .before .before .enum-told6 .given .1) (c .before .before .ask-stage2 .ensures)
+
+same-length-14 : tie.Need-same-length-14
+same-length-14 c = omega (arith, c .before .before .before .before .before .before .before .before .before .before .before .before .before .before .before .before .before .before .before .before .before .before .before .before .before .before .before .before .before .round .kept, c .before .before .before .before .before .before .before .before .conclude .kept)
+
+same-length-15 : tie.Need-same-length-15
+same-length-15 c = omega (arith, c .before .before .before .before .before .before .before .before .before .before .before .before .before .before .before .before .before .before .before .before .before .before .before .before .before .before .before .before .before .round .kept, c .before .before .before .before .before .before .before .before .conclude .kept)
+
+same-length-16 : tie.Need-same-length-16
+same-length-16 c = omega (arith, c .before .before .before .before .before .before .before .before .before .before .before .before .before .before .before .before .before .before .before .before .before .before .before .before .before .before .before .before .before .round .kept, c .before .before .before .before .before .before .before .before .conclude .kept)
+
+same-length-17 : tie.Need-same-length-17
+same-length-17 c = omega (arith, c .before .before .before .before .before .before .before .before .before .before .before .before .before .before .before .before .before .before .before .before .before .before .before .before .before .before .before .before .before .round .kept, c .before .before .before .before .before .before .before .before .conclude .kept)
+
+same-length-18 : tie.Need-same-length-18
+same-length-18 c = omega (arith, c .before .before .before .before .before .before .before .before .before .before .before .before .before .before .before .before .before .before .before .before .before .before .before .before .before .before .before .before .before .round .kept, c .before .before .before .before .before .before .before .before .conclude .kept)
+
+same-length-19 : tie.Need-same-length-19
+same-length-19 c = omega (arith, c .before .before .before .before .before .before .before .before .before .before .before .before .before .before .before .before .before .before .before .before .before .before .before .before .before .before .before .before .before .round .kept, c .before .before .before .before .before .before .before .before .conclude .kept)
+
+same-length-20 : tie.Need-same-length-20
+same-length-20 c = omega (arith, c .before .before .before .before .before .before .before .before .before .before .before .before .before .before .before .before .before .before .before .before .before .before .before .before .before .before .before .before .before .round .kept, c .before .before .before .before .before .before .before .before .conclude .kept)
+
+same-length-21 : tie.Need-same-length-21
+same-length-21 c = omega (arith, c .before .before .before .before .before .before .before .before .before .before .before .before .before .before .before .before .before .before .before .before .before .before .before .before .before .before .before .before .before .round .kept, c .before .before .before .before .before .before .before .before .conclude .kept)
+
+same-length-22 : tie.Need-same-length-22
+same-length-22 c = omega (arith, c .before .before .before .before .before .before .before .before .before .before .before .before .before .before .before .before .before .before .before .before .before .before .before .before .before .before .before .before .before .round .kept, c .before .before .before .before .before .before .before .before .conclude .kept)
+
+returns-8 : tie.Need-returns-8
+returns-8 c = newton-3 (c .before .before .before .before .before .before .before .before .before .before .before .before .before .before .before .before .before .before .before .before .before .before .before .before .before .before .before .before .before .before .before .before .before .before .before .before .before .before .before .before .before .before .before .before .before .before .before .before .before .before .before .before .before .before .before .before .before .before .before .before .before .args .run) (c .before .before .before .before .before .before .before .before .before .before .before .before .before .before .before .before .before .before .before .before .before .before .before .before .before .before .before .before .before .before .before .before .before .before .before .before .before .before .before .before .before .before .before .before .before .before .before .before .before .before .before .before .before .before .before .before .before .before .before .before .before .args .reply) (memory-at (c .before .before .before .before .before .before .before .before .before .before .before .before .before .before .before .before .before .before .before .before .before .before .before .before .before .before .before .before .before .before .before .before .before .before .before .before .before .before .before .before .before .before .before .before .before .before .before .before .before .before .before .before .before .before .before .before .before .before .before .before .before)) _ _ _ (c .before .before .before .before .before .before .before .before .before .before .before .before .before .before .before .before .before .before .before .before .before .before .before .before .before .before .before .before .before .before .before .before .before .before .before .before .before .enum-told7 .given .1) (c .before .before .before .before .before .before .before .before .before .before .before .before .before .before .before .before .before .before .before .before .before .before .before .before .before .before .before .before .before .round .ensures) (c .before .before .before .before .before .before .before .before .conclude .ensures _ (c .before .before .before .before .before .before .before .before .before .before .before .before .before .before .before .before .before .before .before .before .before .before .before .before .before .before .before .before .before .before .before .before .before .before .before .before .before .before .before .before .before .before .before .before .before .before .before .before .before .before .before .before .before .before .before .before .before .before .before .before .before .args .rtol .now) (c .before .before .before .before .before .before .before .before .before .before .before .before .before .before .before .before .before .before .before .before .before .before .before .before .before .before .before .before .before .before .before .before .before .before .before .before .before .before .before .before .before .before .before .before .before .before .before .before .before .before .before .before .before .before .before .before .before .before .before .before .before .args .atol .now) (c .before .before .before .before .before .before .before .before .before .before .before .before .before .before .before .before .before .before .before .before .before .before .before .before .before .before .before .before .before .before .before .before .before .before .before .before .before .before .before .before .before .before .before .before .before .before .before .before .before .before .before .before .before .before .before .before .before .before .before .before .before .args .jac .now) (c .before .before .before .before .before .before .before .before .before .before .before .before .before .before .before .before .before .before .before .before .before .before .before .before .before .before .before .before .before .before .before .before .before .before .before .before .before .before .before .before .before .before .before .before .before .before .before .before .before .before .before .before .before .before .before .before .before .before .before .before .before .args .e2r .now) (c .before .before .before .before .before .before .before .before .before .before .before .before .before .before .before .before .before .before .before .before .before .before .before .before .before .before .before .before .before .before .before .before .before .before .before .before .before .before .before .before .before .before .before .before .before .before .before .before .before .before .before .before .before .before .before .before .before .before .before .before .before .args .e2i .now) (c .before .before .before .before .before .before .before .before .before .before .before .before .before .before .before .before .before .before .before .before .before .before .before .before .before .before .before .before .before .before .before .before .before .before .before .before .before .before .before .before .before .before .before .before .before .before .before .before .before .before .before .before .before .before .before .before .before .before .before .before .before .args .ip2 .now) (differences-at (c .before .before .before .before .before .before .before .before .before .before .before .before .before .before .before .before .before .before .before .before .before .before .before .before .before .before .before .before .before .before .before .before .before .before .before .before .before .before .before .before .before .before .before .before .before .before .before .before .before .before .before .before .before .before .before .before .before .before .before .before .before)))
+
+same-length-23 : tie.Need-same-length-23
+same-length-23 c = omega (arith, c .before .before .before .before .refined .kept)
+
+same-length-24 : tie.Need-same-length-24
+same-length-24 c = omega (arith, c .before .before .before .before .refined .kept)
+
+same-length-25 : tie.Need-same-length-25
+same-length-25 c = omega (arith, c .before .before .before .before .refined .kept)
+
+same-length-26 : tie.Need-same-length-26
+same-length-26 c = omega (arith, c .before .before .before .before .refined .kept)
+
+same-length-27 : tie.Need-same-length-27
+same-length-27 c = omega (arith, c .before .before .before .before .refined .kept)
+
+same-length-28 : tie.Need-same-length-28
+same-length-28 c = omega (arith, c .before .before .before .before .refined .kept)
+
+same-length-29 : tie.Need-same-length-29
+same-length-29 c = omega (arith, c .before .before .before .before .refined .kept)
+
+same-length-30 : tie.Need-same-length-30
+same-length-30 c = omega (arith, c .before .before .before .before .refined .kept)
+
+returns-9 : tie.Need-returns-9
+returns-9 c = refinement (c .before .before .before .before .before .before .before .before .before .before .before .before .before .before .before .before .before .before .before .before .before .before .before .before .before .before .before .before .before .before .before .before .before .before .before .before .before .args .run) (c .before .before .before .before .before .before .before .before .before .before .before .before .before .before .before .before .before .before .before .before .before .before .before .before .before .before .before .before .before .before .before .before .before .before .before .before .before .args .reply) (memory-at (c .before .before .before .before .before .before .before .before .before .before .before .before .before .before .before .before .before .before .before .before .before .before .before .before .before .before .before .before .before .before .before .before .before .before .before .before .before)) _ _ _ (c .before .before .before .before .before .before .before .before .before .before .before .before .before .enum-told8 .given .1) (c .before .before .before .before .refined .ensures (c .before .before .before .before .before .before .before .before .before .before .before .before .before .before .before .before .before .before .before .before .before .before .before .before .before .before .before .before .before .before .before .before .before .before .before .before .before .args .f3 .now))
+
+same-length-31 : tie.Need-same-length-31
+same-length-31 c = omega (arith, c .before .before .before .scaled .kept)
+
+same-length-32 : tie.Need-same-length-32
+same-length-32 c = omega (arith, c .before .before .before .scaled .kept)
+
+returns-10 : tie.Need-returns-10
+returns-10 c = accepted-there (c .before .before .before .before .before .before .before .before .before .before .before .before .before .before .before .before .before .before .before .before .before .before .before .before .before .before .before .before .before .before .before .before .args .run) (c .before .before .before .before .before .before .before .before .before .before .before .before .before .before .before .before .before .before .before .before .before .before .before .before .before .before .before .before .before .before .before .before .args .reply) (memory-at (c .before .before .before .before .before .before .before .before .before .before .before .before .before .before .before .before .before .before .before .before .before .before .before .before .before .before .before .before .before .before .before .before)) _ _ (c .before .before .before .before .before .before .before .before .enum-told9 .given .1) (c .ask-report .ensures) (c .before .before .before .scaled .ensures)
+
+returns-11 : tie.Need-returns-11
+returns-11 c = report-answered (c .before .before .before .before .before .before .before .before .before .before .before .before .before .before .before .before .before .before .before .before .before .before .before .before .before .before .args .run) (c .before .before .before .before .before .before .before .before .before .before .before .before .before .before .before .before .before .before .before .before .before .before .before .before .before .before .args .reply) (memory-at (c .before .before .before .before .before .before .before .before .before .before .before .before .before .before .before .before .before .before .before .before .before .before .before .before .before .before)) _ _ (c .before .before .enum-told10 .given .1) (c .before .reported2 .ensures) (c .returned .ensures)
+
+returns-12 : tie.Need-returns-12
+returns-12 c = derivative-again (c .before .before .before .before .before .before .before .before .before .before .before .before .before .before .before .before .before .before .before .before .before .before .before .before .before .args .run) (c .before .before .before .before .before .before .before .before .before .before .before .before .before .before .before .before .before .before .before .before .before .before .before .before .before .args .reply) (memory-at (c .before .before .before .before .before .before .before .before .before .before .before .before .before .before .before .before .before .before .before .before .before .before .before .before .before)) _ (c .before .enum-told11 .given .1) (c .arrived .ensures)
+
+returns-13 : tie.Need-returns-13
+returns-13 c = ended-already (c .before .before .before .before .before .before .before .before .before .before .before .before .before .before .before .before .before .before .before .before .before .before .before .before .before .before .args .run) (c .before .before .before .before .before .before .before .before .before .before .before .before .before .before .before .before .before .before .before .before .before .before .before .before .before .before .args .reply) (memory-at (c .before .before .before .before .before .before .before .before .before .before .before .before .before .before .before .before .before .before .before .before .before .before .before .before .before .before)) _ _ (c .before .before .stage2 .given .1) (c .ended .ensures)
+
+pub replied-spec : {M : Type 1} → statement M
+replied-spec =
+    tie.close
+    (tie.spec
+    enum-told (λ c κs. search needs)
+    enum-told-2
+    reported-requires
+    started-requires
+    enum-told-3
+    started-requires-2
+    enum-told-4
+    enum-known-stage
+    column-requires
+    enum-told-5
+    ask-stage-requires
+    enum-told-6
+    ask-stage-requires-2
+    enum-told-7
+    round-requires
+    conclude-requires
+    enum-told-8
+    refined-requires
+    enum-told-9
+    scaled-requires (λ c κs. search needs)
+    enum-told-10
+    reported-requires-2 (λ c κs. search needs)
+    enum-told-11 (λ c κs. search needs)
+    enum-known-stage-2 (λ c κs. search needs)
+    returns
+    same-length
+    same-length-2
+    returns-2
+    same-length-3
+    same-length-4
+    returns-3
+    returns-4
+    same-length-5
+    same-length-6
+    same-length-7
+    returns-5
+    same-length-8
+    same-length-9
+    same-length-10
+    returns-6
+    same-length-11
+    same-length-12
+    same-length-13
+    returns-7
+    same-length-14
+    same-length-15
+    same-length-16
+    same-length-17
+    same-length-18
+    same-length-19
+    same-length-20
+    same-length-21
+    same-length-22
+    returns-8
+    same-length-23
+    same-length-24
+    same-length-25
+    same-length-26
+    same-length-27
+    same-length-28
+    same-length-29
+    same-length-30
+    returns-9
+    same-length-31
+    same-length-32
+    returns-10
+    returns-11
+    returns-12
+    returns-13)

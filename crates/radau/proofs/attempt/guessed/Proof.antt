@@ -1,0 +1,12 @@
+-- `guessed` meets its contract.
+use mathlib.Core.Path.{refl}
+use Rattle.radau.specs.Attempt.{guessed}
+use Rattle.radau.proofs.attempt.guessed.Statement.{statement}
+use Rattle.radau.proofs.attempt.guessed.Tie as tie
+
+returns : tie.Need-returns
+unfolding guessed
+returns c = refl
+
+pub guessed-spec : {M : Type 1} → statement M
+guessed-spec = tie.close (tie.spec returns)

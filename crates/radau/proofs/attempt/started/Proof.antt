@@ -1,0 +1,10 @@
+-- `started` meets its contract.
+use borrow.Author.Needs.{needs}
+use Rattle.radau.proofs.attempt.started.Statement.{statement}
+use Rattle.radau.proofs.attempt.started.Tie as tie
+
+returns : tie.Need-returns
+returns c = rw (c .before .before .abs .ensures, c .before .before .before .before .four-fifths .ensures, c .before .before .before .before .before .max .ensures)
+
+pub started-spec : {M : Type 1} → statement M
+started-spec = tie.close (tie.spec (λ c κs. search needs) (λ c κs. search needs) (λ c κs. search needs) returns)

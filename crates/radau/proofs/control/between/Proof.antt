@@ -1,0 +1,12 @@
+-- `between` meets its contract.
+use borrow.Author.Needs.{needs}
+use Rattle.radau.specs.Judge.{between}
+use Rattle.radau.proofs.control.between.Statement.{statement}
+use Rattle.radau.proofs.control.between.Tie as tie
+
+returns : tie.Need-returns
+unfolding between
+returns c = rw (c .max .ensures, c .before .min .ensures)
+
+pub between-spec : {M : Type 1} → statement M
+between-spec = tie.close (tie.spec (λ c κs. search needs) (λ c κs. search needs) returns)

@@ -1,0 +1,13 @@
+-- `error` meets its contract.
+use borrow.Author.Needs.{needs}
+use Rattle.radau.specs.Estimate.{errorOf}
+use Rattle.radau.proofs.estimate.error.Statement.{statement}
+use Rattle.radau.proofs.estimate.error.Tie as tie
+
+returns : tie.Need-returns
+unfolding errorOf
+returns c = rw (c .max .ensures, c .before .sqrt .ensures, c .before .before .as-float .ensures, c .before .before .before .error-sum .ensures)
+
+pub error-spec : {M : Type 1} → statement M
+error-spec =
+    tie.close (tie.spec (λ c κs. search needs) (λ c κs. search needs) (λ c κs. search needs) (λ c κs. search needs) returns)

@@ -1,0 +1,28 @@
+-- `real_tried` meets its contract: a failure, or E1 decomposed and then E2.
+use borrow.Author.Needs.{needs}
+use Rattle.radau.proofs.PassLaws.{real-failed, real-done}
+use Rattle.state.specs.Memory.{factors}
+use Rattle.radau.proofs.FitLaws.{counted-fit}
+use Rattle.radau.proofs.passes.real_tried.Statement.{statement}
+use Rattle.radau.proofs.passes.real_tried.Tie as tie
+
+failed-requires : tie.Need-failed-requires
+failed-requires c κs = rw (c .before .before .counted .ensures) (c .before .before .before .before .before .before .before .before .before .before .before .before .before .before .before .before .pre .failures)
+
+returns : tie.Need-returns
+returns c = real-failed _ (factors _ _ _ _ _) (c .before .before .before .before .before .before .before .before .lu-decomp .result) _ (c .before .before .before .counted .ensures) (c .before .before .is-err .result) (c .before .before .is-err .ensures) _ (c .before .before .before .before .before .before .before .before .lu-decomp .ensures) (c .before .if1 .taken) (c .failed .ensures)
+
+complex-tried-requires : tie.Need-complex-tried-requires
+complex-tried-requires c κs = rw (c .before .before .before .before .before .before .before .counted .ensures) (counted-fit (c .before .before .before .before .before .before .before .before .before .before .before .before .before .before .before .before .before .before .before .before .before .pre))
+
+returns-2 : tie.Need-returns-2
+returns-2 c = real-done _ (factors _ _ _ _ _) (c .before .before .before .before .before .before .before .before .before .before .before .before .before .before .before .before .before .before .before .lu-decomp .result) _ (c .before .before .before .before .before .before .before .before .before .before .before .before .before .before .counted .ensures) (c .before .before .before .before .before .before .before .before .before .before .before .before .before .is-err .result) (c .before .before .before .before .before .before .before .before .before .before .before .before .before .is-err .ensures) _ (c .before .before .before .before .before .before .before .before .before .before .before .before .before .before .before .before .before .before .before .lu-decomp .ensures) (c .before .before .before .before .before .before .before .before .before .before .before .before .if1 .left) (c .before .before .before .before .before .before .complex-tried .ensures)
+
+pub real-tried-spec : {M : Type 1} → statement M
+real-tried-spec =
+    tie.close
+    (tie.spec (λ c κs. search needs) (λ c κs. search needs) (λ c κs. search needs)
+    failed-requires (λ c. search needs) (λ c. search needs)
+    returns
+    complex-tried-requires (λ c. search needs) (λ c. search needs) (λ c. search needs) (λ c. search needs) (λ c. search needs)
+    returns-2)

@@ -1,0 +1,34 @@
+-- `again` meets its contract.
+use mathlib.Core.Path.{ap}
+use native.Mathlib.Omega.{arith}
+use borrow.Author.Tests.{le-leb, lt-leb}
+use Rattle.radau.specs.declared.step.Step.{Step}
+use Rattle.radau.specs.declared.step.Step.the-variants as step
+use Rattle.radau.specs.Attempt.{Staged}
+use Rattle.radau.specs.Newton.{resumed, againOf}
+use Rattle.radau.proofs.LogLaws.{core-yes, core-no}
+use Rattle.radau.proofs.round.again.Statement.{statement}
+use Rattle.radau.proofs.round.again.Tie as tie
+
+failed-requires : tie.Need-failed-requires
+failed-requires c κs = c .before .before .before .before .before .pre .0 .failures
+
+returns : tie.Need-returns
+unfolding againOf
+returns c = core-yes _ _ (le-leb _ _ (c .before .if1 .taken)) (ap (λ (s : Step). resumed s (c .before .before .before .before .before .before .args .cont .now)) (c .failed .ensures))
+
+ask-first-requires : tie.Need-ask-first-requires
+ask-first-requires c κs = (c .before .before .before .before .before .before .pre .0, c .before .before .before .before .before .before .pre .1)
+
+returns-2 : tie.Need-returns-2
+unfolding againOf
+returns-2 c = core-no _ _ (lt-leb _ _ (c .before .before .before .before .if1 .left)) (ap (λ (s : Staged). resumed (step.Asked (s .call)) (s .cont)) (c .before .before .ask-first .ensures))
+
+pub again-spec : {M : Type 1} → statement M
+again-spec =
+    tie.close
+    (tie.spec
+    failed-requires
+    returns
+    ask-first-requires (λ c. omega arith)
+    returns-2)

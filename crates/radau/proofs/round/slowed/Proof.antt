@@ -1,0 +1,31 @@
+-- `slowed` meets its contract.
+use native.Mathlib.Omega.{arith}
+use borrow.Author.Needs.{needs}
+use Rattle.radau.proofs.RoundLaws.{slowed-by}
+use Rattle.radau.proofs.round.slowed.Statement.{statement}
+use Rattle.radau.proofs.round.slowed.Tie as tie
+
+sub-remaining : tie.Need-sub-remaining
+sub-remaining c = omega (arith, c .before .before .before .pre)
+
+sub-remaining-2 : tie.Need-sub-remaining-2
+sub-remaining-2 c = omega (arith, c .before .before .before .before .pre)
+
+add-order : tie.Need-add-order
+add-order c = omega (arith, c .before .before .before .before .pre .0 .limit)
+
+add-rejected : tie.Need-add-rejected
+add-rejected c = omega (arith, c .before .before .before .before .before .before .before .before .before .pre .0 .rejected)
+
+returns : tie.Need-returns
+returns c = slowed-by (c .before .before .before .before .before .before .before .before .before .before .before .before .args .run) (c .before .before .before .before .before .before .before .before .before .before .before .before .args .dyth) _ _ _ (c .before .before .before .before .before .before .before .before .before .before .before .min .ensures) (c .before .before .before .before .before .before .before .before .before .before .max .ensures) (c .before .before .before .before .before .before .before .inverse-root .ensures) _ (c .slow-round .ensures)
+
+pub slowed-spec : {M : Type 1} → statement M
+slowed-spec =
+    tie.close
+    (tie.spec (λ c κs. search needs) (λ c κs. search needs)
+    sub-remaining
+    sub-remaining-2
+    add-order (λ c κs. search needs)
+    add-rejected (λ c κs. search needs)
+    returns)

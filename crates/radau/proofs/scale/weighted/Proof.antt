@@ -1,0 +1,15 @@
+-- `weighted` meets its contract: its two divisions are the definition's.
+use borrow.Author.Needs.{needs}
+use Rattle.radau.specs.Scale.{weightedOf}
+use Rattle.radau.proofs.scale.weighted.Statement.{statement}
+use Rattle.radau.proofs.scale.weighted.Tie as tie
+
+returns : tie.Need-returns
+unfolding weightedOf
+returns c = rw (c .before .before .divide2 .ensures, c .before .before .before .before .power .ensures, c .before .before .before .before .before .before .before .divide .ensures)
+
+pub weighted-spec : {M : Type 1} → statement M
+weighted-spec =
+    tie.close
+    (tie.spec (λ c. search needs) (λ c. search needs) (λ c κs. search needs) (λ c κs. search needs) (λ c κs. search needs) (λ c. search needs)
+    returns)

@@ -1,0 +1,334 @@
+// An advance: a reply takes the run from one call of the host in `solve` to the next.
+use crate::attempt::ask_stage;
+use crate::attempt::attempt;
+use crate::jacobian::ask_jacobian;
+use crate::jacobian::column;
+use crate::judge::estimate;
+use crate::judge::refined;
+use crate::passes::ended;
+use crate::passes::passes;
+use crate::report::arrived;
+use crate::report::ask_first_report;
+use crate::report::ask_report;
+use crate::report::reported;
+use crate::round::again;
+use crate::round::round;
+use crate::scale::scaled;
+use crate::step::Call;
+use crate::step::Round;
+use crate::step::Step;
+use crate::step::Told;
+use opening::admission::admission;
+use scalar::coefficients::C2;
+use state::run::Run;
+use state::run::Stage;
+use state::talk::Answer;
+use state::talk::Place;
+use state::talk::Reply;
+use state::talk::Verdict;
+ghost use mathlib.Core.Path.{_≡_};
+ghost use Prim.Native.Nat.{ℕ, _*_, _≤_};
+ghost use mathlib.Core.List.{List};
+ghost use lib.ListN.{length};
+ghost use lib.Ieee.{Float};
+ghost use Rattle.words.specs.Grid.{Square};
+ghost use Rattle.state.specs.Memory.{Newton, Given, Factors, Differences, memory, amounts, newton, given, factors, differences};
+ghost use Rattle.radau.specs.Advance.{stepped, startedOf, returnedOf, concludeOf, repliedOf, called, calledOf, outcome, advanceOf};
+ghost use Rattle.radau.specs.Needs.{Fit, StepFit, RoundFit, ToldFit, MemoryLong, NewtonLong, StageFit};
+
+// Past the first report: the scale, then the passes.
+fn started(told: Told, rtol: &[f64], atol: &[f64], y: &[f64], scal: &mut [f64]) -> Step
+    requires { ⌜ ToldFit 15 (length (now y)) told × (length (now rtol) ≡ length (now y)) × (length (now atol) ≡ length (now y)) × (length (now scal) ≡ length (now y)) ⌝ }
+    ensures { λ r. ⌜ ((f0 cont mass jac : List Float) (z : Newton) (f : Factors) (d : Differences) → stepped r (memory (amounts (now (y .entry)) f0 (now (scal .exit)) cont) z (given (now (rtol .entry)) (now (atol .entry)) mass jac) f d) ≡ startedOf told (memory (amounts (now (y .entry)) f0 (now (scal .entry)) cont) z (given (now (rtol .entry)) (now (atol .entry)) mass jac) f d)) ⌝ }
+{
+    match told {
+        Told::Asked(call) => Step::Asked(call),
+        Told::Reported(run) => {
+            let shape = run.shape;
+            let fixed = run.fixed;
+            let tolerances = fixed.tolerances;
+            scaled(shape.n, tolerances, rtol, atol, y, scal);
+            Step::Main(run)
+        }
+    }
+}
+
+// Past a later one.
+fn returned(told: Told) -> Step
+    ensures { λ r. ⌜ r ≡ returnedOf told .core ⌝ }
+{
+    match told {
+        Told::Asked(call) => Step::Asked(call),
+        Told::Reported(run) => arrived(run),
+    }
+}
+
+// Past a round of the Newton iteration.
+fn conclude(
+    verdict: Round,
+    mass: &[f64],
+    e1: &[f64],
+    ip1: &[usize],
+    f0: &[f64],
+    scal: &[f64],
+    y: &mut [f64],
+    cont: &mut [f64],
+    z1: &[f64],
+    z2: &[f64],
+    z3: &[f64],
+    f1: &mut [f64],
+    f2: &mut [f64],
+) -> Step
+    requires { ⌜ RoundFit 15 (length (now y)) verdict × Square (length (now y)) (now mass) × (length (now f0) ≡ length (now y)) × (length (now scal) ≡ length (now y)) × (length (now cont) ≡ 4 * length (now y)) ⌝ }
+    requires { ⌜ (length (now z1) ≡ length (now y)) × (length (now z2) ≡ length (now y)) × (length (now z3) ≡ length (now y)) × (length (now f1) ≡ length (now y)) × (length (now f2) ≡ length (now y)) ⌝ }
+    ensures { λ r. ⌜ ((f3 rtol atol jac e2r e2i : List Float) (ip2 : List ℕ) (d : Differences) → stepped r (memory (amounts (now (y .exit)) (now (f0 .entry)) (now (scal .entry)) (now (cont .exit))) (newton (now (z1 .entry)) (now (z2 .entry)) (now (z3 .entry)) (now (f1 .exit)) (now (f2 .exit)) f3) (given rtol atol (now (mass .entry)) jac) (factors (now (e1 .entry)) e2r e2i (now (ip1 .entry)) ip2) d) ≡ concludeOf verdict (memory (amounts (now (y .entry)) (now (f0 .entry)) (now (scal .entry)) (now (cont .entry))) (newton (now (z1 .entry)) (now (z2 .entry)) (now (z3 .entry)) (now (f1 .entry)) (now (f2 .entry)) f3) (given rtol atol (now (mass .entry)) jac) (factors (now (e1 .entry)) e2r e2i (now (ip1 .entry)) ip2) d) .core) ⌝ }
+{
+    match verdict {
+        Round::Newton(run) => again(run, y, z1, cont),
+        Round::Estimate(run) => {
+            estimate(run, mass, e1, ip1, f0, scal, y, cont, z1, z2, z3, f1, f2)
+        }
+        Round::Over(step) => step,
+    }
+}
+
+// What a reply of the kind asked for leads to, stage by stage.
+fn replied(
+    run: Run,
+    reply: Reply,
+    y: &mut [f64],
+    f0: &[f64],
+    scal: &mut [f64],
+    cont: &mut [f64],
+    z1: &mut [f64],
+    z2: &mut [f64],
+    z3: &mut [f64],
+    f1: &mut [f64],
+    f2: &mut [f64],
+    f3: &mut [f64],
+    rtol: &[f64],
+    atol: &[f64],
+    mass: &[f64],
+    jac: &mut [f64],
+    e1: &[f64],
+    e2r: &[f64],
+    e2i: &[f64],
+    ip1: &[usize],
+    ip2: &[usize],
+    y_perturbed: &mut [f64],
+    f_perturbed: &[f64],
+    f_origin: &[f64],
+) -> Step
+    requires { ⌜ Fit 16 (run .shape .n) run × StageFit (run .shape .n) run ⌝ }
+    requires { ⌜ MemoryLong (run .shape .n) (memory (amounts (now y) (now f0) (now scal) (now cont)) (newton (now z1) (now z2) (now z3) (now f1) (now f2) (now f3)) (given (now rtol) (now atol) (now mass) (now jac)) (factors (now e1) (now e2r) (now e2i) (now ip1) (now ip2)) (differences (now «y_perturbed») (now «f_perturbed») (now «f_origin»))) ⌝ }
+    ensures { λ r. ⌜ stepped r (memory (amounts (now (y .exit)) (now (f0 .entry)) (now (scal .exit)) (now (cont .exit))) (newton (now (z1 .exit)) (now (z2 .exit)) (now (z3 .exit)) (now (f1 .exit)) (now (f2 .exit)) (now (f3 .exit))) (given (now (rtol .entry)) (now (atol .entry)) (now (mass .entry)) (now (jac .exit))) (factors (now (e1 .entry)) (now (e2r .entry)) (now (e2i .entry)) (now (ip1 .entry)) (now (ip2 .entry))) (differences (now («y_perturbed» .exit)) (now («f_perturbed» .entry)) (now («f_origin» .entry)))) ≡ repliedOf (run .stage) reply run (memory (amounts (now (y .entry)) (now (f0 .entry)) (now (scal .entry)) (now (cont .entry))) (newton (now (z1 .entry)) (now (z2 .entry)) (now (z3 .entry)) (now (f1 .entry)) (now (f2 .entry)) (now (f3 .entry))) (given (now (rtol .entry)) (now (atol .entry)) (now (mass .entry)) (now (jac .entry))) (factors (now (e1 .entry)) (now (e2r .entry)) (now (e2i .entry)) (now (ip1 .entry)) (now (ip2 .entry))) (differences (now («y_perturbed» .entry)) (now («f_perturbed» .entry)) (now («f_origin» .entry)))) .core ⌝ }
+{
+    let stage = run.stage;
+    match stage {
+        Stage::FirstDerivative => Step::Asked(ask_first_report(run)),
+        Stage::FirstReport => {
+            let told = reported(run, Stage::FirstDerivativeAgain, reply);
+            started(told, rtol, atol, y, scal)
+        }
+        Stage::FirstDerivativeAgain => started(Told::Reported(run), rtol, atol, y, scal),
+        Stage::Jacobian => Step::Matrices(run),
+        Stage::Column(c) => column(run, c, y, y_perturbed, f_perturbed, f_origin, jac),
+        Stage::Newton1 => {
+            let x = run.numbers.x + C2 * run.numbers.h;
+            Step::Asked(ask_stage(run, Stage::Newton2, x, Place::ContToZ2, y, z2, cont))
+        }
+        Stage::Newton2 => {
+            let x = run.numbers.xph;
+            Step::Asked(ask_stage(run, Stage::Newton3, x, Place::ContToZ3, y, z3, cont))
+        }
+        Stage::Newton3 => {
+            let verdict = round(
+                run,
+                mass,
+                scal,
+                e1,
+                e2r,
+                e2i,
+                ip1,
+                ip2,
+                z1,
+                z2,
+                z3,
+                f1,
+                f2,
+                f3,
+            );
+            conclude(
+                verdict,
+                mass,
+                e1,
+                ip1,
+                f0,
+                scal,
+                y,
+                cont,
+                z1,
+                z2,
+                z3,
+                f1,
+                f2,
+            )
+        }
+        Stage::Refinement => refined(run, e1, ip1, scal, y, cont, z1, z2, z3, f1, f2),
+        Stage::Accepted => {
+            let shape = run.shape;
+            let fixed = run.fixed;
+            let tolerances = fixed.tolerances;
+            scaled(shape.n, tolerances, rtol, atol, y, scal);
+            Step::Asked(ask_report(run))
+        }
+        Stage::Report => returned(reported(run, Stage::DerivativeAgain, reply)),
+        Stage::DerivativeAgain => arrived(run),
+        Stage::Ended(status) => Step::Asked(ended(run, status)),
+    }
+}
+
+// Past the matrices: the call that is open, a Jacobian, or an attempt.
+fn called(
+    step: Step,
+    y: &[f64],
+    scal: &mut [f64],
+    cont: &mut [f64],
+    z1: &mut [f64],
+    z2: &mut [f64],
+    z3: &mut [f64],
+    f1: &mut [f64],
+    f2: &mut [f64],
+    f3: &mut [f64],
+    y_perturbed: &mut [f64],
+    f_perturbed: &mut [f64],
+    f_origin: &mut [f64],
+) -> Call
+    requires { ⌜ StepFit 2 (length (now y)) step × (length (now scal) ≡ length (now y)) × (length (now cont) ≡ 4 * length (now y)) × NewtonLong (length (now y)) (newton (now z1) (now z2) (now z3) (now f1) (now f2) (now f3)) ⌝ }
+    requires { ⌜ (length (now «y_perturbed») ≡ length (now y)) × (length (now «f_perturbed») ≡ length (now y)) × (length (now «f_origin») ≡ length (now y)) ⌝ }
+    ensures { λ r. ⌜ ((f0 : List Float) (g : Given) (f : Factors) → called r (memory (amounts (now (y .entry)) f0 (now (scal .exit)) (now (cont .exit))) (newton (now (z1 .exit)) (now (z2 .exit)) (now (z3 .exit)) (now (f1 .exit)) (now (f2 .exit)) (now (f3 .exit))) g f (differences (now («y_perturbed» .exit)) (now («f_perturbed» .exit)) (now («f_origin» .exit)))) ≡ calledOf step (memory (amounts (now (y .entry)) f0 (now (scal .entry)) (now (cont .entry))) (newton (now (z1 .entry)) (now (z2 .entry)) (now (z3 .entry)) (now (f1 .entry)) (now (f2 .entry)) (now (f3 .entry))) g f (differences (now («y_perturbed» .entry)) (now («f_perturbed» .entry)) (now («f_origin» .entry)))) .core) ⌝ }
+{
+    match step {
+        Step::Asked(call) => call,
+        Step::Main(run) => ask_jacobian(run, y, y_perturbed, f_perturbed, f_origin),
+        Step::Matrices(run) => ask_jacobian(run, y, y_perturbed, f_perturbed, f_origin),
+        Step::Attempt(run) => attempt(run, y, scal, cont, z1, z2, z3, f1, f2, f3),
+    }
+}
+
+// A reply of the host to the run that it answers.
+pub struct Turn {
+    pub run: Run,
+    pub reply: Reply,
+}
+
+impl Turn {
+    // The next request, or the refusal; the new state of the run comes back inside the answer. A refusal writes nothing.
+    pub fn advance(
+        self,
+        y: &mut [f64],
+        f0: &[f64],
+        scal: &mut [f64],
+        cont: &mut [f64],
+        z1: &mut [f64],
+        z2: &mut [f64],
+        z3: &mut [f64],
+        f1: &mut [f64],
+        f2: &mut [f64],
+        f3: &mut [f64],
+        rtol: &[f64],
+        atol: &[f64],
+        mass: &[f64],
+        jac: &mut [f64],
+        e1: &mut [f64],
+        e2r: &mut [f64],
+        e2i: &mut [f64],
+        ip1: &mut [usize],
+        ip2: &mut [usize],
+        y_perturbed: &mut [f64],
+        f_perturbed: &mut [f64],
+        f_origin: &mut [f64],
+    ) -> Answer
+        ensures { λ r. ⌜ outcome r (memory (amounts (now (y .exit)) (now (f0 .entry)) (now (scal .exit)) (now (cont .exit))) (newton (now (z1 .exit)) (now (z2 .exit)) (now (z3 .exit)) (now (f1 .exit)) (now (f2 .exit)) (now (f3 .exit))) (given (now (rtol .entry)) (now (atol .entry)) (now (mass .entry)) (now (jac .exit))) (factors (now (e1 .exit)) (now (e2r .exit)) (now (e2i .exit)) (now (ip1 .exit)) (now (ip2 .exit))) (differences (now («y_perturbed» .exit)) (now («f_perturbed» .exit)) (now («f_origin» .exit)))) ≡ advanceOf (self .run) (self .reply) (memory (amounts (now (y .entry)) (now (f0 .entry)) (now (scal .entry)) (now (cont .entry))) (newton (now (z1 .entry)) (now (z2 .entry)) (now (z3 .entry)) (now (f1 .entry)) (now (f2 .entry)) (now (f3 .entry))) (given (now (rtol .entry)) (now (atol .entry)) (now (mass .entry)) (now (jac .entry))) (factors (now (e1 .entry)) (now (e2r .entry)) (now (e2i .entry)) (now (ip1 .entry)) (now (ip2 .entry))) (differences (now («y_perturbed» .entry)) (now («f_perturbed» .entry)) (now («f_origin» .entry)))) .core ⌝ }
+    {
+        let run = self.run;
+        let reply = self.reply;
+        match admission(
+            run,
+            reply,
+            y,
+            f0,
+            scal,
+            cont,
+            z1,
+            z2,
+            z3,
+            f1,
+            f2,
+            f3,
+            rtol,
+            atol,
+            mass,
+            jac,
+            e1,
+            e2r,
+            e2i,
+            ip1,
+            ip2,
+            y_perturbed,
+            f_perturbed,
+            f_origin,
+        ) {
+            Verdict::Refused(refusal) => Answer::Refused(run, refusal),
+            Verdict::Passed => {
+                let step = replied(
+                    run,
+                    reply,
+                    y,
+                    f0,
+                    scal,
+                    cont,
+                    z1,
+                    z2,
+                    z3,
+                    f1,
+                    f2,
+                    f3,
+                    rtol,
+                    atol,
+                    mass,
+                    jac,
+                    e1,
+                    e2r,
+                    e2i,
+                    ip1,
+                    ip2,
+                    y_perturbed,
+                    f_perturbed,
+                    f_origin,
+                );
+                let shape = run.shape;
+                let step = passes(shape.n, step, mass, jac, e1, e2r, e2i, ip1, ip2);
+                let call = called(
+                    step,
+                    y,
+                    scal,
+                    cont,
+                    z1,
+                    z2,
+                    z3,
+                    f1,
+                    f2,
+                    f3,
+                    y_perturbed,
+                    f_perturbed,
+                    f_origin,
+                );
+                let run = call.run;
+                let request = call.request;
+                let place = call.place;
+                Answer::Asked(run, request, place)
+            }
+        }
+    }
+}

@@ -1,0 +1,16 @@
+// The solver: a run is advanced from one request to the next, with the bits of `solve` (radau.rs).
+// The offered function equals a definition of specs/ for every input, so it asks nothing of its caller.
+pub mod advance;
+mod attempt;
+mod control;
+mod entries;
+mod estimate;
+mod jacobian;
+mod judge;
+mod matrices;
+mod newton;
+mod passes;
+mod report;
+mod round;
+mod scale;
+mod step;

@@ -1,0 +1,5 @@
+-- In order of reading.
+pub mod Word
+pub mod Settings
+pub mod Found
+pub mod Count

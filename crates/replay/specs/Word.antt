@@ -1,0 +1,53 @@
+-- What the words of a case stand for.
+use Prim.Native.Nat.{ℕ, _+_, _-_, _*_, _/_, _%_}
+use mathlib.Core.Bool.{Bool, true, _&&_}
+use mathlib.Core.List.{List}
+use lib.Dec.{eqb, leb, ltb}
+use lib.ListN.{length, getD}
+use lib.Ieee.{Float, binary64, ne, toBits}
+use Rattle.words.specs.Loop.{pick, loop}
+use Rattle.replay.specs.declared.word.Word.{Word}
+use Rattle.replay.specs.declared.word.Word.the-variants.{Value, Wrong}
+use Rattle.replay.specs.declared.word.Reading.{Reading}
+use Rattle.replay.specs.declared.word.Reading.the-variants.{Good, Malformed}
+
+-- the value of a hexadecimal digit in lower case (48 is 0, 57 is 9, 97 is a, 102 is f); 16 for any other byte
+unfoldable pub digitOf : ℕ → ℕ
+digitOf byte = pick (ltb byte 48) 16 (pick (leb byte 57) (byte - 48) (pick (ltb byte 97) 16 (pick (leb byte 102) (byte - 87) 16)))
+
+-- the number that was spelled so far, and whether all bytes were digits
+pub record Spelling : Type 0 where
+  pub value : ℕ
+  pub good : Bool
+
+abbrev pub spelling : ℕ → Bool → Spelling
+spelling value good = record { value = value; good = good }
+
+unfoldable pub spelledAt : List ℕ → ℕ → Spelling → Spelling
+spelledAt text i s =
+    let next = digitOf (getD text i 0) in
+    spelling (s .value % 0x1000_0000_0000_0000 * 16 + next % 16) (s .good && ltb next 16)
+
+abbrev pub wordOf : Spelling → Word
+wordOf s = pick (s .good) (Value (s .value)) Wrong
+
+unfoldable pub spelledOf : List ℕ → ℕ → ℕ → Word
+spelledOf text from end =
+    pick (ltb (length text) end) Wrong (pick (ltb end from) Wrong (wordOf (loop (spelledAt text) from end (spelling 0 true))))
+
+-- as many as were asked for, or all that there are
+abbrev pub withinOf : ℕ → ℕ → ℕ
+withinOf count room = pick (leb count room) count room
+
+-- one of the four numbers of four digits that a word holds, the first being 0
+abbrev pub quarterOf : ℕ → ℕ → ℕ
+quarterOf word place =
+    pick (eqb place 0) (word / 0x1_0000_0000_0000)
+    (pick (eqb place 1) (word / 0x1_0000_0000 % 0x1_0000) (pick (eqb place 2) (word / 0x1_0000 % 0x1_0000) (word % 0x1_0000)))
+
+-- the pattern of a double, with one for NaN
+abbrev pub patternOf : Float → ℕ
+patternOf x = pick (ne x x) 0x7ff8_0000_0000_0000 (toBits binary64 x)
+
+abbrev pub readingOf : Bool → Reading
+readingOf good = pick good Good Malformed
