@@ -1,4 +1,5 @@
 -- An attempt begins: its two guards, the scale, the first guess of the stages, and the request for the first of them (radau.rs:421-502).
+-- Doubles by their patterns: 0x3f50_624d_d2f1_a9fc is 0.001, 0x3fb9_9999_9999_999a is 0.1; double 0 is +0.
 use Prim.Native.Nat.{ℕ, _+_, _*_}
 use mathlib.Core.Bool.{Bool}
 use mathlib.Core.List.{List, [], _∷_}

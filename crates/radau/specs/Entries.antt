@@ -1,4 +1,5 @@
 -- Entries that depend on a mode: of the mass matrix, of the Jacobian, of the tolerances; and the sums of three products that `solve` is full of.
+-- Doubles by their patterns: 0x3ff0_0000_0000_0000 is 1.0; double 0 is +0.
 use Prim.Native.Nat.{ℕ}
 use mathlib.Core.List.{List}
 use lib.Dec.{eqb}

@@ -1,4 +1,5 @@
 -- The error of an attempt whose Newton iteration is over (radau.rs:622-669).
+-- Doubles by their patterns: 0x3ddb_7cdf_d9d7_bdbb is 1e-10; double 0 is +0.
 use Prim.Native.Nat.{ℕ}
 use mathlib.Core.List.{List, _++_}
 use lib.ListN.{set, take, drop}

@@ -1,4 +1,5 @@
 -- The Jacobian: asked of the host, or made by differences of derivatives, one request for each column and one at the point itself (radau.rs:370-374; ivp.rs:67-107).
+-- Doubles by their patterns: 0x3e50_0000_0000_0000 is 2^-26, 0x3ff0_0000_0000_0000 is 1.0; double 0 is +0.
 use Prim.Native.Nat.{ℕ, suc, zero, _+_}
 use mathlib.Core.List.{List}
 use lib.Dec.{ltb}

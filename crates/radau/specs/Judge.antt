@@ -1,4 +1,5 @@
 -- The attempt is judged by its error: the next step, an acceptance or a rejection (radau.rs:649-712, 780-795).
+-- Doubles by their patterns: 0x3ff0_0000_0000_0000 is 1.0, 0x4000_0000_0000_0000 is 2.0, 0x3f84_7ae1_47ae_147b is 1e-2, 0x3fb9_9999_9999_999a is 0.1; double 0 is +0.
 use Prim.Native.Nat.{ℕ, _+_, _*_}
 use mathlib.Core.Bool.{false, _&&_, _||_}
 use mathlib.Core.List.{List, [], _∷_}

@@ -1,4 +1,5 @@
 -- The matrices E1 and E2 of a pass, and the two decompositions, with what a singular one leads to (radau.rs:376-419).
+-- Doubles by their patterns: 0x3fe0_0000_0000_0000 is 0.5; double 0 is +0.
 use Prim.Native.Nat.{ℕ, _+_}
 use mathlib.Core.Bool.{Bool, true, false, not}
 use mathlib.Core.List.{List, [], _∷_}

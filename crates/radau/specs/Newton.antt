@@ -1,4 +1,5 @@
 -- A round of the simplified Newton iteration, from the third stage's derivative to its verdict (radau.rs:512-620).
+-- Doubles by their patterns: 0x4008_0000_0000_0000 is 3.0, 0x3f1a_36e2_eb1c_432d is 1e-4, 0x4034_0000_0000_0000 is 20.0, 0x3fe9_9999_9999_999a is 0.8, 0x3ff0_0000_0000_0000 is 1.0, 0x3fef_ae14_7ae1_47ae is 0.99; double 0 is +0.
 use Prim.Native.Nat.{ℕ, _+_, _-_}
 use mathlib.Core.Bool.{false, _&&_}
 use mathlib.Core.List.{List, [], _∷_}

@@ -1,4 +1,5 @@
 -- Reports, and what follows them: the end, or the step of the next attempt (radau.rs:337-358, 719-779).
+-- Doubles by their patterns: 0x3ff0_0000_0000_0000 is 1.0, 0x3ff3_3333_3333_3333 is 1.2; double 0 is +0.
 use mathlib.Core.Bool.{Bool, true, false, _&&_, _||_}
 use mathlib.Core.List.{[], _∷_}
 use lib.Ieee.{Float, le, lt}

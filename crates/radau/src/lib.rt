@@ -1,10 +1,11 @@
 // The solver: a run is advanced from one request to the next, with the bits of `solve` (radau.rs).
-// The offered function equals a definition of specs/ for every input, so it asks nothing of its caller.
+// Each offered function is settled by its contract for every input, so it asks nothing of its caller.
 pub mod advance;
 mod attempt;
 mod control;
 mod entries;
 mod estimate;
+pub mod held;
 mod jacobian;
 mod judge;
 mod matrices;
@@ -14,3 +15,6 @@ mod report;
 mod round;
 mod scale;
 mod step;
+
+pub use advance::Turn;
+pub use held::held_step;
