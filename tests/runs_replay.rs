@@ -184,7 +184,7 @@ fn advance(run: Run, reply: Reply, m: &mut Mem) -> Answer {
     )
 }
 
-// Runs that are unfit by one clause each of document 01's list.
+// Runs that one number each makes unfit; crates/admission_cases takes document 01's clauses one by one.
 fn unfit(run: Run) -> Vec<Run> {
     let m = run.settings.max_steps;
     let k = run.settings.newton_maxiter;

@@ -1,4 +1,5 @@
 -- In order of reading.
 pub mod Fixed
+pub mod Settled
 pub mod Wrong
 pub mod Traps
