@@ -16,7 +16,8 @@ CRATES = {
     "matrix": ["words", "scalar"],
     "state": ["words"],
     "opening": ["words", "scalar", "state"],
-    "radau": ["words", "scalar", "matrix", "state", "opening"],
+    "blocks": ["words", "scalar", "matrix", "state", "opening"],
+    "radau": ["words", "scalar", "matrix", "state", "opening", "blocks"],
 }
 
 

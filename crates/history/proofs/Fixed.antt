@@ -8,7 +8,7 @@ use Rattle.state.specs.declared.talk.Opened.the-variants as opened
 use Rattle.state.specs.Memory.{Memory}
 use Rattle.opening.specs.Rows.{Opening}
 use Rattle.opening.specs.Opening as opening
-use Rattle.radau.specs.Advance.{Outcome}
+use Rattle.blocks.specs.Advance.{Outcome}
 use Rattle.history.specs.Host.{Action}
 use Rattle.history.specs.History.{Point, point, nextPoint, Allowed, Follows, FollowsOpened, History}
 

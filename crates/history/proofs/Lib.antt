@@ -1,5 +1,4 @@
 -- In order of reading.
 pub mod Fixed
-pub mod Settled
 pub mod Wrong
 pub mod Traps

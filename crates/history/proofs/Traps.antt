@@ -12,14 +12,14 @@ use Rattle.state.specs.declared.settings.Mass.the-variants.{Identity}
 use Rattle.state.specs.declared.run.Run.{Run}
 use Rattle.state.specs.declared.run.Stage.the-variants as stage
 use Rattle.state.specs.declared.run.Status.the-variants.{SingularMatrix}
-use Rattle.radau.specs.declared.step.Step.{Step}
-use Rattle.radau.specs.declared.step.Step.the-variants as step
-use Rattle.radau.specs.declared.step.Round.the-variants as round
-use Rattle.radau.specs.Setters.{_▸_, inControl, setSingular, setLast, setReject, setCallDecomp}
-use Rattle.radau.specs.Entries.{massAt}
-use Rattle.radau.specs.Matrices.{endedOf, missed, failedOf}
-use Rattle.radau.specs.Newton.{slowRound}
-use Rattle.radau.specs.Report.{isDue}
+use Rattle.blocks.specs.declared.step.Step.{Step}
+use Rattle.blocks.specs.declared.step.Step.the-variants as step
+use Rattle.blocks.specs.declared.step.Round.the-variants as round
+use Rattle.blocks.specs.Setters.{_▸_, inControl, setSingular, setLast, setReject, setCallDecomp}
+use Rattle.blocks.specs.Entries.{massAt}
+use Rattle.blocks.specs.Matrices.{endedOf, missed, failedOf}
+use Rattle.blocks.specs.Newton.{slowRound}
+use Rattle.blocks.specs.Report.{isDue}
 use Rattle.history.proofs.Wrong.{sampleAt}
 
 abbrev sample : Run

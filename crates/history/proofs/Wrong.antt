@@ -25,9 +25,9 @@ use Rattle.state.specs.Memory.{Memory, memory, amounts, newton, given, factors,
 use Rattle.opening.specs.Rows.{verdictOf}
 use Rattle.opening.specs.Admission.{askingAt, answersReport, stray, strayAt}
 use Rattle.opening.specs.Opening.{firstCounts, firstControl, firstNumbers}
-use Rattle.radau.specs.Advance.{Outcome, outcome, advanceOf, advanceBy, startedOf, repliedOf, calledOf}
-use Rattle.radau.specs.Matrices.{passesOf, passAt}
-use Rattle.radau.specs.Report.{reportedOf}
+use Rattle.blocks.specs.Advance.{Outcome, outcome, advanceOf, advanceBy, startedOf, repliedOf, calledOf}
+use Rattle.blocks.specs.Matrices.{passesOf, passAt}
+use Rattle.blocks.specs.Report.{reportedOf}
 
 -- what a solver is, for one advance, and what the contract asks of it
 abbrev pub Solver : Type 0

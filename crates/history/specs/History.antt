@@ -11,7 +11,7 @@ use Rattle.state.specs.declared.talk.Request.{Request}
 use Rattle.state.specs.Memory.{Memory}
 use Rattle.opening.specs.Rows.{Opening}
 use Rattle.opening.specs.Opening as opening
-use Rattle.radau.specs.Advance.{Outcome, advanceOf}
+use Rattle.blocks.specs.Advance.{Outcome, advanceOf}
 use Rattle.history.specs.Host.{Action, wrote}
 
 -- what stands between two advances: the run, the open request, and the memory that was handed out

@@ -14,10 +14,10 @@ use crate::report::reported;
 use crate::round::again;
 use crate::round::round;
 use crate::scale::scaled;
-use crate::step::Call;
-use crate::step::Round;
-use crate::step::Step;
-use crate::step::Told;
+use blocks::step::Call;
+use blocks::step::Round;
+use blocks::step::Step;
+use blocks::step::Told;
 use opening::admission::admission;
 use scalar::coefficients::C2;
 use state::run::Run;
@@ -33,8 +33,8 @@ ghost use lib.ListN.{length};
 ghost use lib.Ieee.{Float};
 ghost use Rattle.words.specs.Grid.{Square};
 ghost use Rattle.state.specs.Memory.{Newton, Given, Factors, Differences, memory, amounts, newton, given, factors, differences};
-ghost use Rattle.radau.specs.Advance.{stepped, startedOf, returnedOf, concludeOf, repliedOf, called, calledOf, outcome, advanceOf};
-ghost use Rattle.radau.specs.Needs.{Fit, StepFit, RoundFit, ToldFit, MemoryLong, NewtonLong, StageFit};
+ghost use Rattle.blocks.specs.Advance.{stepped, startedOf, returnedOf, concludeOf, repliedOf, called, calledOf, outcome, advanceOf};
+ghost use Rattle.blocks.specs.Needs.{Fit, StepFit, RoundFit, ToldFit, MemoryLong, NewtonLong, StageFit};
 
 // Past the first report: the scale, then the passes.
 fn started(told: Told, rtol: &[f64], atol: &[f64], y: &[f64], scal: &mut [f64]) -> Step

@@ -3,7 +3,7 @@ use crate::entries::combined;
 use crate::passes::at_stage;
 use crate::passes::ended;
 use crate::scale::weighted;
-use crate::step::Call;
+use blocks::step::Call;
 use scalar::abs;
 use scalar::coefficients::C1;
 use scalar::coefficients::C1M1;
@@ -33,8 +33,8 @@ ghost use lib.ListN.{length};
 ghost use lib.Ieee.{Float};
 ghost use Rattle.words.specs.Loop.{loop};
 ghost use Rattle.state.specs.Memory.{newton, zeros};
-ghost use Rattle.radau.specs.Attempt.{stageSumAt, staged, askStageOf, askFirstOf, guessed, guessAt, guessOf, begunAs, started, beganOf, attemptOf};
-ghost use Rattle.radau.specs.Needs.{Fit, NewtonLong};
+ghost use Rattle.blocks.specs.Attempt.{stageSumAt, staged, askStageOf, askFirstOf, guessed, guessAt, guessOf, begunAs, started, beganOf, attemptOf};
+ghost use Rattle.blocks.specs.Needs.{Fit, NewtonLong};
 
 // cont[i] = y[i] + z[i]
 fn stage_sum(n: usize, y: &[f64], z: &[f64], cont: &mut [f64])

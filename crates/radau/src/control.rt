@@ -8,7 +8,7 @@ use state::run::Run;
 use state::settings::Settings;
 ghost use mathlib.Core.Path.{_≡_};
 ghost use Prim.Native.Nat.{_+_, _≤_, _<_, _^_};
-ghost use Rattle.radau.specs.Judge.{facOf, between, quotOf, predictiveQuot, remembered, acceptedOf, rejectedOf};
+ghost use Rattle.blocks.specs.Judge.{facOf, between, quotOf, predictiveQuot, remembered, acceptedOf, rejectedOf};
 
 // The safety factor, lessened by the rounds that were needed.
 fn fac(s: Settings, newt_iter: usize) -> f64

@@ -5,14 +5,7 @@ ghost use mathlib.Core.Path.{_≡_};
 ghost use Prim.Native.Nat.{_≤_, _<_};
 ghost use lib.ListN.{length};
 ghost use Rattle.words.specs.Grid.{Square, at, put};
-ghost use Rattle.radau.specs.Entries.{massAt, jacAt, rtolAt, atolAt, asFloat, combined};
-
-// Three sums that are taken side by side.
-pub struct Sums {
-    pub sum1: f64,
-    pub sum2: f64,
-    pub sum3: f64,
-}
+ghost use Rattle.blocks.specs.Entries.{massAt, jacAt, rtolAt, atolAt, asFloat, combined};
 
 // Row r, column c of an n by n matrix.
 pub fn entry(a: &[f64], n: usize, r: usize, c: usize) -> f64

@@ -15,8 +15,8 @@ ghost use lib.ListN.{length};
 ghost use Rattle.words.specs.Words.{double};
 ghost use Rattle.words.specs.Loop.{loop};
 ghost use Rattle.words.specs.Grid.{Square};
-ghost use Rattle.radau.specs.Entries.{three};
-ghost use Rattle.radau.specs.Estimate.{defectAt, defectOf, rowSum, sides, sidesOf, solvedFirst, errorAt, errorOf, plusAt, sumAt};
+ghost use Rattle.blocks.specs.Entries.{three};
+ghost use Rattle.blocks.specs.Estimate.{defectAt, defectOf, rowSum, sides, sidesOf, solvedFirst, errorAt, errorOf, plusAt, sumAt};
 
 fn defect_by(
     n: usize,

@@ -1,8 +1,8 @@
 // The Jacobian: asked of the host, or made by differences (radau.rs:370-374; ivp.rs:67-107).
 use crate::entries::store;
 use crate::passes::at_stage;
-use crate::step::Call;
-use crate::step::Step;
+use blocks::step::Call;
+use blocks::step::Step;
 use scalar::abs;
 use scalar::max;
 use state::parts::zero;
@@ -17,9 +17,9 @@ ghost use lib.ListN.{length};
 ghost use Rattle.words.specs.Loop.{loop};
 ghost use Rattle.words.specs.Grid.{Square};
 ghost use Rattle.state.specs.Memory.{differences};
-ghost use Rattle.radau.specs.Setters.{inCounts, oneJac};
-ghost use Rattle.radau.specs.Jacobian.{asking, askJacobianOf, perturbation, columned, askColumnOf, columnAt, columnOf};
-ghost use Rattle.radau.specs.Needs.{Fit};
+ghost use Rattle.blocks.specs.Setters.{inCounts, oneJac};
+ghost use Rattle.blocks.specs.Jacobian.{asking, askJacobianOf, perturbation, columned, askColumnOf, columnAt, columnOf};
+ghost use Rattle.blocks.specs.Needs.{Fit};
 
 // Copies one part into another of the same length.
 fn copy(from: &[f64], to: &mut [f64])

@@ -10,8 +10,8 @@ use crate::estimate::solve_first;
 use crate::estimate::sum;
 use crate::passes::at_stage;
 use crate::passes::counted;
-use crate::step::Call;
-use crate::step::Step;
+use blocks::step::Call;
+use blocks::step::Step;
 use scalar::coefficients::C1;
 use scalar::coefficients::C1M1;
 use scalar::coefficients::C1MC2;
@@ -28,11 +28,11 @@ ghost use lib.ListN.{length};
 ghost use lib.Ieee.{Float};
 ghost use Rattle.words.specs.Grid.{Square};
 ghost use Rattle.state.specs.Memory.{newton};
-ghost use Rattle.radau.specs.Entries.{three};
-ghost use Rattle.radau.specs.Judge.{moved, movedOf, askAccepted, judged, judgedOf, estimated, testedOf, estimateOf, refinedOf};
-ghost use Rattle.radau.specs.Setters.{inCounts, oneOde, atStage};
-ghost use Rattle.radau.specs.Matrices.{call};
-ghost use Rattle.radau.specs.Needs.{Fit, NewtonLong};
+ghost use Rattle.blocks.specs.Entries.{three};
+ghost use Rattle.blocks.specs.Judge.{moved, movedOf, askAccepted, judged, judgedOf, estimated, testedOf, estimateOf, refinedOf};
+ghost use Rattle.blocks.specs.Setters.{inCounts, oneOde, atStage};
+ghost use Rattle.blocks.specs.Matrices.{call};
+ghost use Rattle.blocks.specs.Needs.{Fit, NewtonLong};
 
 // The new amounts, and the coefficients of the dense output.
 fn moved(n: usize, z1: &[f64], z2: &[f64], z3: &[f64], y: &mut [f64], cont: &mut [f64])

@@ -1,4 +1,4 @@
-// The solver: a run is advanced from one request to the next, with the bits of `solve` (radau.rs).
+// The solver: a run is advanced from one request to the next, with the bits of `solve` (radau.rs). Its definitions, and the laws that its proofs cite, stand in `blocks`.
 // Each offered function is settled by its contract for every input, so it asks nothing of its caller.
 pub mod advance;
 mod attempt;
@@ -14,7 +14,6 @@ mod passes;
 mod report;
 mod round;
 mod scale;
-mod step;
 
 pub use advance::Turn;
 pub use held::held_step;

@@ -9,8 +9,8 @@ use state::settings::Mass;
 ghost use mathlib.Core.Path.{_≡_};
 ghost use Prim.Native.Nat.{_<_};
 ghost use Rattle.words.specs.Grid.{Square};
-ghost use Rattle.radau.specs.Entries.{three};
-ghost use Rattle.radau.specs.Matrices.{buildRow, builtOf};
+ghost use Rattle.blocks.specs.Entries.{three};
+ghost use Rattle.blocks.specs.Matrices.{buildRow, builtOf};
 
 fn build_row(
     mode: Mass,

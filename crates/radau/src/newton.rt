@@ -1,8 +1,8 @@
 // The right sides of a Newton round, their solution, its norm, and the increments that it gives: loops over z1, z2, z3 and f1, f2, f3 (radau.rs:513-560, 601-612).
-use crate::entries::Sums;
 use crate::entries::as_float;
 use crate::entries::combined;
 use crate::entries::mass_at;
+use blocks::sums::Sums;
 use matrix::lin_solve;
 use matrix::lin_solve_complex;
 use scalar::coefficients::ALPH;
@@ -33,9 +33,9 @@ ghost use Rattle.words.specs.Words.{double};
 ghost use Rattle.words.specs.Loop.{loop};
 ghost use Rattle.words.specs.Grid.{Square};
 ghost use Rattle.state.specs.Memory.{newton, factors};
-ghost use Rattle.radau.specs.Entries.{three};
-ghost use Rattle.radau.specs.Newton.{transformAt, massSums, massAddAt, rightSides, solvedOf, normAt, dynoOf, addAt, backAt, updatedOf};
-ghost use Rattle.radau.specs.Needs.{NewtonLong, FactorsLong};
+ghost use Rattle.blocks.specs.Entries.{three};
+ghost use Rattle.blocks.specs.Newton.{transformAt, massSums, massAddAt, rightSides, solvedOf, normAt, dynoOf, addAt, backAt, updatedOf};
+ghost use Rattle.blocks.specs.Needs.{NewtonLong, FactorsLong};
 
 fn transform(n: usize, z1: &mut [f64], z2: &mut [f64], z3: &mut [f64])
     requires { ⌜ (length (now z1) ≡ n) × (length (now z2) ≡ n) × (length (now z3) ≡ n) ⌝ }

@@ -1,7 +1,7 @@
 // The decompositions of a pass, and what a failure leads to (radau.rs:390-419).
 use crate::matrices::built;
-use crate::step::Call;
-use crate::step::Step;
+use blocks::step::Call;
+use blocks::step::Step;
 use matrix::Decomposed;
 use matrix::lu_decomp;
 use matrix::lu_decomp_complex;
@@ -16,9 +16,9 @@ ghost use Prim.Native.Nat.{_+_, _≤_, _<_, _^_};
 ghost use lib.ListN.{length};
 ghost use Rattle.words.specs.Grid.{Square};
 ghost use Rattle.state.specs.Memory.{factors};
-ghost use Rattle.radau.specs.Setters.{inCounts, oneLu, atStage};
-ghost use Rattle.radau.specs.Matrices.{call, endedOf, missed, failedOf, isErr, tried, complexTriedOf, realTriedOf, triedOf, passesOn, runOf, passesOf};
-ghost use Rattle.radau.specs.Needs.{Fit, StepFit, FactorsLong};
+ghost use Rattle.blocks.specs.Setters.{inCounts, oneLu, atStage};
+ghost use Rattle.blocks.specs.Matrices.{call, endedOf, missed, failedOf, isErr, tried, complexTriedOf, realTriedOf, triedOf, passesOn, runOf, passesOf};
+ghost use Rattle.blocks.specs.Needs.{Fit, StepFit, FactorsLong};
 
 // The same run at another stage.
 pub fn at_stage(run: Run, stage: Stage) -> Run

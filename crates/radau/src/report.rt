@@ -2,9 +2,9 @@
 use crate::judge::ask_derivative;
 use crate::passes::at_stage;
 use crate::passes::ended;
-use crate::step::Call;
-use crate::step::Step;
-use crate::step::Told;
+use blocks::step::Call;
+use blocks::step::Step;
+use blocks::step::Told;
 use scalar::abs;
 use scalar::clamp;
 use scalar::min;
@@ -18,8 +18,8 @@ use state::talk::Reply;
 use state::talk::Request;
 ghost use mathlib.Core.Path.{_≡_};
 ghost use Prim.Native.Nat.{_+_, _<_, _^_};
-ghost use Rattle.radau.specs.Setters.{inNumbers, setXout};
-ghost use Rattle.radau.specs.Report.{askFirstReport, isDue, askReport, reportedOf, hnewOf, freshOf, grownOf, renewedOf, arrivedOf};
+ghost use Rattle.blocks.specs.Setters.{inNumbers, setXout};
+ghost use Rattle.blocks.specs.Report.{askFirstReport, isDue, askReport, reportedOf, hnewOf, freshOf, grownOf, renewedOf, arrivedOf};
 
 pub fn ask_first_report(run: Run) -> Call
     ensures { λ r. ⌜ r ≡ askFirstReport run ⌝ }

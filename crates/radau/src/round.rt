@@ -6,8 +6,8 @@ use crate::newton::solve_systems;
 use crate::newton::updated;
 use crate::passes::failed;
 use crate::passes::missed;
-use crate::step::Round;
-use crate::step::Step;
+use blocks::step::Round;
+use blocks::step::Step;
 use scalar::inverse_root;
 use scalar::max;
 use scalar::min;
@@ -22,8 +22,8 @@ ghost use lib.ListN.{length};
 ghost use lib.Ieee.{Float};
 ghost use Rattle.words.specs.Grid.{Square};
 ghost use Rattle.state.specs.Memory.{newton, factors};
-ghost use Rattle.radau.specs.Newton.{rounded, concludedOf, slowRound, remaining, slowedOf, predictedOf, rateOf, pacedOf, judgedRound, roundOf, resumed, againOf};
-ghost use Rattle.radau.specs.Needs.{Fit, NewtonLong, FactorsLong};
+ghost use Rattle.blocks.specs.Newton.{rounded, concludedOf, slowRound, remaining, slowedOf, predictedOf, rateOf, pacedOf, judgedRound, roundOf, resumed, againOf};
+ghost use Rattle.blocks.specs.Needs.{Fit, NewtonLong, FactorsLong};
 
 // The new increments, and whether they are near enough.
 fn concluded(

@@ -9,7 +9,7 @@ ghost use mathlib.Core.Path.{_≡_};
 ghost use Prim.Native.Nat.{_+_, _≤_};
 ghost use lib.ListN.{length};
 ghost use Rattle.words.specs.Loop.{loop};
-ghost use Rattle.radau.specs.Scale.{scaledOf, divideAt, weightedOf};
+ghost use Rattle.blocks.specs.Scale.{scaledOf, divideAt, weightedOf};
 
 pub fn scaled(
     n: usize,

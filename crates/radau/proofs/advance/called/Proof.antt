@@ -1,7 +1,7 @@
 -- `called` meets its contract, by the four steps past the matrices.
 use borrow.Author.Needs.{needs}
 use Rattle.state.specs.Memory.{memory, amounts, newton, differences}
-use Rattle.radau.proofs.AdvanceLaws.{called-asked, called-main, called-matrices, called-attempt, main-fits, matrices-fits, attempt-fits, jacobian-asks, attempt-asks}
+use Rattle.blocks.proofs.AdvanceLaws.{called-asked, called-main, called-matrices, called-attempt, main-fits, matrices-fits, attempt-fits, jacobian-asks, attempt-asks}
 use Rattle.radau.proofs.advance.called.Statement.{statement}
 use Rattle.radau.proofs.advance.called.Tie as tie
 

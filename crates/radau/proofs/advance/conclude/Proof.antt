@@ -2,7 +2,7 @@
 use mathlib.Core.Path.{refl}
 use borrow.Author.Needs.{needs}
 use Rattle.state.specs.Memory.{memory, amounts, newton, given, factors}
-use Rattle.radau.proofs.AdvanceLaws.{conclude-again, conclude-estimates, conclude-over, newton-fits, estimate-fits, again-asks, estimate-asks}
+use Rattle.blocks.proofs.AdvanceLaws.{conclude-again, conclude-estimates, conclude-over, newton-fits, estimate-fits, again-asks, estimate-asks}
 use Rattle.radau.proofs.advance.conclude.Statement.{statement}
 use Rattle.radau.proofs.advance.conclude.Tie as tie
 

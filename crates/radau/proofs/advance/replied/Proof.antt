@@ -2,8 +2,8 @@
 use native.Mathlib.Omega.{arith}
 use borrow.Author.Needs.{needs}
 use Rattle.state.specs.Memory.{Memory, memory, amounts, Newton, newton, given, Factors, factors, Differences, differences}
-use Rattle.radau.proofs.AdvanceLaws.{first-derivative, first-report, first-again, jacobian-made, column-made, newton-1, newton-2, newton-3, refinement, accepted-there, report-answered, derivative-again, ended-already}
-use Rattle.radau.proofs.RepliedLaws.{told-asks, again-told, round-asks, column-asks, square-at}
+use Rattle.blocks.proofs.AdvanceLaws.{first-derivative, first-report, first-again, jacobian-made, column-made, newton-1, newton-2, newton-3, refinement, accepted-there, report-answered, derivative-again, ended-already}
+use Rattle.blocks.proofs.RepliedLaws.{told-asks, again-told, round-asks, column-asks, square-at}
 use Rattle.radau.proofs.advance.replied.Statement.{statement}
 use Rattle.radau.proofs.advance.replied.Tie as tie
 

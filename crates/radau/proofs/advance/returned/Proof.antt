@@ -1,6 +1,6 @@
 -- `returned` meets its contract.
 use borrow.Author.Needs.{needs}
-use Rattle.radau.specs.Advance.{returnedOf}
+use Rattle.blocks.specs.Advance.{returnedOf}
 use Rattle.radau.proofs.advance.returned.Statement.{statement}
 use Rattle.radau.proofs.advance.returned.Tie as tie
 

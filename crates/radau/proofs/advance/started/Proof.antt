@@ -2,7 +2,7 @@
 use native.Mathlib.Omega.{arith}
 use borrow.Author.Needs.{needs}
 use Rattle.state.specs.Memory.{memory, amounts, given}
-use Rattle.radau.proofs.AdvanceLaws.{started-asked, started-on, told-fits}
+use Rattle.blocks.proofs.AdvanceLaws.{started-asked, started-on, told-fits}
 use Rattle.radau.proofs.advance.started.Statement.{statement}
 use Rattle.radau.proofs.advance.started.Tie as tie
 

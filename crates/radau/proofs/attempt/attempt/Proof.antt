@@ -1,7 +1,7 @@
 -- `attempt` meets its contract: the ways out are those of proofs/AttemptLaws.antt.
 use borrow.Author.Needs.{needs}
 use Rattle.state.specs.Memory.{Newton, newton}
-use Rattle.radau.proofs.AttemptLaws.{counted-fit, attempt-over, attempt-small, attempt-begun}
+use Rattle.blocks.proofs.AttemptLaws.{counted-fit, attempt-over, attempt-small, attempt-begun}
 use Rattle.radau.proofs.attempt.attempt.Statement.{statement}
 use Rattle.radau.proofs.attempt.attempt.Tie as tie
 

@@ -2,7 +2,7 @@
 use mathlib.Core.Path.{_∙_}
 use borrow.Author.Needs.{needs}
 use Rattle.state.specs.Memory.{Newton, newton}
-use Rattle.radau.proofs.AttemptLaws.{started-fit, began-by}
+use Rattle.blocks.proofs.AttemptLaws.{started-fit, began-by}
 use Rattle.radau.proofs.attempt.began.Statement.{statement}
 use Rattle.radau.proofs.attempt.began.Tie as tie
 

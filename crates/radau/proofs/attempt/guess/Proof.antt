@@ -2,8 +2,8 @@
 use borrow.Author.Needs.{needs}
 use Rattle.words.proofs.Branch.{no}
 use Rattle.state.specs.Memory.{newton}
-use Rattle.radau.specs.Attempt.{guessOf}
-use Rattle.radau.proofs.AttemptLaws.{guess-zeros}
+use Rattle.blocks.specs.Attempt.{guessOf}
+use Rattle.blocks.proofs.AttemptLaws.{guess-zeros}
 use Rattle.radau.proofs.attempt.guess.Statement.{statement}
 use Rattle.radau.proofs.attempt.guess.Tie as tie
 

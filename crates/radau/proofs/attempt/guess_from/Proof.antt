@@ -6,8 +6,8 @@ use lib.ListN.{length-set}
 use borrow.Author.Needs.{needs}
 use Rattle.words.proofs.Loops.{Ran, begun, turned, ended}
 use Rattle.state.specs.Memory.{newton}
-use Rattle.radau.specs.Attempt.{guessAt}
-use Rattle.radau.specs.Needs.{NewtonLong}
+use Rattle.blocks.specs.Attempt.{guessAt}
+use Rattle.blocks.specs.Needs.{NewtonLong}
 use Rattle.radau.proofs.attempt.guess_from.Statement.{statement}
 use Rattle.radau.proofs.attempt.guess_from.Tie as tie
 

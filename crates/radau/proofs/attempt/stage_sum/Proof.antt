@@ -4,7 +4,7 @@ use mathlib.Core.Path.{refl}
 use native.Mathlib.Omega.{arith}
 use lib.ListN.{length-set}
 use Rattle.words.proofs.Loops.{Ran, Long, begun, turned, ended}
-use Rattle.radau.specs.Attempt.{stageSumAt}
+use Rattle.blocks.specs.Attempt.{stageSumAt}
 use Rattle.radau.proofs.attempt.stage_sum.Statement.{statement}
 use Rattle.radau.proofs.attempt.stage_sum.Tie as tie
 

@@ -1,6 +1,6 @@
 -- `accepted` meets its contract: the way is that of proofs/JudgeLaws.antt.
 use borrow.Author.Needs.{needs}
-use Rattle.radau.proofs.JudgeLaws.{accepted-by}
+use Rattle.blocks.proofs.JudgeLaws.{accepted-by}
 use Rattle.radau.proofs.control.accepted.Statement.{statement}
 use Rattle.radau.proofs.control.accepted.Tie as tie
 

@@ -2,7 +2,7 @@
 use mathlib.Core.Path.{refl}
 use borrow.Author.Needs.{needs}
 use Rattle.words.proofs.Branch.{yes, no}
-use Rattle.radau.specs.Judge.{predictiveQuot}
+use Rattle.blocks.specs.Judge.{predictiveQuot}
 use Rattle.radau.proofs.control.predictive_quot.Statement.{statement}
 use Rattle.radau.proofs.control.predictive_quot.Tie as tie
 

@@ -1,7 +1,7 @@
 -- `rejected` meets its contract.
 use borrow.Author.Needs.{needs}
 use Rattle.words.proofs.Branch.{yes, no}
-use Rattle.radau.specs.Judge.{rejectedOf}
+use Rattle.blocks.specs.Judge.{rejectedOf}
 use Rattle.radau.proofs.control.rejected.Statement.{statement}
 use Rattle.radau.proofs.control.rejected.Tie as tie
 

@@ -1,6 +1,6 @@
 -- `atol_at` meets its contract.
 use borrow.Author.Needs.{needs}
-use Rattle.radau.specs.Entries.{atolAt}
+use Rattle.blocks.specs.Entries.{atolAt}
 use Rattle.radau.proofs.entries.atol_at.Statement.{statement}
 use Rattle.radau.proofs.entries.atol_at.Tie as tie
 

@@ -1,6 +1,6 @@
 -- `jac_at` meets its contract.
 use borrow.Author.Needs.{needs}
-use Rattle.radau.specs.Entries.{jacAt}
+use Rattle.blocks.specs.Entries.{jacAt}
 use Rattle.radau.proofs.entries.jac_at.Statement.{statement}
 use Rattle.radau.proofs.entries.jac_at.Tie as tie
 

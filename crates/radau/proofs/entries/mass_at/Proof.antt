@@ -2,7 +2,7 @@
 use borrow.Author.Needs.{needs}
 use borrow.Author.Tests.{eq-eqb, ne-eqb}
 use Rattle.words.proofs.Branch.{pick-yes, pick-no}
-use Rattle.radau.specs.Entries.{massAt}
+use Rattle.blocks.specs.Entries.{massAt}
 use Rattle.radau.proofs.entries.mass_at.Statement.{statement}
 use Rattle.radau.proofs.entries.mass_at.Tie as tie
 

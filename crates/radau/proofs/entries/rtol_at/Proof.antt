@@ -1,6 +1,6 @@
 -- `rtol_at` meets its contract.
 use borrow.Author.Needs.{needs}
-use Rattle.radau.specs.Entries.{rtolAt}
+use Rattle.blocks.specs.Entries.{rtolAt}
 use Rattle.radau.proofs.entries.rtol_at.Statement.{statement}
 use Rattle.radau.proofs.entries.rtol_at.Tie as tie
 

@@ -5,8 +5,8 @@ use native.Mathlib.Omega.{arith}
 use lib.ListN.{length-set}
 use borrow.Author.Needs.{needs}
 use Rattle.words.proofs.Loops.{Ran, begun, turned, ended, Long}
-use Rattle.radau.specs.Entries.{three}
-use Rattle.radau.specs.Estimate.{defectAt}
+use Rattle.blocks.specs.Entries.{three}
+use Rattle.blocks.specs.Estimate.{defectAt}
 use Rattle.radau.proofs.estimate.defect_by.Statement.{statement}
 use Rattle.radau.proofs.estimate.defect_by.Tie as tie
 

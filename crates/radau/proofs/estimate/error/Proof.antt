@@ -1,6 +1,6 @@
 -- `error` meets its contract.
 use borrow.Author.Needs.{needs}
-use Rattle.radau.specs.Estimate.{errorOf}
+use Rattle.blocks.specs.Estimate.{errorOf}
 use Rattle.radau.proofs.estimate.error.Statement.{statement}
 use Rattle.radau.proofs.estimate.error.Tie as tie
 

@@ -5,8 +5,8 @@ use native.Mathlib.Omega.{arith}
 use lib.ListN.{length-set}
 use borrow.Author.Needs.{needs}
 use Rattle.words.proofs.Loops.{Ran, begun, turned, ended}
-use Rattle.radau.specs.Estimate.{Sides, sides, sideAt, sidesOf}
-use Rattle.radau.proofs.JudgeLaws.{Both}
+use Rattle.blocks.specs.Estimate.{Sides, sides, sideAt, sidesOf}
+use Rattle.blocks.proofs.JudgeLaws.{Both}
 use Rattle.radau.proofs.estimate.error_sides.Statement.{statement}
 use Rattle.radau.proofs.estimate.error_sides.Tie as tie
 

@@ -3,7 +3,7 @@ use Prim.Native.Nat.{_-_}
 use mathlib.Core.Path.{refl}
 use native.Mathlib.Omega.{arith}
 use Rattle.words.proofs.Loops.{Ran, begun, turned, ended, Any}
-use Rattle.radau.specs.Estimate.{errorAt}
+use Rattle.blocks.specs.Estimate.{errorAt}
 use Rattle.radau.proofs.estimate.error_sum.Statement.{statement}
 use Rattle.radau.proofs.estimate.error_sum.Tie as tie
 

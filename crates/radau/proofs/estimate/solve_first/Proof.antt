@@ -7,7 +7,7 @@ use mathlib.Core.List.{_++_}
 use lib.ListN.{drop, length-take}
 use lib.Ieee.{Float}
 use Rattle.matrix.specs.Answers.{Solution}
-use Rattle.radau.specs.Estimate.{solvedFirst}
+use Rattle.blocks.specs.Estimate.{solvedFirst}
 use Rattle.radau.proofs.estimate.solve_first.Statement.{statement}
 use Rattle.radau.proofs.estimate.solve_first.Tie as tie
 

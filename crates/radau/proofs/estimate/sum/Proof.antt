@@ -4,7 +4,7 @@ use mathlib.Core.Path.{refl}
 use native.Mathlib.Omega.{arith}
 use lib.ListN.{length-set}
 use Rattle.words.proofs.Loops.{Ran, begun, turned, ended, Long}
-use Rattle.radau.specs.Estimate.{sumAt}
+use Rattle.blocks.specs.Estimate.{sumAt}
 use Rattle.radau.proofs.estimate.sum.Statement.{statement}
 use Rattle.radau.proofs.estimate.sum.Tie as tie
 

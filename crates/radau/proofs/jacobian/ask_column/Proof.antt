@@ -1,6 +1,6 @@
 -- `ask_column` meets its contract.
 use borrow.Author.Needs.{needs}
-use Rattle.radau.specs.Jacobian.{askColumnOf}
+use Rattle.blocks.specs.Jacobian.{askColumnOf}
 use Rattle.radau.proofs.jacobian.ask_column.Statement.{statement}
 use Rattle.radau.proofs.jacobian.ask_column.Tie as tie
 

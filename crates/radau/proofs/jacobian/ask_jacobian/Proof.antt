@@ -1,7 +1,7 @@
 -- `ask_jacobian` meets its contract.
 use borrow.Author.Needs.{needs}
-use Rattle.radau.specs.Jacobian.{askJacobianBy}
-use Rattle.radau.proofs.JacobianLaws.{asked-by}
+use Rattle.blocks.specs.Jacobian.{askJacobianBy}
+use Rattle.blocks.proofs.JacobianLaws.{asked-by}
 use Rattle.radau.proofs.jacobian.ask_jacobian.Statement.{statement}
 use Rattle.radau.proofs.jacobian.ask_jacobian.Tie as tie
 

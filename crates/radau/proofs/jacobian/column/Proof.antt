@@ -4,7 +4,7 @@ use mathlib.Core.Path.{refl}
 use native.Mathlib.Omega.{arith}
 use lib.ListN.{length-set}
 use borrow.Author.Needs.{needs}
-use Rattle.radau.proofs.JacobianLaws.{column-first, column-next, column-last}
+use Rattle.blocks.proofs.JacobianLaws.{column-first, column-next, column-last}
 use Rattle.radau.proofs.jacobian.column.Statement.{statement}
 use Rattle.radau.proofs.jacobian.column.Tie as tie
 

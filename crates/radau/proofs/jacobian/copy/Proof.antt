@@ -2,7 +2,7 @@
 use Prim.Native.Nat.{_-_}
 use native.Mathlib.Omega.{arith}
 use lib.ListN.{length}
-use Rattle.radau.proofs.JacobianLaws.{Copied, copying, copied-next, copied}
+use Rattle.blocks.proofs.JacobianLaws.{Copied, copying, copied-next, copied}
 use Rattle.radau.proofs.jacobian.copy.Statement.{statement}
 use Rattle.radau.proofs.jacobian.copy.Tie as tie
 

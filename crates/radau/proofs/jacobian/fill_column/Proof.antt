@@ -5,7 +5,7 @@ use native.Mathlib.Omega.{arith}
 use borrow.Author.Needs.{needs}
 use Rattle.words.specs.Grid.{Square}
 use Rattle.words.proofs.Loops.{Ran, begun, turned, ended}
-use Rattle.radau.specs.Jacobian.{columnAt}
+use Rattle.blocks.specs.Jacobian.{columnAt}
 use Rattle.radau.proofs.jacobian.fill_column.Statement.{statement}
 use Rattle.radau.proofs.jacobian.fill_column.Tie as tie
 

@@ -3,8 +3,8 @@ use mathlib.Core.Path.{ap}
 use native.Mathlib.Omega.{arith}
 use borrow.Author.Needs.{needs}
 use Rattle.state.specs.declared.run.Run.{Run}
-use Rattle.radau.proofs.JudgeLaws.{estimate-by}
-use Rattle.radau.proofs.FitLaws.{counted-fit}
+use Rattle.blocks.proofs.JudgeLaws.{estimate-by}
+use Rattle.blocks.proofs.FitLaws.{counted-fit}
 use Rattle.radau.proofs.judge.estimate.Statement.{statement}
 use Rattle.radau.proofs.judge.estimate.Tie as tie
 

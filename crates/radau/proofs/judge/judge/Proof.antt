@@ -1,7 +1,7 @@
 -- `judge` meets its contract: the ways out are those of proofs/JudgeLaws.antt.
 use borrow.Author.Needs.{needs}
-use Rattle.radau.specs.Entries.{three}
-use Rattle.radau.proofs.JudgeLaws.{accepted-room, judge-accepted, judge-rejected}
+use Rattle.blocks.specs.Entries.{three}
+use Rattle.blocks.proofs.JudgeLaws.{accepted-room, judge-accepted, judge-rejected}
 use Rattle.radau.proofs.judge.judge.Statement.{statement}
 use Rattle.radau.proofs.judge.judge.Tie as tie
 

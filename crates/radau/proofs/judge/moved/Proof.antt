@@ -4,9 +4,9 @@ use mathlib.Core.Path.{refl}
 use native.Mathlib.Omega.{arith}
 use lib.ListN.{length-set}
 use Rattle.words.proofs.Loops.{Ran, begun, turned, ended}
-use Rattle.radau.specs.Entries.{three}
-use Rattle.radau.specs.Judge.{Moved, moved, moveAt, movedOf}
-use Rattle.radau.proofs.JudgeLaws.{Both}
+use Rattle.blocks.specs.Entries.{three}
+use Rattle.blocks.specs.Judge.{Moved, moved, moveAt, movedOf}
+use Rattle.blocks.proofs.JudgeLaws.{Both}
 use Rattle.radau.proofs.judge.moved.Statement.{statement}
 use Rattle.radau.proofs.judge.moved.Tie as tie
 

@@ -1,7 +1,7 @@
 -- `refined` meets its contract: the way is that of proofs/JudgeLaws.antt.
 use mathlib.Core.Path.{_∙_}
 use borrow.Author.Needs.{needs}
-use Rattle.radau.proofs.JudgeLaws.{refined-by}
+use Rattle.blocks.proofs.JudgeLaws.{refined-by}
 use Rattle.radau.proofs.judge.refined.Statement.{statement}
 use Rattle.radau.proofs.judge.refined.Tie as tie
 

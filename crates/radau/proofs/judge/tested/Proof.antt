@@ -1,8 +1,8 @@
 -- `tested` meets its contract: the ways out are those of proofs/JudgeLaws.antt.
 use mathlib.Core.Path.{_∙_}
 use borrow.Author.Needs.{needs}
-use Rattle.radau.specs.Entries.{three}
-use Rattle.radau.proofs.JudgeLaws.{tested-asked, tested-judged}
+use Rattle.blocks.specs.Entries.{three}
+use Rattle.blocks.proofs.JudgeLaws.{tested-asked, tested-judged}
 use Rattle.radau.proofs.judge.tested.Statement.{statement}
 use Rattle.radau.proofs.judge.tested.Tie as tie
 

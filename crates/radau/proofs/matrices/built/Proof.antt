@@ -4,9 +4,9 @@ use mathlib.Core.Path.{refl}
 use native.Mathlib.Omega.{arith}
 use borrow.Author.Needs.{needs}
 use Rattle.words.proofs.Loops.{Ran, begun, turned, ended}
-use Rattle.radau.specs.Entries.{three}
-use Rattle.radau.specs.Matrices.{buildRow, builtOf}
-use Rattle.radau.proofs.MatrixLaws.{Squares}
+use Rattle.blocks.specs.Entries.{three}
+use Rattle.blocks.specs.Matrices.{buildRow, builtOf}
+use Rattle.blocks.proofs.MatrixLaws.{Squares}
 use Rattle.radau.proofs.matrices.built.Statement.{statement}
 use Rattle.radau.proofs.matrices.built.Tie as tie
 

@@ -3,9 +3,9 @@ use Prim.Native.Nat.{_-_}
 use mathlib.Core.Path.{refl}
 use native.Mathlib.Omega.{arith}
 use Rattle.words.proofs.Loops.{Ran, begun, turned, ended}
-use Rattle.radau.specs.Entries.{three}
-use Rattle.radau.specs.Newton.{addAt}
-use Rattle.radau.proofs.ThreeLaws.{ThreeLong, three-set}
+use Rattle.blocks.specs.Entries.{three}
+use Rattle.blocks.specs.Newton.{addAt}
+use Rattle.blocks.proofs.ThreeLaws.{ThreeLong, three-set}
 use Rattle.radau.proofs.newton.add.Statement.{statement}
 use Rattle.radau.proofs.newton.add.Tie as tie
 

@@ -4,9 +4,9 @@ use mathlib.Core.Path.{refl}
 use native.Mathlib.Omega.{arith}
 use borrow.Author.Needs.{needs}
 use Rattle.words.proofs.Loops.{Ran, begun, turned, ended}
-use Rattle.radau.specs.Entries.{three}
-use Rattle.radau.specs.Newton.{massAddAt, addSums}
-use Rattle.radau.proofs.ThreeLaws.{ThreeLong, three-set}
+use Rattle.blocks.specs.Entries.{three}
+use Rattle.blocks.specs.Newton.{massAddAt, addSums}
+use Rattle.blocks.proofs.ThreeLaws.{ThreeLong, three-set}
 use Rattle.radau.proofs.newton.mass_add.Statement.{statement}
 use Rattle.radau.proofs.newton.mass_add.Tie as tie
 

@@ -4,8 +4,8 @@ use mathlib.Core.Path.{refl}
 use native.Mathlib.Omega.{arith}
 use borrow.Author.Needs.{needs}
 use Rattle.words.proofs.Loops.{Ran, Any, begun, turned, ended}
-use Rattle.radau.specs.Entries.{three}
-use Rattle.radau.specs.Newton.{normAt}
+use Rattle.blocks.specs.Entries.{three}
+use Rattle.blocks.specs.Newton.{normAt}
 use Rattle.radau.proofs.newton.norm_sum.Statement.{statement}
 use Rattle.radau.proofs.newton.norm_sum.Tie as tie
 

@@ -1,7 +1,7 @@
 -- `right_sides` meets its contract.
 use native.Mathlib.Omega.{arith}
 use borrow.Author.Needs.{needs}
-use Rattle.radau.specs.Newton.{rightSides}
+use Rattle.blocks.specs.Newton.{rightSides}
 use Rattle.radau.proofs.newton.right_sides.Statement.{statement}
 use Rattle.radau.proofs.newton.right_sides.Tie as tie
 

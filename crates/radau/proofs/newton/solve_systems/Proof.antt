@@ -1,7 +1,7 @@
 -- `solve_systems` meets its contract.
 use native.Mathlib.Omega.{arith}
 use borrow.Author.Needs.{needs}
-use Rattle.radau.specs.Newton.{solvedOf}
+use Rattle.blocks.specs.Newton.{solvedOf}
 use Rattle.radau.proofs.newton.solve_systems.Statement.{statement}
 use Rattle.radau.proofs.newton.solve_systems.Tie as tie
 

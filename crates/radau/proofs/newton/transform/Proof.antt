@@ -4,9 +4,9 @@ use mathlib.Core.Path.{refl}
 use native.Mathlib.Omega.{arith}
 use borrow.Author.Needs.{needs}
 use Rattle.words.proofs.Loops.{Ran, begun, turned, ended}
-use Rattle.radau.specs.Entries.{three}
-use Rattle.radau.specs.Newton.{transformAt}
-use Rattle.radau.proofs.ThreeLaws.{ThreeLong, three-set}
+use Rattle.blocks.specs.Entries.{three}
+use Rattle.blocks.specs.Newton.{transformAt}
+use Rattle.blocks.proofs.ThreeLaws.{ThreeLong, three-set}
 use Rattle.radau.proofs.newton.transform.Statement.{statement}
 use Rattle.radau.proofs.newton.transform.Tie as tie
 

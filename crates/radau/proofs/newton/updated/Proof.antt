@@ -1,7 +1,7 @@
 -- `updated` meets its contract.
 use native.Mathlib.Omega.{arith}
 use borrow.Author.Needs.{needs}
-use Rattle.radau.specs.Newton.{updatedOf}
+use Rattle.blocks.specs.Newton.{updatedOf}
 use Rattle.radau.proofs.newton.updated.Statement.{statement}
 use Rattle.radau.proofs.newton.updated.Tie as tie
 

@@ -1,6 +1,6 @@
 -- `complex_tried` meets its contract: a failure, or E2 decomposed.
 use borrow.Author.Needs.{needs}
-use Rattle.radau.proofs.PassLaws.{complex-failed, complex-done}
+use Rattle.blocks.proofs.PassLaws.{complex-failed, complex-done}
 use Rattle.state.specs.Memory.{factors}
 use Rattle.radau.proofs.passes.complex_tried.Statement.{statement}
 use Rattle.radau.proofs.passes.complex_tried.Tie as tie

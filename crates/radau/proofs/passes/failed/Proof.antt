@@ -3,8 +3,8 @@ use mathlib.Core.Path.{ap}
 use borrow.Author.Needs.{needs}
 use borrow.Author.Tests.{lt-ltb, le-ltb}
 use Rattle.words.proofs.Branch.{yes, no}
-use Rattle.radau.specs.declared.step.Step.the-variants as step
-use Rattle.radau.specs.Matrices.{failedOf}
+use Rattle.blocks.specs.declared.step.Step.the-variants as step
+use Rattle.blocks.specs.Matrices.{failedOf}
 use Rattle.radau.proofs.passes.failed.Statement.{statement}
 use Rattle.radau.proofs.passes.failed.Tie as tie
 

@@ -6,10 +6,10 @@ use borrow.Author.Needs.{needs}
 use borrow.Author.Tests.{not-true, not-false}
 use Rattle.words.proofs.Loops.{Ran, begun}
 use Rattle.state.specs.Memory.{factors}
-use Rattle.radau.specs.Matrices.{Tried, tried}
-use Rattle.radau.specs.Needs.{FactorsLong}
-use Rattle.radau.proofs.PassLaws.{passed, passes-turned, passes-stopped, passes-ended}
-use Rattle.radau.proofs.FitLaws.{next-fit, pass-asks}
+use Rattle.blocks.specs.Matrices.{Tried, tried}
+use Rattle.blocks.specs.Needs.{FactorsLong}
+use Rattle.blocks.proofs.PassLaws.{passed, passes-turned, passes-stopped, passes-ended}
+use Rattle.blocks.proofs.FitLaws.{next-fit, pass-asks}
 use Rattle.radau.proofs.passes.passes.Statement.{statement}
 use Rattle.radau.proofs.passes.passes.Tie as tie
 

@@ -1,8 +1,8 @@
 -- `real_tried` meets its contract: a failure, or E1 decomposed and then E2.
 use borrow.Author.Needs.{needs}
-use Rattle.radau.proofs.PassLaws.{real-failed, real-done}
+use Rattle.blocks.proofs.PassLaws.{real-failed, real-done}
 use Rattle.state.specs.Memory.{factors}
-use Rattle.radau.proofs.FitLaws.{counted-fit}
+use Rattle.blocks.proofs.FitLaws.{counted-fit}
 use Rattle.radau.proofs.passes.real_tried.Statement.{statement}
 use Rattle.radau.proofs.passes.real_tried.Tie as tie
 

@@ -1,6 +1,6 @@
 -- `tried` meets its contract: the matrices made and decomposed, or kept.
 use borrow.Author.Needs.{needs}
-use Rattle.radau.proofs.PassLaws.{pass-made, pass-kept}
+use Rattle.blocks.proofs.PassLaws.{pass-made, pass-kept}
 use Rattle.state.specs.Memory.{factors}
 use Rattle.radau.proofs.passes.tried.Statement.{statement}
 use Rattle.radau.proofs.passes.tried.Tie as tie

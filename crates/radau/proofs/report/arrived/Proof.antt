@@ -1,7 +1,7 @@
 -- `arrived` meets its contract.
 use borrow.Author.Needs.{needs}
-use Rattle.radau.specs.Report.{arrivedOf}
-use Rattle.radau.proofs.LogLaws.{core-yes, core-no}
+use Rattle.blocks.specs.Report.{arrivedOf}
+use Rattle.blocks.proofs.LogLaws.{core-yes, core-no}
 use Rattle.radau.proofs.report.arrived.Statement.{statement}
 use Rattle.radau.proofs.report.arrived.Tie as tie
 

@@ -1,7 +1,7 @@
 -- `hnew` meets its contract.
 use borrow.Author.Needs.{needs}
 use Rattle.words.proofs.Branch.{yes, no}
-use Rattle.radau.specs.Report.{hnewOf}
+use Rattle.blocks.specs.Report.{hnewOf}
 use Rattle.radau.proofs.report.hnew.Statement.{statement}
 use Rattle.radau.proofs.report.hnew.Tie as tie
 

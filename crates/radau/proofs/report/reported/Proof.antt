@@ -1,6 +1,6 @@
 -- `reported` meets its contract: each reply has its own answer.
 use borrow.Author.Needs.{needs}
-use Rattle.radau.specs.Report.{reportedOf}
+use Rattle.blocks.specs.Report.{reportedOf}
 use Rattle.radau.proofs.report.reported.Statement.{statement}
 use Rattle.radau.proofs.report.reported.Tie as tie
 

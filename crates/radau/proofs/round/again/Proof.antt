@@ -2,11 +2,11 @@
 use mathlib.Core.Path.{ap}
 use native.Mathlib.Omega.{arith}
 use borrow.Author.Tests.{le-leb, lt-leb}
-use Rattle.radau.specs.declared.step.Step.{Step}
-use Rattle.radau.specs.declared.step.Step.the-variants as step
-use Rattle.radau.specs.Attempt.{Staged}
-use Rattle.radau.specs.Newton.{resumed, againOf}
-use Rattle.radau.proofs.LogLaws.{core-yes, core-no}
+use Rattle.blocks.specs.declared.step.Step.{Step}
+use Rattle.blocks.specs.declared.step.Step.the-variants as step
+use Rattle.blocks.specs.Attempt.{Staged}
+use Rattle.blocks.specs.Newton.{resumed, againOf}
+use Rattle.blocks.proofs.LogLaws.{core-yes, core-no}
 use Rattle.radau.proofs.round.again.Statement.{statement}
 use Rattle.radau.proofs.round.again.Tie as tie
 

@@ -1,6 +1,6 @@
 -- `concluded` meets its contract.
 use borrow.Author.Needs.{needs}
-use Rattle.radau.proofs.RoundLaws.{concluded-far, concluded-near}
+use Rattle.blocks.proofs.RoundLaws.{concluded-far, concluded-near}
 use Rattle.radau.proofs.round.concluded.Statement.{statement}
 use Rattle.radau.proofs.round.concluded.Tie as tie
 

@@ -1,7 +1,7 @@
 -- `judged_round` meets its contract.
-use Rattle.radau.specs.Newton.{judgedRound}
-use Rattle.radau.proofs.LogLaws.{core-yes, core-no}
-use Rattle.radau.proofs.RoundLaws.{below-limit}
+use Rattle.blocks.specs.Newton.{judgedRound}
+use Rattle.blocks.proofs.LogLaws.{core-yes, core-no}
+use Rattle.blocks.proofs.RoundLaws.{below-limit}
 use Rattle.radau.proofs.round.judged_round.Statement.{statement}
 use Rattle.radau.proofs.round.judged_round.Tie as tie
 

@@ -1,6 +1,6 @@
 -- `paced` meets its contract.
 use borrow.Author.Needs.{needs}
-use Rattle.radau.proofs.RoundLaws.{paced-on, paced-over, fit-numbers}
+use Rattle.blocks.proofs.RoundLaws.{paced-on, paced-over, fit-numbers}
 use Rattle.radau.proofs.round.paced.Statement.{statement}
 use Rattle.radau.proofs.round.paced.Tie as tie
 

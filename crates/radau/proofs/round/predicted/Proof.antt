@@ -1,7 +1,7 @@
 -- `predicted` meets its contract.
 use native.Mathlib.Omega.{arith}
 use borrow.Author.Needs.{needs}
-use Rattle.radau.proofs.RoundLaws.{predicted-slow, predicted-on, fit-numbers}
+use Rattle.blocks.proofs.RoundLaws.{predicted-slow, predicted-on, fit-numbers}
 use Rattle.radau.proofs.round.predicted.Statement.{statement}
 use Rattle.radau.proofs.round.predicted.Tie as tie
 

@@ -1,7 +1,7 @@
 -- `round` meets its contract.
 use native.Mathlib.Omega.{arith}
 use borrow.Author.Needs.{needs}
-use Rattle.radau.proofs.RoundLaws.{round-by, fit-round}
+use Rattle.blocks.proofs.RoundLaws.{round-by, fit-round}
 use Rattle.radau.proofs.round.round.Statement.{statement}
 use Rattle.radau.proofs.round.round.Tie as tie
 

@@ -1,7 +1,7 @@
 -- `slowed` meets its contract.
 use native.Mathlib.Omega.{arith}
 use borrow.Author.Needs.{needs}
-use Rattle.radau.proofs.RoundLaws.{slowed-by}
+use Rattle.blocks.proofs.RoundLaws.{slowed-by}
 use Rattle.radau.proofs.round.slowed.Statement.{statement}
 use Rattle.radau.proofs.round.slowed.Tie as tie
 

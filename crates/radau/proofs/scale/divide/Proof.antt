@@ -4,7 +4,7 @@ use mathlib.Core.Path.{refl}
 use native.Mathlib.Omega.{arith}
 use lib.ListN.{length-set}
 use Rattle.words.proofs.Loops.{Ran, Long, begun, turned, ended}
-use Rattle.radau.specs.Scale.{divideAt}
+use Rattle.blocks.specs.Scale.{divideAt}
 use Rattle.radau.proofs.scale.divide.Statement.{statement}
 use Rattle.radau.proofs.scale.divide.Tie as tie
 

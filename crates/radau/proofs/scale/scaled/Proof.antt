@@ -5,7 +5,7 @@ use native.Mathlib.Omega.{arith}
 use lib.ListN.{length-set}
 use borrow.Author.Needs.{needs}
 use Rattle.words.proofs.Loops.{Ran, Long, begun, turned, ended}
-use Rattle.radau.specs.Scale.{scaleAt, scaledOf}
+use Rattle.blocks.specs.Scale.{scaleAt, scaledOf}
 use Rattle.radau.proofs.scale.scaled.Statement.{statement}
 use Rattle.radau.proofs.scale.scaled.Tie as tie
 

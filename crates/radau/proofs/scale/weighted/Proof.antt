@@ -1,6 +1,6 @@
 -- `weighted` meets its contract: its two divisions are the definition's.
 use borrow.Author.Needs.{needs}
-use Rattle.radau.specs.Scale.{weightedOf}
+use Rattle.blocks.specs.Scale.{weightedOf}
 use Rattle.radau.proofs.scale.weighted.Statement.{statement}
 use Rattle.radau.proofs.scale.weighted.Tie as tie
 

@@ -2,9 +2,9 @@
 use mathlib.Core.Path.{refl, sym, _∙_}
 use borrow.Author.Needs.{needs}
 use Rattle.state.specs.Memory.{Memory, memory, amounts, Newton, newton, given, Factors, factors, Differences, differences}
-use Rattle.radau.proofs.AdmittedLaws.{admitted}
-use Rattle.radau.proofs.AdvanceLaws.{advance-refused, advance-passed}
-use Rattle.radau.proofs.RepliedLaws.{replied-fit, step-less, passed-fit, called-asks}
+use Rattle.blocks.proofs.AdmittedLaws.{admitted}
+use Rattle.blocks.proofs.AdvanceLaws.{advance-refused, advance-passed}
+use Rattle.blocks.proofs.RepliedLaws.{replied-fit, step-less, passed-fit, called-asks}
 use Rattle.radau.proofs.advance.Turn.advance.Statement.{statement}
 use Rattle.radau.proofs.advance.Turn.advance.Tie as tie
 

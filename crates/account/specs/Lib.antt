@@ -1,0 +1,5 @@
+-- In order of reading.
+pub mod Journal
+pub mod Reading
+pub mod Truth
+pub mod Account

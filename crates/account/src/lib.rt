@@ -1,0 +1,1 @@
+// No code: the account of a run (specs) and the theorems that it is true (proofs), for the definitions of `opening` and `blocks`, which the code equals.
