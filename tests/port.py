@@ -13,8 +13,8 @@ TARGET = rust_text.ROOT / "target" / "rust" / "port"
 CRATES = {
     "words": [],
     "scalar": ["words"],
-    "matrix": ["words", "scalar"],
     "state": ["words"],
+    "matrix": ["words", "scalar", "state"],
     "opening": ["words", "scalar", "state"],
     "blocks": ["words", "scalar", "matrix", "state", "opening"],
     "radau": ["words", "scalar", "matrix", "state", "opening", "blocks"],

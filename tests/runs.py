@@ -363,10 +363,13 @@ def make_crate(folder, extra="", main="program::run();"):
     return root
 
 
-def build(folder):
-    root = make_crate(folder)
-    made = TARGET / "runs"
-    run = ["rustc", "--edition", "2021", "-O", "--crate-name", "runs", str(root), "-o", str(made)]
+def build(folder, other=None):
+    """Compiles tests/runs.rs around the Rust's files; with another file of ours beside it, that file's `go` is the main function."""
+    extra = {"extra": f'#[path = "{other.resolve()}"]\nmod other;', "main": "other::go();"} if other else {}
+    root = make_crate(folder, **extra)
+    name = other.stem if other else "runs"
+    made = TARGET / name
+    run = ["rustc", "--edition", "2021", "-O", "--crate-name", name, str(root), "-o", str(made)]
     done = subprocess.run(run, capture_output=True, text=True)
     insist(done.returncode == 0, f"rustc does not take the Rust's files:\n{done.stderr}")
     return made

@@ -430,6 +430,22 @@ impl Host {
                 d[0] = p[0] * (ALPH * y[0] - BETA * y[1]);
                 d[1] = p[0] * (BETA * y[0] + ALPH * y[1]);
             }
+            // Document 01's reactions, five numbers each: the rate, two reactants, two products; species from 1, 0 is none.
+            "reactions" => {
+                d.fill(0.0);
+                for reaction in p.chunks(5) {
+                    let (used, made) = (&reaction[1..3], &reaction[3..5]);
+                    let present = |side: &[f64]| -> Vec<usize> {
+                        side.iter()
+                            .filter(|&&species| species != 0.0)
+                            .map(|&species| species as usize - 1)
+                            .collect()
+                    };
+                    let v = present(used).iter().fold(reaction[0], |v, &i| v * y[i]);
+                    present(used).iter().for_each(|&i| d[i] -= v);
+                    present(made).iter().for_each(|&i| d[i] += v);
+                }
+            }
             // Any pattern at all, or any of a modest size.
             "noise" | "mild_noise" => {
                 for i in 0..n {

@@ -11,8 +11,9 @@ use Rattle.state.specs.declared.talk.Refusal.the-variants.{HasEnded}
 use Rattle.state.specs.declared.talk.Reply.{Reply}
 use Rattle.state.specs.declared.talk.Verdict.the-variants.{Passed, Refused}
 use Rattle.state.specs.Memory.{Memory, lengthsFit, amountsFit, newtonFit, givenFit, factorsFit, differencesFit}
+use Rattle.state.specs.Pivots.{stray}
 use Rattle.opening.specs.Rows.{Test, test, verdictOf, rangeRows, outside}
-use Rattle.opening.specs.Admission.{askingAt, answersReport, stray, unfitOf, allUnfit, shapeRows, stateRows, countRows, replyRows, admissionRows}
+use Rattle.opening.specs.Admission.{askingAt, answersReport, unfitOf, allUnfit, shapeRows, stateRows, countRows, replyRows, admissionRows}
 use Rattle.opening.proofs.RowLaws.{verdict-append}
 use Rattle.opening.proofs.AdmissionLaws.{unfit-all}
 use Rattle.blocks.specs.Needs.{MemoryLong}

@@ -26,10 +26,11 @@ use Rattle.state.specs.declared.talk.Verdict.{Verdict}
 use Rattle.state.specs.declared.talk.Verdict.the-variants.{Passed, Refused}
 use Rattle.state.specs.Settings.{orNone}
 use Rattle.state.specs.Memory.{Memory, zeros, noughts}
+use Rattle.state.specs.Pivots.{stray}
+use Rattle.state.proofs.Pivots.{noughts-no-stray}
 use Rattle.opening.specs.Rows.{Opening, openingRows, rangeRows, verdictOf, partitionFails}
 use Rattle.opening.specs.Tolerances.{Columns, columns, Converted, convertedOf, listTurnAt}
 use Rattle.opening.specs.Opening.{firstCounts, firstControl, firstRun, fixedOf, shapeOf, nind1Of, massKept, clearedOf, acceptedOf, byVerdict, openOf}
-use Rattle.opening.specs.Admission.{stray}
 use Rattle.opening.proofs.RowLaws.{NoneHolds, verdict-first}
 use Rattle.opening.proofs.OpeningLaws.{within}
 use Rattle.blocks.specs.Needs.{MemoryLong}
@@ -38,7 +39,6 @@ use Rattle.history.specs.History.{Point}
 use Rattle.account.specs.Journal.{Journal, Starts}
 use Rattle.account.proofs.Decompositions.{Long, loop-keeps, set-long}
 use Rattle.account.proofs.Lengths.{zeros-long}
-use Rattle.account.proofs.PivotsKept.{noughts-no-stray}
 use Rattle.account.proofs.Admits.{over, no-row}
 
 -- ---- the memory

@@ -1,21 +1,17 @@
--- The pivots stay rows in an advance: where none of the first n - 1 is stray before it, none is after it. Nor is one where a run opens, all being 0.
-use Prim.Native.Nat.{ℕ, zero, suc, _-_, _<_}
+-- The pivots stay rows in an advance: where none of the first n - 1 is stray before it, none is after it.
+use Prim.Native.Nat.{ℕ}
 use mathlib.Core.Path.{_≡_, refl, sym, subst}
-use mathlib.Core.Bool.{Bool, false, _||_}
-use mathlib.Core.List.{List, [], _∷_}
+use mathlib.Core.Bool.{false}
+use mathlib.Core.List.{List}
 use native.Mathlib.Omega.{arith}
-use lib.ListN.{getD, set, getD-replicate}
 use lib.Ieee.{Float}
-use borrow.Author.Tests.{lt-leb}
-use Rattle.matrix.specs.Substitution as matrix
-use Rattle.matrix.proofs.Interchange.{through}
-use Rattle.matrix.proofs.Pivots.{all-rows}
 use Rattle.state.specs.declared.run.Run.{Run}
 use Rattle.state.specs.declared.run.Stage.{Stage}
 use Rattle.state.specs.declared.run.Stage.the-variants as stage
 use Rattle.state.specs.declared.talk.Reply.{Reply}
-use Rattle.state.specs.Memory.{Memory, Factors, noughts}
-use Rattle.opening.specs.Admission.{strayAt, stray}
+use Rattle.state.specs.Memory.{Memory, Factors}
+use Rattle.state.specs.Pivots.{stray}
+use Rattle.state.proofs.Pivots.{row-stored}
 use Rattle.blocks.specs.declared.step.Round.{Round}
 use Rattle.blocks.specs.declared.step.Round.the-variants as round
 use Rattle.blocks.specs.declared.step.Step.{Step}
@@ -28,38 +24,6 @@ use Rattle.blocks.specs.Needs.{MemoryLong}
 use Rattle.blocks.proofs.Whole.{wholeOf}
 use Rattle.account.proofs.Passes.{passes-kept}
 use Rattle.account.proofs.Lengths.{replied-kept}
-
--- ---- no pivot is stray where each of the first n - 1 is a row, and only there
-
-abbrev Rows : ℕ → List ℕ → Type 0
-Rows n ip = (k : ℕ) → k < n - 1 → getD ip k 0 < n
-
-none : (b : Bool) (x : Bool) → b ≡ false → x ≡ false → (b || x) ≡ false
-none b x e f = rw (e, f)
-
-rows-no-stray : (n : ℕ) (ip : List ℕ) → Rows n ip → stray n ip ≡ false
-unfolding stray strayAt
-rows-no-stray n ip rows =
-    through (λ (b : Bool). b ≡ false) (strayAt n ip) 0 (n - 1) (omega arith) (λ k low high b e. none b _ e (lt-leb n (getD ip k 0) (rows k high))) false refl
-
-no-stray-rows : (n : ℕ) (ip : List ℕ) → stray n ip ≡ false → Rows n ip
-unfolding stray strayAt matrix.stray matrix.strayAt
-no-stray-rows n ip e = all-rows n ip e
-
--- what is stored, or stood there
-set-either : (P : ℕ → Type 0) (xs : List ℕ) (i j : ℕ) (x d : ℕ) → P x → P (getD xs j d) → P (getD (set xs i x) j d)
-set-either P [] i j x d p q = q
-set-either P (y ∷ xs) zero zero x d p q = p
-set-either P (y ∷ xs) zero (suc j) x d p q = q
-set-either P (y ∷ xs) (suc i) zero x d p q = q
-set-either P (y ∷ xs) (suc i) (suc j) x d p q = set-either P xs i j x d p q
-
-row-stored : (n : ℕ) (ip : List ℕ) (k m : ℕ) → m < n → stray n ip ≡ false → stray n (set ip k m) ≡ false
-row-stored n ip k m l e = rows-no-stray n (set ip k m) (λ j b. set-either (λ (x : ℕ). x < n) ip k j m 0 l (no-stray-rows n ip e j b))
-
-pub noughts-no-stray : (n : ℕ) → stray n (noughts n) ≡ false
-unfolding noughts
-noughts-no-stray n = rows-no-stray n (noughts n) (λ k l. omega (arith, getD-replicate {A = ℕ} n k 0 0 (omega arith)))
 
 -- ---- outside the passes the factors stand
 

@@ -10,9 +10,10 @@ use Rattle.state.specs.declared.run.Fixed.{Fixed}
 use Rattle.state.specs.declared.run.Shape.{Shape}
 use Rattle.state.specs.declared.talk.Verdict.the-variants.{Passed}
 use Rattle.state.specs.Memory.{Memory, Factors}
+use Rattle.state.specs.Pivots.{stray}
 use Rattle.opening.specs.Rows.{Opening, openingRows, rangeRows, verdictOf}
 use Rattle.opening.specs.Opening.{shapeOf}
-use Rattle.opening.specs.Admission.{askingAt, answersReport, stray, admissionRows}
+use Rattle.opening.specs.Admission.{askingAt, answersReport, admissionRows}
 use Rattle.opening.proofs.RowLaws.{NoneHolds}
 use Rattle.blocks.specs.Events.{Event, Logged}
 use Rattle.blocks.specs.Advance.{Called}

@@ -15,11 +15,16 @@ use Rattle.matrix.specs.Linear.{linSolveOf}
 use Rattle.matrix.specs.LinearComplex.{linSolveComplexOf}
 use Rattle.dense.specs.Answers.{Interpolation, interpolatedNumber}
 use Rattle.dense.specs.Interpolate.{interpolateOf}
+use Rattle.model.specs.Answers.{Derivation, derivedNumber}
+use Rattle.model.specs.Derivative.{derivedOf}
 
 -- ---- the doubles that occur, by their patterns
 
 abbrev pub none : ℕ
 none = 0
+
+abbrev pub half : ℕ
+half = 0x3fe0_0000_0000_0000
 
 abbrev pub one : ℕ
 one = 0x3ff0_0000_0000_0000
@@ -38,6 +43,9 @@ eight = 0x4020_0000_0000_0000
 
 abbrev pub minusOne : ℕ
 minusOne = 0xbff0_0000_0000_0000
+
+abbrev pub minusThree : ℕ
+minusThree = 0xc008_0000_0000_0000
 
 abbrev pub minusQuarter : ℕ
 minusQuarter = 0xbfd0_0000_0000_0000
@@ -63,6 +71,9 @@ solvedComplex s = solvedNumber (s .answer) ∷ (patterns (s .b .re) ++ patterns 
 
 abbrev pub interpolated : Interpolation → List ℕ
 interpolated i = interpolatedNumber (i .answer) ∷ patterns (i .yi)
+
+abbrev pub derived : Derivation → List ℕ
+derived d = derivedNumber (d .answer) ∷ patterns (d .dy)
 
 -- ---- the table
 
@@ -113,6 +124,12 @@ examples =
       place = 10;
       given = interpolated (interpolateOf (double one) (doubles (one ∷ [])) (doubles (one ∷ two ∷ none ∷ none ∷ [])) (double none) (double two));
       said = 0 ∷ none ∷ [];
+    }
+    -- P11 amounts 2,3, rate 0.5, 1+2 to 1: derivative 0,-3 (the target holds 8,8 before)
+    ∷ record {
+      place = 11;
+      given = derived (derivedOf 1 (doubles (two ∷ three ∷ [])) (doubles (half ∷ [])) (1 ∷ 2 ∷ 1 ∷ 0 ∷ []) (doubles (eight ∷ eight ∷ [])));
+      said = 0 ∷ none ∷ minusThree ∷ [];
     }
     -- P12 n=1, matrix 0 gives 17
     ∷ record { place = 12; given = decomposed (luDecompOf 1 (doubles (none ∷ [])) (90 ∷ [])); said = 17 ∷ none ∷ 90 ∷ [] }

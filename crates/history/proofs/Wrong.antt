@@ -22,8 +22,9 @@ use Rattle.state.specs.declared.talk.Request.{Request}
 use Rattle.state.specs.declared.talk.Request.the-variants as request
 use Rattle.state.specs.Settings.{defaultsOf}
 use Rattle.state.specs.Memory.{Memory, memory, amounts, newton, given, factors, differences, amountsFit, newtonFit, givenFit, factorsFit, differencesFit}
+use Rattle.state.specs.Pivots.{stray, strayAt}
 use Rattle.opening.specs.Rows.{verdictOf}
-use Rattle.opening.specs.Admission.{askingAt, answersReport, stray, strayAt}
+use Rattle.opening.specs.Admission.{askingAt, answersReport}
 use Rattle.opening.specs.Opening.{firstCounts, firstControl, firstNumbers}
 use Rattle.blocks.specs.Advance.{Outcome, outcome, advanceOf, advanceBy, startedOf, repliedOf, calledOf}
 use Rattle.blocks.specs.Matrices.{passesOf, passAt}

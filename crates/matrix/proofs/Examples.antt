@@ -7,6 +7,7 @@ use lib.Ieee.{Float, fin, add, sub, mul, div, neg, lt, eq, ne, ofBits}
 use Rattle.words.specs.Loop.{loop, pick}
 use Rattle.words.specs.Grid.{at, put}
 use Rattle.scalar.specs.Order.{absOf}
+use Rattle.state.specs.Pivots.{strayAt, stray}
 use Rattle.matrix.specs.declared.answers.Decomposed.the-variants as decomposed
 use Rattle.matrix.specs.declared.answers.Solved.the-variants as solves
 use Rattle.matrix.specs.Answers.{decomposition, solution}
@@ -14,24 +15,24 @@ use Rattle.matrix.specs.Complex.{parts, atComplex, putComplex, sizeCompl
 use Rattle.matrix.specs.Elimination.{betterAt, pivotRow, swapped, scaledAt, columnAt, eliminated, passWith, passed, passAt, lastTested, single, worked, answered}
 use Rattle.matrix.specs.Lu.{multiplier, luDecompOf}
 use Rattle.matrix.specs.LuComplex.{addedComplex, realAt, imaginaryAt, generalAt, updatedComplex, multiplierComplex, isZeroComplex, luDecompComplexOf}
-use Rattle.matrix.specs.Substitution.{strayAt, stray, solved}
+use Rattle.matrix.specs.Substitution.{solved}
 use Rattle.matrix.specs.Linear.{divided, linSolveOf}
 
 -- ---- the numbers of the examples
 
-abbrev none : Float
+abbrev pub none : Float
 none = fin false 0 (pos 0)
 
-abbrev one : Float
+abbrev pub one : Float
 one = fin false 1 (pos 0)
 
-abbrev two : Float
+abbrev pub two : Float
 two = fin false 1 (pos 1)
 
-abbrev four : Float
+abbrev pub four : Float
 four = fin false 1 (pos 2)
 
-abbrev minusOne : Float
+abbrev pub minusOne : Float
 minusOne = fin true 1 (pos 0)
 
 abbrev minusNone : Float

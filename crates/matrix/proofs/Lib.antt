@@ -1,7 +1,7 @@
 pub mod Examples
+pub mod Wrong
 pub mod Determinism
 pub mod Sizes
-pub mod Pivots
 pub mod Passes
 pub mod Parts
 pub mod Interchange

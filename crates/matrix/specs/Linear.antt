@@ -8,9 +8,10 @@ use lib.Ieee.{Float, neg}
 use Rattle.words.specs.Words.{_⊕_, _⊗_, _⊘_, _!_}
 use Rattle.words.specs.Loop.{loop, pick}
 use Rattle.words.specs.Grid.{at}
+use Rattle.state.specs.Pivots.{stray}
 use Rattle.matrix.specs.declared.answers.Solved.the-variants.{Done, RefusedOrder, RefusedLength, RefusedPivot}
 use Rattle.matrix.specs.Answers.{Solution, solution}
-use Rattle.matrix.specs.Substitution.{exchanged, Side, solved, stray}
+use Rattle.matrix.specs.Substitution.{exchanged, Side, solved}
 
 -- linear.rs:60, 84, 93
 unfoldable pub divided : List Float → ℕ → ℕ → List Float → List Float

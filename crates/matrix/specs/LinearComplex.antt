@@ -5,11 +5,12 @@ use mathlib.Core.List.{List}
 use lib.Dec.{eqb, leb}
 use lib.ListN.{length}
 use Rattle.words.specs.Loop.{loop, pick}
+use Rattle.state.specs.Pivots.{stray}
 use Rattle.matrix.specs.declared.complex.Complex.{Complex}
 use Rattle.matrix.specs.declared.answers.Solved.the-variants.{Done, RefusedOrder, RefusedLength, RefusedPivot}
 use Rattle.matrix.specs.Answers.{Solution, solution}
 use Rattle.matrix.specs.Complex.{Parts, atComplex, entryComplex, setComplex, negatedComplex, plusComplex, timesComplex, overComplex}
-use Rattle.matrix.specs.Substitution.{exchanged, Side, solved, stray}
+use Rattle.matrix.specs.Substitution.{exchanged, Side, solved}
 
 -- linear.rs:149-154, 189-194, 209-214
 unfoldable pub dividedComplex : Parts → ℕ → ℕ → Parts → Parts

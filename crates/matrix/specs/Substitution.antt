@@ -1,18 +1,10 @@
 -- What linear.rs has twice, for a real right side (55-94) and for a complex one (138-215): the exchange of two entries, the division by a diagonal
--- entry, the order of the three phases, and the test of the pivots that this port adds (01, number 18). Lines are cited for both: (real; complex).
+-- entry, and the order of the three phases. Lines are cited for both: (real; complex).
 use Prim.Native.Nat.{ℕ, _-_}
-use mathlib.Core.Bool.{Bool, false, _||_}
 use mathlib.Core.List.{List}
-use lib.Dec.{eqb, leb}
+use lib.Dec.{eqb}
 use lib.ListN.{getD}
 use Rattle.words.specs.Loop.{loop, pick}
-
--- whether one of the first n - 1 pivots is n or more, so that it is no row; a pivot past the list's end counts as 0, which is a row
-unfoldable pub strayAt : ℕ → List ℕ → ℕ → Bool → Bool
-strayAt n ip k found = found || leb n (getD ip k 0)
-
-unfoldable pub stray : ℕ → List ℕ → Bool
-stray n ip = loop (strayAt n ip) 0 (n - 1) false
 
 -- entries m and k change places, `at` and `put` being how an entry is read and written (71; 165-173)
 unfoldable pub exchanged : {B E : Type 0} → (B → ℕ → E) → (B → ℕ → E → B) → ℕ → ℕ → B → B

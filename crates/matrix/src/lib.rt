@@ -1,5 +1,4 @@
-// LU decomposition and solution of real and complex systems of order 1 to 32: the four routines of lu.rs and linear.rs, and the test
-// of pivots that this port adds.
+// LU decomposition and solution of real and complex systems of order 1 to 32: the four routines of lu.rs and linear.rs.
 // A matrix is a flat row-major slice with n. Each offered function equals a definition of specs/ for every input, so none asks anything of its caller.
 pub mod answers;
 mod complex;
@@ -10,7 +9,6 @@ pub mod linear;
 pub mod linear_complex;
 pub mod lu;
 pub mod lu_complex;
-pub mod stray;
 mod substitution;
 mod substitution_complex;
 
@@ -20,4 +18,3 @@ pub use linear::lin_solve;
 pub use linear_complex::lin_solve_complex;
 pub use lu::lu_decomp;
 pub use lu_complex::lu_decomp_complex;
-pub use stray::stray_pivot;

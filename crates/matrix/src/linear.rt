@@ -1,7 +1,7 @@
 // `lin_solve` of linear.rs.
 use crate::answers::Solved;
-use crate::stray::stray_pivot;
 use crate::substitution::solve;
+use state::stray_pivot;
 ghost use mathlib.Core.Path.{_≡_};
 ghost use Rattle.matrix.specs.Answers.{solution};
 ghost use Rattle.matrix.specs.Linear.{linSolveOf};

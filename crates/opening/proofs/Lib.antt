@@ -5,3 +5,4 @@ pub mod ToleranceLaws
 pub mod OpeningLaws
 pub mod AdmissionLaws
 pub mod OpeningTheorems
+pub mod Traps

@@ -1,12 +1,10 @@
 -- Which advances are refused: 13 for an unfit state, then 14 for a run that has ended, then 15 for a reply of another kind than was asked for (01, 'Numbers that refuse').
 -- One list of tests, each clause of 'Unfit means one of' as it is written there; M is max_steps, K newton_maxiter. Settings are tested as they were given,
 -- floats that are not finite aside (row 3 is opening's), so a NaN that passes rows 4 to 8 is fit and the arithmetic goes on.
-use Prim.Native.Nat.{ℕ, _+_, _-_, _*_}
-use mathlib.Core.Bool.{Bool, true, false, not, _&&_, _||_, Bool·beq}
+use Prim.Native.Nat.{ℕ, _+_, _*_}
+use mathlib.Core.Bool.{Bool, true, false, not, _&&_, Bool·beq}
 use mathlib.Core.List.{List, [], _∷_, _++_}
-use lib.Dec.{leb, ltb, eqb}
-use lib.ListN.{getD}
-use Rattle.words.specs.Loop.{loop}
+use lib.Dec.{ltb, eqb}
 use Rattle.opening.specs.declared.admission.Asking.{Asking}
 use Rattle.state.specs.declared.run.Run.{Run}
 use Rattle.state.specs.declared.run.Stage.{Stage}
@@ -17,6 +15,7 @@ use Rattle.state.specs.declared.talk.Refusal.the-variants.{Unfit, HasEnded, Wro
 use Rattle.state.specs.declared.talk.Verdict.{Verdict}
 use Rattle.state.specs.declared.talk.Verdict.the-variants.{Passed, Refused}
 use Rattle.state.specs.Memory.{Memory, lengthsFit}
+use Rattle.state.specs.Pivots.{stray}
 use Rattle.opening.specs.Rows.{Test, test, outside, rangeRows}
 
 -- ---- the stage
@@ -47,14 +46,6 @@ answersReport reply.Continue = true
 answersReport reply.Interrupt = true
 answersReport (reply.Modified x) = true
 answersReport (reply.Mark x) = true
-
--- ---- the pivots: one of the first n - 1 is not below n
-
-unfoldable pub strayAt : ℕ → List ℕ → ℕ → Bool → Bool
-strayAt n ip k found = found || leb n (getD ip k 0)
-
-unfoldable pub stray : ℕ → List ℕ → Bool
-stray n ip = loop (strayAt n ip) 0 (n - 1) false
 
 -- ---- the tests
 

@@ -9,16 +9,16 @@ use crate::checks::vectors_fit;
 use crate::checks::with_test;
 use state::run::Run;
 use state::run::Stage;
+use state::stray_pivot;
 use state::talk::Refusal;
 use state::talk::Reply;
 use state::talk::Verdict;
 ghost use mathlib.Core.Path.{_≡_};
 ghost use Prim.Native.Nat.{_≤_, _+_, _*_};
 ghost use mathlib.Core.List.{_++_};
-ghost use lib.ListN.{length};
 ghost use Rattle.state.specs.Memory.{memory, amounts, newton, given, factors, differences};
 ghost use Rattle.opening.specs.Rows.{verdictOf, rangeRows};
-ghost use Rattle.opening.specs.Admission.{unfitOf, allUnfit, asking, askingAt, answersReport, stray, shapeRows, stateRows, countRows, replyRows, admissionRows};
+ghost use Rattle.opening.specs.Admission.{unfitOf, allUnfit, asking, askingAt, answersReport, shapeRows, stateRows, countRows, replyRows, admissionRows};
 
 // What is open at a stage: whether the run has ended, whether a report is asked, and the column of a difference Jacobian, else 0.
 pub struct Asking {
@@ -69,19 +69,6 @@ fn answers_report(reply: Reply) -> bool
     }
 }
 
-// Whether one of the first n - 1 pivots is not below n.
-fn has_stray(n: usize, ip: &[usize]) -> bool
-    requires { ⌜ (1 ≤ n) × (length (now ip) ≡ n) ⌝ }
-    ensures { λ r. ⌜ r ≡ stray n (now (ip .entry)) ⌝ }
-{
-    let mut found = false;
-    let nm1 = n - 1;
-    for k in 0..nm1 {
-        found = found | (n <= ip[k]);
-    }
-    found
-}
-
 // 14 and 15.
 fn check_reply(stage: Stage, reply: Reply) -> Verdict
     ensures { λ r. ⌜ r ≡ verdictOf (replyRows stage reply) ⌝ }
@@ -112,8 +99,7 @@ fn check_settings(run: Run) -> Verdict
 
 // 13: partition, attempts, rounds, column, failures and pivots.
 fn check_state(run: Run, ip1: &[usize], ip2: &[usize]) -> Verdict
-    requires { ⌜ (1 ≤ run .shape .n) × (run .shape .n ≤ 32) ⌝ }
-    requires { ⌜ (length (now ip1) ≡ run .shape .n) × (length (now ip2) ≡ run .shape .n) ⌝ }
+    requires { ⌜ run .shape .n ≤ 32 ⌝ }
     ensures { λ r. ⌜ r ≡ verdictOf (stateRows run (now (ip1 .entry)) (now (ip2 .entry))) ⌝ }
 {
     let shape = run.shape;
@@ -130,8 +116,8 @@ fn check_state(run: Run, ip1: &[usize], ip2: &[usize]) -> Verdict
     let verdict = with_test(verdict, n < asked.column, Refusal::Unfit);
     let over = (5 < run.control.singular_count) & going;
     let verdict = with_test(verdict, over, Refusal::Unfit);
-    let verdict = with_test(verdict, has_stray(n, ip1), Refusal::Unfit);
-    with_test(verdict, has_stray(n, ip2), Refusal::Unfit)
+    let verdict = with_test(verdict, stray_pivot(n, ip1), Refusal::Unfit);
+    with_test(verdict, stray_pivot(n, ip2), Refusal::Unfit)
 }
 
 // 13: the counts, against bounds of M and K that are known to be in range.
@@ -155,8 +141,7 @@ fn check_counts(run: Run) -> Verdict
 
 // The tests behind those of n and the lengths.
 fn admit(run: Run, reply: Reply, ip1: &[usize], ip2: &[usize]) -> Verdict
-    requires { ⌜ (1 ≤ run .shape .n) × (run .shape .n ≤ 32) ⌝ }
-    requires { ⌜ (length (now ip1) ≡ run .shape .n) × (length (now ip2) ≡ run .shape .n) ⌝ }
+    requires { ⌜ run .shape .n ≤ 32 ⌝ }
     ensures { λ r. ⌜ r ≡ verdictOf (allUnfit (rangeRows (run .settings)) ++ (stateRows run (now (ip1 .entry)) (now (ip2 .entry)) ++ (countRows run ++ replyRows (run .stage) reply))) ⌝ }
 {
     match check_settings(run) {

@@ -2,4 +2,5 @@
 pub mod Settings
 pub mod Numbers
 pub mod Memory
+pub mod Pivots
 pub mod Result

@@ -1,8 +1,10 @@
-// The state of a run: its settings, what it holds between two requests, what it and its host say to each other, and the result of a run that has ended.
+// The state of a run: its settings, what it holds between two requests, what it and its host say to each other, the result of a run that has ended, and the test of pivots.
 pub mod outcome;
 pub mod parts;
 pub mod run;
 pub mod settings;
+pub mod stray;
 pub mod talk;
 
 pub use outcome::result;
+pub use stray::stray_pivot;

@@ -3,9 +3,9 @@ use mathlib.Core.Path.{refl, sym, _∙_}
 use native.Mathlib.Omega.{arith}
 use borrow.Author.Needs.{needs}
 use Rattle.words.proofs.Branch.{yes, no}
+use Rattle.state.proofs.Pivots.{all-rows}
 use Rattle.matrix.specs.LinearComplex.{linSolveComplexOf}
 use Rattle.matrix.proofs.Sizes.{order, five}
-use Rattle.matrix.proofs.Pivots.{all-rows}
 use Rattle.matrix.proofs.linear_complex.lin_solve_complex.Statement.{statement}
 use Rattle.matrix.proofs.linear_complex.lin_solve_complex.Tie as tie
 

@@ -4,7 +4,7 @@ use mathlib.Core.Bool.{true, _&&_}
 use borrow.Author.Needs.{needs}
 use borrow.Author.Tests.{not-true, not-false}
 use Rattle.state.specs.Memory.{Memory, memory, Amounts, amounts, Newton, newton, Given, given, Factors, factors, Differences, differences, lengthsFit}
-use Rattle.opening.proofs.OpeningLaws.{in-order, fits-are, groups-of, factors-long}
+use Rattle.opening.proofs.OpeningLaws.{in-order, fits-are}
 use Rattle.opening.proofs.AdmissionLaws.{unfit-order, unfit-length, fit-later}
 use Rattle.opening.proofs.admission.admission.Statement.{statement}
 use Rattle.opening.proofs.admission.admission.Tie as tie
@@ -66,10 +66,7 @@ returns-2 c = let s = start (c .before) in
     unfit-length (s .args .run) (s .args .reply) (memory-at s) (c .before .before .before .before .before .before .before .if1 .left) (tested (c .before) ∙ not-true _ (c .if2 .taken))
 
 admit-requires : tie.Need-admit-requires
-admit-requires c κs = let s = start (c .before) in
-    let g = groups-of _ (amounts-at s) (newton-at s) (given-at s) (factors-at s) (differences-at s) (fitted c) in
-    let l = factors-long _ _ _ _ _ _ (g .factors-fit) in
-    (in-order _ (c .before .before .before .before .before .before .before .if1 .left), (l .3, l .4))
+admit-requires c κs = in-order _ (c .before .before .before .before .before .before .before .if1 .left) .1
 
 returns-3 : tie.Need-returns-3
 returns-3 c = let s = start (c .before .before) in c .admit .ensures ∙ fit-later (s .args .run) (s .args .reply) (memory-at s) (c .before .before .before .before .before .before .before .before .if1 .left) (fitted (c .before))

@@ -4,20 +4,12 @@ use Rattle.opening.proofs.RowLaws.{no-test}
 use Rattle.opening.proofs.admission.check_state.Statement.{statement}
 use Rattle.opening.proofs.admission.check_state.Tie as tie
 
-has-stray-requires : tie.Need-has-stray-requires
-has-stray-requires c κs = (c .before .before .before .before .before .before .before .before .before .before .before .before .before .before .before .pre .0 .0, c .before .before .before .before .before .before .before .before .before .before .before .before .before .before .before .pre .1 .0)
-
-has-stray-requires-2 : tie.Need-has-stray-requires-2
-has-stray-requires-2 c κs = (c .before .before .before .before .before .before .before .before .before .before .before .before .before .before .before .before .before .pre .0 .0, c .before .before .before .before .before .before .before .before .before .before .before .before .before .before .before .before .before .pre .1 .1)
-
 returns : tie.Need-returns
-returns c = rw (← c .before .before .before .before .before .before .before .before .before .before .before .before .before .before .before .asking-at .ensures, ← c .before .before .before .before .before .before .before .before .before .before .before .before .before .sum-differs .ensures, ← c .before .before .before .has-stray .ensures, ← c .before .has-stray2 .ensures)
+returns c = rw (← c .before .before .before .before .before .before .before .before .before .before .before .before .before .before .before .asking-at .ensures, ← c .before .before .before .before .before .before .before .before .before .before .before .before .before .sum-differs .ensures, ← c .before .before .before .stray-pivot .ensures, ← c .before .stray-pivot2 .ensures)
     (c .with-test7 .ensures _ (c .before .before .with-test6 .ensures _ (c .before .before .before .before .with-test5 .ensures _ (c .before .before .before .before .before .before .with-test4 .ensures _ (c .before .before .before .before .before .before .before .before .with-test3 .ensures _ (c .before .before .before .before .before .before .before .before .before .before .with-test2 .ensures _ (c .before .before .before .before .before .before .before .before .before .before .before .before .with-test .ensures _ no-test)))))))
 
 pub check-state-spec : {M : Type 1} → statement M
 check-state-spec =
     tie.close
-    (tie.spec (λ c κs. search needs) (λ c κs. search needs) (λ c κs. search needs) (λ c κs. search needs) (λ c κs. search needs) (λ c κs. search needs) (λ c κs. search needs)
-    has-stray-requires (λ c κs. search needs)
-    has-stray-requires-2 (λ c κs. search needs)
+    (tie.spec (λ c κs. search needs) (λ c κs. search needs) (λ c κs. search needs) (λ c κs. search needs) (λ c κs. search needs) (λ c κs. search needs) (λ c κs. search needs) (λ c κs. search needs) (λ c κs. search needs) (λ c κs. search needs) (λ c κs. search needs)
     returns)

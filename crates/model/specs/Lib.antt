@@ -1,0 +1,4 @@
+-- In order of reading.
+pub mod Model
+pub mod Answers
+pub mod Derivative

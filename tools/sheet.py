@@ -1,0 +1,308 @@
+#!/usr/bin/env python3
+"""A model as people read it, and as a sheet for `decay`: from one to the other, both ways.
+
+    tools/sheet.py sheet [FILE]   read the readable form, write the sheet
+    tools/sheet.py text [FILE]    read a sheet, write the readable form
+
+FILE is standard input where it is not given; what is made goes to standard output. What can't be read is told on standard error, with
+its line, and ends with status 1; a sheet is refused with document 01's number, 20 or 21, as `decay` refuses it.
+
+The readable form, a line at a time; a # and what comes after it is a comment:
+
+    x0 0.0
+    xend 730.0
+    rtol 1e-06
+    atol 1e-12
+    max_steps 100000
+    rule rust                  or book
+    species                    one to 32, each with a name of its own and its amount
+    NO 2.0
+    site 0.001
+    held 0.0
+    reactions                  up to 64: the rate, then what is used up, an arrow, and what comes of it; at most two on a side
+    50.0 NO + site -> held
+    0.5 none + held -> none    `none` is a side without species, or a place that is left empty before the one that is taken
+
+A float is a decimal number, read as the nearest double, and written with the fewest digits that are read as the same double. What has no
+such number, an infinity or any of the NaNs, is written by its bits, 0x and 16 lowercase hex digits; all doubles may be. So every sheet
+that document 01's rules allow has a readable form, and comes back from it byte for byte. Names and comments are not in a sheet: out of one
+the species are called s1, s2 and so on."""
+
+import re
+import struct
+import sys
+
+MOST_BYTES = 4096
+MOST_SPECIES = 32
+MOST_REACTIONS = 64
+SETTINGS = 6
+RULES = ("rust", "book")
+NONE = "none"
+
+BITS = re.compile(rb"[0-9a-f]{16}")
+WHOLE = re.compile(rb"0|[1-9][0-9]{0,9}")
+DECIMAL = re.compile(r"[+-]?[0-9]+(\.[0-9]*)?([eE][+-]?[0-9]+)?")
+WRITTEN_BITS = re.compile(r"0x[0-9a-f]{16}")
+NAME = re.compile(r"[A-Za-z][A-Za-z0-9_]*")
+
+
+class Refused(Exception):
+    """What was read is neither a sheet nor a readable form: document 01's number or None, the line from 1 or None, and why."""
+
+    def __init__(self, number, line, why):
+        super().__init__(why)
+        self.number, self.line, self.why = number, line, why
+
+    def told(self):
+        if self.number:
+            place = f"refused {self.number}" + (f" {self.line}" if self.line else "")
+        else:
+            place = f"line {self.line}" if self.line else "readable form"
+        return f"{place}: {self.why}"
+
+
+class Model:
+    """Floats are bits; a reaction is its rate's bits and the numbers of two reactants and two products, 0 for none."""
+
+    def __init__(self, x0, xend, rtol, atol, max_steps, rule, amounts, reactions):
+        self.x0, self.xend, self.rtol, self.atol = x0, xend, rtol, atol
+        self.max_steps, self.rule = max_steps, rule
+        self.amounts, self.reactions = list(amounts), [tuple(reaction) for reaction in reactions]
+
+    def __eq__(self, other):
+        return vars(self) == vars(other)
+
+    def copy(self, **changes):
+        made = Model(**vars(self))
+        for name, value in changes.items():
+            if name not in vars(made):
+                raise TypeError(f"a model has no {name}")
+            setattr(made, name, value)
+        return made
+
+
+# --- The sheet -----------------------------------------------------------------------------------
+
+
+def sheet_of(model):
+    """The bytes of the sheet."""
+    lines = [str(SETTINGS)]
+    lines += [f"{bits:016x}" for bits in (model.x0, model.xend, model.rtol, model.atol)]
+    lines += [str(model.max_steps), str(model.rule)]
+    lines += [str(len(model.amounts))] + [f"{bits:016x}" for bits in model.amounts]
+    lines += [str(len(model.reactions))]
+    lines += [" ".join([f"{rate:016x}"] + [str(place) for place in places]) for rate, *places in model.reactions]
+    return "".join(line + "\n" for line in lines).encode("ascii")
+
+
+class Lines:
+    """The lines of a sheet, taken one after the other."""
+
+    def __init__(self, data):
+        *self.whole, self.rest = data.split(b"\n")
+        self.number = 0
+
+    def wrong(self, why):
+        raise Refused(20, self.number, why)
+
+    def take(self):
+        self.number += 1
+        if self.number > len(self.whole):
+            self.wrong("the line has no end" if self.rest else "the line is missing")
+        return self.whole[self.number - 1]
+
+    def bits(self, words):
+        if not BITS.fullmatch(words):
+            self.wrong("not 16 lowercase hex digits")
+        return int(words, 16)
+
+    def integer(self, words, low, high):
+        if not WHOLE.fullmatch(words):
+            self.wrong("not a decimal number of one to ten digits without leading zeros")
+        if not low <= int(words) <= high:
+            self.wrong(f"not {low} to {high}")
+        return int(words)
+
+    def reaction(self, species):
+        fields = self.take().split(b" ")
+        if len(fields) != 5:
+            self.wrong("not five fields with one space between")
+        return (self.bits(fields[0]), *(self.integer(field, 0, species) for field in fields[1:]))
+
+    def end(self):
+        self.number += 1
+        if self.number <= len(self.whole):
+            self.wrong("a further line")
+        if self.rest:
+            self.wrong("the line has no end")
+
+
+def model_of(data):
+    """The model of a sheet's bytes, or Refused with 21 or 20."""
+    if len(data) > MOST_BYTES:
+        raise Refused(21, None, f"more than {MOST_BYTES} bytes")
+    lines = Lines(data)
+    lines.integer(lines.take(), SETTINGS, SETTINGS)
+    x0, xend, rtol, atol = (lines.bits(lines.take()) for _ in range(4))
+    max_steps = lines.integer(lines.take(), 0, 10**10 - 1)
+    rule = lines.integer(lines.take(), 0, len(RULES) - 1)
+    species = lines.integer(lines.take(), 1, MOST_SPECIES)
+    amounts = [lines.bits(lines.take()) for _ in range(species)]
+    count = lines.integer(lines.take(), 0, MOST_REACTIONS)
+    reactions = [lines.reaction(species) for _ in range(count)]
+    lines.end()
+    return Model(x0, xend, rtol, atol, max_steps, rule, amounts, reactions)
+
+
+# --- The readable form ---------------------------------------------------------------------------
+
+
+def written(bits):
+    """A float as it is read: decimal where it is finite, else its bits."""
+    if bits >> 52 & 0x7FF == 0x7FF:
+        return f"0x{bits:016x}"
+    return repr(struct.unpack("<d", struct.pack("<Q", bits))[0])
+
+
+def side_of(first, second, names):
+    if second:
+        return f"{names[first]} + {names[second]}"
+    return names[first]
+
+
+def text_of(model):
+    """The readable form, with species called s1, s2 and so on."""
+    names = [NONE] + [f"s{number + 1}" for number in range(len(model.amounts))]
+    lines = [f"{name} {written(getattr(model, name))}" for name in ("x0", "xend", "rtol", "atol")]
+    lines += [f"max_steps {model.max_steps}", f"rule {RULES[model.rule]}", "species"]
+    lines += [f"{name} {written(bits)}" for name, bits in zip(names[1:], model.amounts)]
+    lines += ["reactions"]
+    lines += [f"{written(rate)} {side_of(r1, r2, names)} -> {side_of(p1, p2, names)}" for rate, r1, r2, p1, p2 in model.reactions]
+    return "".join(line + "\n" for line in lines)
+
+
+class Words:
+    """The lines of a readable form that hold anything, each as its number and its words."""
+
+    def __init__(self, text):
+        bare = [(number, line.split("#")[0].split()) for number, line in enumerate(text.split("\n"), 1)]
+        self.lines = [(number, words) for number, words in bare if words]
+        self.at, self.number = 0, 0
+
+    def wrong(self, why):
+        raise Refused(None, self.number, why)
+
+    def there(self):
+        return self.at < len(self.lines)
+
+    def take(self):
+        if not self.there():
+            raise Refused(None, None, "ends too soon")
+        self.number, words = self.lines[self.at]
+        self.at += 1
+        return words
+
+    def setting(self, name):
+        words = self.take()
+        if len(words) != 2 or words[0] != name:
+            self.wrong(f"not `{name}` and its value")
+        return words[1]
+
+    def heading(self, name):
+        if self.take() != [name]:
+            self.wrong(f"not `{name}` alone")
+
+    def is_heading(self, name):
+        return self.there() and self.lines[self.at][1] == [name]
+
+    def bits(self, word):
+        if WRITTEN_BITS.fullmatch(word):
+            return int(word, 16)
+        if not DECIMAL.fullmatch(word):
+            self.wrong(f"{word} is no float")
+        (bits,) = struct.unpack("<Q", struct.pack("<d", float(word)))
+        if bits >> 52 & 0x7FF == 0x7FF:
+            self.wrong(f"{word} is larger than all doubles; an infinity is written by its bits")
+        return bits
+
+    def side(self, words, names):
+        """One side of a reaction: a name, or two with a + between."""
+        if len(words) not in (1, 3) or (len(words) == 3 and words[1] != "+"):
+            self.wrong("a side is a name, or two with + between")
+        for name in words[::2]:
+            if name not in names:
+                self.wrong(f"{name} is no species")
+        places = [names.index(name) for name in words[::2]]
+        return places if len(places) == 2 else places + [0]
+
+    def species(self):
+        names, amounts = [NONE], []
+        self.heading("species")
+        while not self.is_heading("reactions"):
+            words = self.take()
+            if len(words) != 2 or not NAME.fullmatch(words[0]):
+                self.wrong("not a species' name and its amount")
+            if words[0] in names:
+                self.wrong(f"{words[0]} is taken")
+            names.append(words[0])
+            amounts.append(self.bits(words[1]))
+        if not 1 <= len(amounts) <= MOST_SPECIES:
+            raise Refused(None, None, f"{len(amounts)} species are not 1 to {MOST_SPECIES}")
+        return names, amounts
+
+    def reactions(self, names):
+        found = []
+        self.heading("reactions")
+        while self.there():
+            rate, *words = self.take()
+            if words.count("->") != 1:
+                self.wrong("not one arrow")
+            arrow = words.index("->")
+            found.append((self.bits(rate), *self.side(words[:arrow], names), *self.side(words[arrow + 1 :], names)))
+        if len(found) > MOST_REACTIONS:
+            raise Refused(None, None, f"{len(found)} reactions are more than {MOST_REACTIONS}")
+        return found
+
+
+def model_of_text(text):
+    """The model of a readable form, or Refused."""
+    words = Words(text)
+    x0, xend, rtol, atol = (words.bits(words.setting(name)) for name in ("x0", "xend", "rtol", "atol"))
+    steps = words.setting("max_steps")
+    if not WHOLE.fullmatch(steps.encode()):
+        words.wrong("not a decimal number of one to ten digits without leading zeros")
+    rule = words.setting("rule")
+    if rule not in RULES:
+        words.wrong(f"the rule is none of {', '.join(RULES)}")
+    names, amounts = words.species()
+    return Model(x0, xend, rtol, atol, int(steps), RULES.index(rule), amounts, words.reactions(names))
+
+
+# --- The command ---------------------------------------------------------------------------------
+
+
+def read(words):
+    if words:
+        with open(words[0], "rb") as file:
+            return file.read()
+    return sys.stdin.buffer.read()
+
+
+def main(words):
+    if len(words) not in (1, 2) or words[0] not in ("sheet", "text"):
+        sys.exit("usage: tools/sheet.py sheet|text [FILE]")
+    try:
+        data = read(words[1:])
+        if words[0] == "sheet":
+            made = sheet_of(model_of_text(data.decode("utf-8")))
+        else:
+            made = text_of(model_of(data)).encode("ascii")
+    except Refused as refused:
+        sys.exit(refused.told())
+    except (OSError, UnicodeDecodeError) as trouble:
+        sys.exit(str(trouble))
+    sys.stdout.buffer.write(made)
+
+
+if __name__ == "__main__":
+    main(sys.argv[1:])
