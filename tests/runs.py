@@ -678,9 +678,8 @@ def every_run():
 # --- What the Rust answers -----------------------------------------------------------------------
 
 
-def answers_of_rust(folder, runs):
+def answers_of(program, runs):
     """For each run the words of its requests, and how often each branch was taken."""
-    program = build(folder)
     asked = "".join(run.line(number + 1) + "\n" for number, run in enumerate(runs))
     done = subprocess.run([program], input=asked, capture_output=True, text=True)
     insist(done.returncode == 0, f"the Rust's program stopped:\n{done.stderr}")
@@ -696,16 +695,20 @@ FILLED, MODIFIED, MARK = 1, 4, 5
 RESULT = "h x ode jac lu total accepted rejected".split()
 
 
+def lengths_behind(n, head):
+    """How many floats follow a head and its hash, and how many words of a reply or a result follow these."""
+    kind, reply = head >> 12, head & 15
+    insist(kind in KINDS, "a request has no kind")
+    return {1: 1, 2: 1, 3: 2, 4: 0}[kind], {1: n, 2: n * n, 3: {MODIFIED: n + 1, MARK: 1}.get(reply, 0), 4: len(RESULT)}[kind]
+
+
 def requests_of(n, words):
     """The requests of a run: kind, place, flag, reply, and the words that follow the hash."""
     found, at = [], 0
     while at < len(words):
-        kind, place, flag, reply = (words[at] >> shift & 15 for shift in (12, 8, 4, 0))
-        insist(kind in KINDS, "the Rust's program wrote a request of no kind")
-        floats = {1: 1, 2: 1, 3: 2, 4: 0}[kind]
-        said = {1: n, 2: n * n, 3: {MODIFIED: n + 1, MARK: 1}.get(reply, 0), 4: len(RESULT)}[kind]
-        found.append((kind, place, flag, reply, words[at + 2 : at + 2 + floats + said]))
-        at += 2 + floats + said
+        end = at + 2 + sum(lengths_behind(n, words[at]))
+        found.append((*(words[at] >> shift & 15 for shift in (12, 8, 4, 0)), words[at + 2 : end]))
+        at = end
     insist(at == len(words) and found[-1][0] == 4, "the Rust's program wrote a run with no end")
     return found
 
@@ -756,7 +759,7 @@ def check(folder):
         print("so the runs of the Rust are NOT compared with the advance")
         return
     runs = every_run()
-    answers, counts = answers_of_rust(folder, runs)
+    answers, counts = answers_of(build(folder), runs)
     try_figures(answers)
     try_branches(counts)
     told = replayed(folder, runs)
@@ -766,7 +769,7 @@ def check(folder):
 
 def branches(folder):
     insist(folder and rust_crate.compiler(), "without the Rust's text and rustc nothing is run")
-    counts = answers_of_rust(folder, every_run())[1]
+    counts = answers_of(build(folder), every_run())[1]
     print("\n".join(table(counts)))
     try_branches(counts)
 

@@ -2,6 +2,7 @@
 --     error-column, column-error      an answered stop is an error exactly at a column, which is the one that the event names; its number is 17
 --     real-answers, complex-answers   what a try of a pass answers: no refusal, so an error is `Singular`
 --     pass-events, pass-silent        what a pass writes, by the two stops; and nothing where no matrices are wanted
+--     pass-total                      total is as it was: a pass begins no attempt
 use Prim.Native.Nat.{ℕ, _*_, _≤_}
 use mathlib.Core.Path.{_≡_, refl, sym, ap, _∙_}
 use mathlib.Core.Bool.{true, false, true≢false}
@@ -9,7 +10,7 @@ use mathlib.Core.List.{List, [], _∷_}
 use lib.Ieee.{Float}
 use borrow.Author.Tests.{le-leb, eq-eqb}
 use Rattle.words.specs.Loop.{pick}
-use Rattle.words.proofs.Branch.{pick-yes, pick-no}
+use Rattle.words.proofs.Branch.{pick-yes, pick-no, pick-all}
 use Rattle.matrix.specs.declared.answers.Decomposed.{Decomposed}
 use Rattle.matrix.specs.Answers.{Stop, nowhere, column, stopAnswer, decomposedNumber}
 use Rattle.matrix.specs.Complex.{Parts, parts}
@@ -18,9 +19,11 @@ use Rattle.matrix.specs.Lu.{real, luDecompOf}
 use Rattle.matrix.specs.LuComplex.{complexKind, luDecompComplexOf}
 use Rattle.state.specs.declared.run.Run.{Run}
 use Rattle.state.specs.Memory.{Factors}
+use Rattle.blocks.specs.declared.step.Step.{Step}
+use Rattle.blocks.specs.Setters.{_▸_, inCounts, oneLu}
 use Rattle.blocks.specs.Entries.{Three, three}
 use Rattle.blocks.specs.Events.{real-try, complex-try, real-singular, complex-singular, Logged, logged, quiet, noted}
-use Rattle.blocks.specs.Matrices.{isErr, columnOf, builtOf, Tried, complexTriedOf, realTriedOf, triedOf}
+use Rattle.blocks.specs.Matrices.{failedOf, isErr, columnOf, builtOf, Tried, runOf, complexTriedOf, realTriedOf, triedOf}
 use Rattle.blocks.specs.Needs.{FactorsLong}
 use Rattle.account.specs.Truth.{passLog}
 use Rattle.account.proofs.Decompositions.{Long, set-long}
@@ -87,3 +90,20 @@ module _ (r : Run) (mass jac : List Float) (f : Factors) where
     pub pass-events : r .control .«call_decomp» ≡ true → triedOf r mass jac f .log ≡ passLog e1Stop e2Stop
     unfolding triedOf realTriedOf complexTriedOf
     pass-events e = ap (λ (l : Logged Tried). l .log) (pick-yes _ _ e) ∙ tries _ _ _ e1Stop e2Stop real-answers complex-answers
+
+-- ---- a pass begins no attempt, singular or not
+
+failed-total : (r : Run) → runOf (failedOf r) .counts .total ≡ r .counts .total
+unfolding failedOf
+failed-total r = pick-all (λ (s : Step). runOf s .counts .total ≡ r .counts .total) _ _ _ (λ _. refl) (λ _. refl)
+
+module _ (r : Run) where
+  abbrev Total : Logged Tried → Type 0
+  Total l = runOf (l .core .step) .counts .total ≡ r .counts .total
+
+  pub pass-total : (mass jac : List Float) (f : Factors) → Total (triedOf r mass jac f)
+  unfolding triedOf realTriedOf complexTriedOf
+  pass-total mass jac f =
+      pick-all Total _ _ _
+      (λ _. pick-all Total _ _ _ (λ _. failed-total (r ▸ inCounts oneLu)) (λ _. pick-all Total _ _ _ (λ _. failed-total (r ▸ inCounts oneLu ▸ inCounts oneLu)) (λ _. refl)))
+      (λ _. refl)

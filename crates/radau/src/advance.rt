@@ -32,6 +32,7 @@ ghost use mathlib.Core.List.{List};
 ghost use lib.ListN.{length};
 ghost use lib.Ieee.{Float};
 ghost use Rattle.words.specs.Grid.{Square};
+ghost use Rattle.state.specs.declared.talk.Answer.the-variants.{Asked};
 ghost use Rattle.state.specs.Memory.{Newton, Given, Factors, Differences, memory, amounts, newton, given, factors, differences};
 ghost use Rattle.blocks.specs.Advance.{stepped, startedOf, returnedOf, concludeOf, repliedOf, called, calledOf, outcome, advanceOf};
 ghost use Rattle.blocks.specs.Needs.{Fit, StepFit, RoundFit, ToldFit, MemoryLong, NewtonLong, StageFit};
@@ -216,6 +217,16 @@ fn called(
     }
 }
 
+// The answer that asks what a call of the host asks.
+fn asked(call: Call) -> Answer
+    ensures { λ r. ⌜ r ≡ Asked (call .run) (call .request) (call .place) ⌝ }
+{
+    let run = call.run;
+    let request = call.request;
+    let place = call.place;
+    Answer::Asked(run, request, place)
+}
+
 // A reply of the host to the run that it answers.
 pub struct Turn {
     pub run: Run,
@@ -253,6 +264,8 @@ impl Turn {
     {
         let run = self.run;
         let reply = self.reply;
+        // Set at once: while a local holds nothing, every loan is dear to check.
+        let mut step = Step::Main(run);
         match admission(
             run,
             reply,
@@ -279,56 +292,53 @@ impl Turn {
             f_perturbed,
             f_origin,
         ) {
-            Verdict::Refused(refusal) => Answer::Refused(run, refusal),
-            Verdict::Passed => {
-                let step = replied(
-                    run,
-                    reply,
-                    y,
-                    f0,
-                    scal,
-                    cont,
-                    z1,
-                    z2,
-                    z3,
-                    f1,
-                    f2,
-                    f3,
-                    rtol,
-                    atol,
-                    mass,
-                    jac,
-                    e1,
-                    e2r,
-                    e2i,
-                    ip1,
-                    ip2,
-                    y_perturbed,
-                    f_perturbed,
-                    f_origin,
-                );
-                let shape = run.shape;
-                let step = passes(shape.n, step, mass, jac, e1, e2r, e2i, ip1, ip2);
-                let call = called(
-                    step,
-                    y,
-                    scal,
-                    cont,
-                    z1,
-                    z2,
-                    z3,
-                    f1,
-                    f2,
-                    f3,
-                    y_perturbed,
-                    f_perturbed,
-                    f_origin,
-                );
-                let run = call.run;
-                let request = call.request;
-                let place = call.place;
-                Answer::Asked(run, request, place)
+            Verdict::Refused(refusal) => {
+                return Answer::Refused(run, refusal);
             }
+            Verdict::Passed => {}
         }
+        step = replied(
+            run,
+            reply,
+            y,
+            f0,
+            scal,
+            cont,
+            z1,
+            z2,
+            z3,
+            f1,
+            f2,
+            f3,
+            rtol,
+            atol,
+            mass,
+            jac,
+            e1,
+            e2r,
+            e2i,
+            ip1,
+            ip2,
+            y_perturbed,
+            f_perturbed,
+            f_origin,
+        );
+        let shape = run.shape;
+        step = passes(shape.n, step, mass, jac, e1, e2r, e2i, ip1, ip2);
+        asked(called(
+            step,
+            y,
+            scal,
+            cont,
+            z1,
+            z2,
+            z3,
+            f1,
+            f2,
+            f3,
+            y_perturbed,
+            f_perturbed,
+            f_origin,
+        ))
     }
 }

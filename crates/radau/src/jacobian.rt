@@ -13,7 +13,9 @@ use state::talk::Place;
 use state::talk::Request;
 ghost use mathlib.Core.Path.{_≡_};
 ghost use Prim.Native.Nat.{_+_, _≤_, _<_, _^_};
+ghost use mathlib.Core.List.{List};
 ghost use lib.ListN.{length};
+ghost use lib.Ieee.{Float};
 ghost use Rattle.words.specs.Loop.{loop};
 ghost use Rattle.words.specs.Grid.{Square};
 ghost use Rattle.state.specs.Memory.{differences};
@@ -85,9 +87,9 @@ fn perturbation(y: f64) -> f64
 }
 
 // An amount is moved, and the derivative there asked.
-fn ask_column(run: Run, col: usize, y: &[f64], y_perturbed: &mut [f64], jac: &[f64]) -> Step
+fn ask_column(run: Run, col: usize, y: &[f64], y_perturbed: &mut [f64]) -> Step
     requires { ⌜ (col < 32) × (col < length (now y)) × (col < length (now «y_perturbed»)) ⌝ }
-    ensures { λ r. ⌜ columned r (now («y_perturbed» .exit)) (now (jac .entry)) ≡ askColumnOf run col (now (y .entry)) (now («y_perturbed» .entry)) (now (jac .entry)) ⌝ }
+    ensures { λ r. ⌜ ((jac : List Float) → columned r (now («y_perturbed» .exit)) jac ≡ askColumnOf run col (now (y .entry)) (now («y_perturbed» .entry)) jac) ⌝ }
 {
     y_perturbed[col] = y[col] + perturbation(y[col]);
     let x = run.numbers.x;
@@ -123,13 +125,13 @@ pub fn column(
     let shape = run.shape;
     let n = shape.n;
     if c == 0 {
-        return ask_column(run, 0, y, y_perturbed, jac);
+        return ask_column(run, 0, y, y_perturbed);
     }
     let col = c - 1;
     y_perturbed[col] = y[col];
     fill_column(n, col, perturbation(y[col]), f_perturbed, f_origin, jac);
     if c < n {
-        return ask_column(run, c, y, y_perturbed, jac);
+        return ask_column(run, c, y, y_perturbed);
     }
     Step::Matrices(run)
 }

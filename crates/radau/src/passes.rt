@@ -12,8 +12,10 @@ use state::run::Status;
 use state::talk::Place;
 use state::talk::Request;
 ghost use mathlib.Core.Path.{_≡_};
-ghost use Prim.Native.Nat.{_+_, _≤_, _<_, _^_};
+ghost use Prim.Native.Nat.{ℕ, _+_, _≤_, _<_, _^_};
+ghost use mathlib.Core.List.{List};
 ghost use lib.ListN.{length};
+ghost use lib.Ieee.{Float};
 ghost use Rattle.words.specs.Grid.{Square};
 ghost use Rattle.state.specs.Memory.{factors};
 ghost use Rattle.blocks.specs.Setters.{inCounts, oneLu, atStage};
@@ -104,16 +106,9 @@ pub fn counted(run: Run) -> Run
 }
 
 // E2, where E1 is decomposed.
-fn complex_tried(
-    run: Run,
-    e1: &[f64],
-    e2r: &mut [f64],
-    e2i: &mut [f64],
-    ip1: &[usize],
-    ip2: &mut [usize],
-) -> Step
+fn complex_tried(run: Run, e2r: &mut [f64], e2i: &mut [f64], ip2: &mut [usize]) -> Step
     requires { ⌜ Fit 1 (run .shape .n) run ⌝ }
-    ensures { λ r. ⌜ tried r (factors (now (e1 .entry)) (now (e2r .exit)) (now (e2i .exit)) (now (ip1 .entry)) (now (ip2 .exit))) ≡ complexTriedOf run (factors (now (e1 .entry)) (now (e2r .entry)) (now (e2i .entry)) (now (ip1 .entry)) (now (ip2 .entry))) .core ⌝ }
+    ensures { λ r. ⌜ ((e1 : List Float) (ip1 : List ℕ) → tried r (factors e1 (now (e2r .exit)) (now (e2i .exit)) ip1 (now (ip2 .exit))) ≡ complexTriedOf run (factors e1 (now (e2r .entry)) (now (e2i .entry)) ip1 (now (ip2 .entry))) .core) ⌝ }
 {
     let shape = run.shape;
     let answer = lu_decomp_complex(shape.n, e2r, e2i, ip2);
@@ -141,7 +136,7 @@ fn real_tried(
     if is_err(answer) {
         return failed(s);
     }
-    complex_tried(s, e1, e2r, e2i, ip1, ip2)
+    complex_tried(s, e2r, e2i, ip2)
 }
 
 // One pass through the matrices, where they are wanted.

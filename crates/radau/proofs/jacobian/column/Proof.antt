@@ -9,16 +9,16 @@ use Rattle.radau.proofs.jacobian.column.Statement.{statement}
 use Rattle.radau.proofs.jacobian.column.Tie as tie
 
 returns : tie.Need-returns
-returns c = column-first _ _ _ _ _ _ (c .before .before .before .before .before .if1 .taken) (c .before .before .ask-column .ensures)
+returns c = column-first _ _ _ _ _ _ (c .before .before .before .before .if1 .taken) (c .before .before .ask-column .ensures _)
 
 ask-column-requires-2 : tie.Need-ask-column-requires-2
 ask-column-requires-2 c κs = simp length-set (omega arith)
 
-same-length-3 : tie.Need-same-length-3
-same-length-3 c = simp length-set at (c .before .before .ask-column2 .kept .1 .1 .1 .0)
+same-length-2 : tie.Need-same-length-2
+same-length-2 c = simp length-set at (c .before .before .ask-column2 .kept .1 .1 .1 .0)
 
 returns-2 : tie.Need-returns-2
-returns-2 c = column-next _ _ _ _ _ _ (c .before .before .before .before .before .before .before .before .before .before .before .before .before .before .before .before .before .before .before .before .args .c - 1) (omega arith) (c .before .before .before .before .before .before .before .before .before .before .perturbation .ensures) (c .before .before .before .before .before .before .before .before .fill-column .ensures) (c .before .before .before .before .before .if2 .taken) (c .before .before .ask-column2 .ensures)
+returns-2 c = column-next _ _ _ _ _ _ (c .before .before .before .before .before .before .before .before .before .before .before .before .before .before .before .before .before .before .before .args .c - 1) (omega arith) (c .before .before .before .before .before .before .before .before .before .perturbation .ensures) (c .before .before .before .before .before .before .before .fill-column .ensures) (c .before .before .before .before .if2 .taken) (c .before .before .ask-column2 .ensures _)
 
 returns-3 : tie.Need-returns-3
 returns-3 c = column-last _ _ _ _ _ _ (c .before .before .before .before .before .before .before .before .before .before .before .before .before .before .before .args .c - 1) (omega arith) (c .before .before .before .before .before .perturbation .ensures) (c .before .before .before .fill-column .ensures) (c .if2 .left) refl
@@ -26,9 +26,9 @@ returns-3 c = column-last _ _ _ _ _ _ (c .before .before .before .before .before
 pub column-spec : {M : Type 1} → statement M
 column-spec =
     tie.close
-    (tie.spec (λ c κs. search needs) (λ c. search needs) (λ c. search needs)
+    (tie.spec (λ c κs. search needs) (λ c. search needs)
     returns (λ c. search needs) (λ c. search needs) (λ c. search needs) (λ c. search needs) (λ c. search needs) (λ c. search needs) (λ c. search needs) (λ c κs. search needs) (λ c κs. search needs)
     ask-column-requires-2
-    same-length-3 (λ c. search needs)
+    same-length-2 (λ c. search needs)
     returns-2 (λ c. search needs) (λ c. search needs)
     returns-3)

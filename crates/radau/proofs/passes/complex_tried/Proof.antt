@@ -6,13 +6,13 @@ use Rattle.radau.proofs.passes.complex_tried.Statement.{statement}
 use Rattle.radau.proofs.passes.complex_tried.Tie as tie
 
 failed-requires : tie.Need-failed-requires
-failed-requires c κs = rw (c .before .before .counted .ensures) (c .before .before .before .before .before .before .before .before .before .before .before .before .before .before .before .before .before .before .before .pre .failures)
+failed-requires c κs = rw (c .before .before .counted .ensures) (c .before .before .before .before .before .before .before .before .before .before .before .before .before .before .before .before .before .pre .failures)
 
 returns : tie.Need-returns
-returns c = complex-failed _ (factors _ _ _ _ _) (c .before .before .before .before .before .before .before .before .before .before .lu-decomp-complex .result) _ (c .before .before .before .counted .ensures) (c .before .before .is-err .result) (c .before .before .is-err .ensures) _ _ (c .before .before .before .before .before .before .before .before .before .before .lu-decomp-complex .ensures) (c .before .if1 .taken) (c .failed .ensures)
+returns c = λ e1 ip1. complex-failed _ (factors e1 _ _ ip1 _) (c .before .before .before .before .before .before .before .before .before .before .lu-decomp-complex .result) _ (c .before .before .before .counted .ensures) (c .before .before .is-err .result) (c .before .before .is-err .ensures) _ _ (c .before .before .before .before .before .before .before .before .before .before .lu-decomp-complex .ensures) (c .before .if1 .taken) (c .failed .ensures)
 
 returns-2 : tie.Need-returns-2
-returns-2 c = complex-done _ (factors _ _ _ _ _) (c .before .before .before .before .before .before .before .before .before .lu-decomp-complex .result) _ (c .before .before .counted .ensures) (c .before .is-err .result) (c .before .is-err .ensures) _ _ (c .before .before .before .before .before .before .before .before .before .lu-decomp-complex .ensures) (c .if1 .left)
+returns-2 c = λ e1 ip1. complex-done _ (factors e1 _ _ ip1 _) (c .before .before .before .before .before .before .before .before .before .lu-decomp-complex .result) _ (c .before .before .counted .ensures) (c .before .is-err .result) (c .before .is-err .ensures) _ _ (c .before .before .before .before .before .before .before .before .before .lu-decomp-complex .ensures) (c .if1 .left)
 
 pub complex-tried-spec : {M : Type 1} → statement M
 complex-tried-spec =

@@ -13,10 +13,10 @@ returns : tie.Need-returns
 returns c = real-failed _ (factors _ _ _ _ _) (c .before .before .before .before .before .before .before .before .lu-decomp .result) _ (c .before .before .before .counted .ensures) (c .before .before .is-err .result) (c .before .before .is-err .ensures) _ (c .before .before .before .before .before .before .before .before .lu-decomp .ensures) (c .before .if1 .taken) (c .failed .ensures)
 
 complex-tried-requires : tie.Need-complex-tried-requires
-complex-tried-requires c κs = rw (c .before .before .before .before .before .before .before .counted .ensures) (counted-fit (c .before .before .before .before .before .before .before .before .before .before .before .before .before .before .before .before .before .before .before .before .before .pre))
+complex-tried-requires c κs = rw (c .before .before .before .before .before .counted .ensures) (counted-fit (c .before .before .before .before .before .before .before .before .before .before .before .before .before .before .before .before .before .before .before .pre))
 
 returns-2 : tie.Need-returns-2
-returns-2 c = real-done _ (factors _ _ _ _ _) (c .before .before .before .before .before .before .before .before .before .before .before .before .before .before .before .before .before .before .before .lu-decomp .result) _ (c .before .before .before .before .before .before .before .before .before .before .before .before .before .before .counted .ensures) (c .before .before .before .before .before .before .before .before .before .before .before .before .before .is-err .result) (c .before .before .before .before .before .before .before .before .before .before .before .before .before .is-err .ensures) _ (c .before .before .before .before .before .before .before .before .before .before .before .before .before .before .before .before .before .before .before .lu-decomp .ensures) (c .before .before .before .before .before .before .before .before .before .before .before .before .if1 .left) (c .before .before .before .before .before .before .complex-tried .ensures)
+returns-2 c = real-done _ (factors _ _ _ _ _) (c .before .before .before .before .before .before .before .before .before .before .before .before .before .before .before .before .before .lu-decomp .result) _ (c .before .before .before .before .before .before .before .before .before .before .before .before .counted .ensures) (c .before .before .before .before .before .before .before .before .before .before .before .is-err .result) (c .before .before .before .before .before .before .before .before .before .before .before .is-err .ensures) _ (c .before .before .before .before .before .before .before .before .before .before .before .before .before .before .before .before .before .lu-decomp .ensures) (c .before .before .before .before .before .before .before .before .before .before .if1 .left) (c .before .before .before .before .before .before .complex-tried .ensures _ _)
 
 pub real-tried-spec : {M : Type 1} → statement M
 real-tried-spec =

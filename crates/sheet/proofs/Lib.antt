@@ -1,0 +1,14 @@
+pub mod DigitsLaws
+pub mod NumbersLaws
+pub mod Inverse
+pub mod Passages
+pub mod ReaderLaws
+pub mod Parts
+pub mod FillLaws
+pub mod AnswerLaws
+pub mod Sheets
+pub mod Accepted
+pub mod First
+pub mod Reached
+pub mod SheetTheorems
+pub mod Samples

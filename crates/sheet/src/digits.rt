@@ -1,0 +1,108 @@
+// Numbers spelled by digits, the first of them the highest.
+ghost use Prim.Native.Nat.{_≤_, _*_};
+ghost use mathlib.Core.Path.{_≡_};
+ghost use lib.ListN.{length};
+ghost use Rattle.sheet.specs.Digits.{digitOf, spelledOf, widthOf, baseOf, widthBy, foundOf};
+
+pub enum Spelt {
+    Value(u64),
+    Wrong,
+}
+
+// The value of a hexadecimal digit in lower case; 16 for any other byte.
+fn digit(byte: u8) -> u64
+    ensures { λ r. ⌜ r ≡ digitOf byte ⌝ }
+{
+    if byte < b'0' {
+        return 16;
+    }
+    if byte <= b'9' {
+        return byte as u64 - 48;
+    }
+    if byte < b'a' {
+        return 16;
+    }
+    if byte <= b'f' {
+        return byte as u64 - 87;
+    }
+    16
+}
+
+// The number that the digits of a text spell; no more than sixteen, so that it fits.
+pub fn spelled(text: &[u8], base: u64) -> Spelt
+    requires { ⌜ (length (now text) ≤ 16) × (base ≤ 16) ⌝ }
+    ensures { λ r. ⌜ r ≡ spelledOf base 0 (now (text .entry)) ⌝ }
+{
+    let mut value: u64 = 0;
+    let mut i = 0;
+    while i < text.len() {
+        let next = digit(text[i]);
+        if base <= next {
+            return Spelt::Wrong;
+        }
+        value = value * base + next;
+        i += 1;
+    }
+    Spelt::Value(value)
+}
+
+pub fn base(hex: bool) -> u64
+    ensures { λ r. ⌜ r ≡ baseOf hex ⌝ }
+{
+    if hex { 16 } else { 10 }
+}
+
+// How many decimal digits a number has, where it has no more than ten.
+fn width(value: u64) -> usize
+    ensures { λ r. ⌜ r ≡ widthOf value ⌝ }
+{
+    if value < 10 {
+        return 1;
+    }
+    if value < 100 {
+        return 2;
+    }
+    if value < 1000 {
+        return 3;
+    }
+    if value < 10000 {
+        return 4;
+    }
+    if value < 100000 {
+        return 5;
+    }
+    if value < 1000000 {
+        return 6;
+    }
+    if value < 10000000 {
+        return 7;
+    }
+    if value < 100000000 {
+        return 8;
+    }
+    if value < 1000000000 { 9 } else { 10 }
+}
+
+// How many digits a number is written with: the bits of a float always with sixteen.
+pub fn width_by(hex: bool, value: u64) -> usize
+    ensures { λ r. ⌜ r ≡ widthBy hex value ⌝ }
+{
+    if hex {
+        return 16;
+    }
+    width(value)
+}
+
+// Where a byte first stands in a text; the text's length, where it doesn't.
+pub fn find(text: &[u8], byte: u8) -> usize
+    ensures { λ r. ⌜ (r ≡ foundOf byte (now (text .entry))) × (r ≤ length (now (text .entry))) ⌝ }
+{
+    let mut i = 0;
+    while i < text.len() {
+        if text[i] == byte {
+            return i;
+        }
+        i += 1;
+    }
+    i
+}
