@@ -11,3 +11,4 @@ pub mod RoundingLaws
 pub mod SquareRootTheorems
 pub mod Table
 pub mod CoefficientTheorems
+pub mod Traps
