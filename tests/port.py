@@ -1,4 +1,6 @@
-"""The Rattle sources as Rust: Rattle's syntax is Rust's, so with the contracts taken out rustc compiles the very code that is proved. For tests that hold it beside the Rust's."""
+"""The Rattle sources as Rust: Rattle's syntax is Rust's, so with the contracts taken out rustc compiles the very code that is proved. For tests that hold it beside the Rust's.
+
+The branches of the solver are counted: each outcome of an `if` and each arm of a `match` of crates/radau, under the names that `build` gives."""
 
 import re
 import shutil
@@ -37,15 +39,63 @@ def stripped(text):
     return "\n".join(lines)
 
 
+# The crate whose branches are counted, and what counts them there.
+COUNTED = "radau"
+COUNTER = """
+pub mod taken {
+    use std::sync::atomic::{AtomicU64, Ordering::Relaxed};
+    pub static TAKEN: [AtomicU64; ROOM] = [const { AtomicU64::new(0) }; ROOM];
+    pub fn arm(k: usize) {
+        TAKEN[k].fetch_add(1, Relaxed);
+    }
+    pub fn test(k: usize, holds: bool) -> bool {
+        arm(if holds { k } else { k + 1 });
+        holds
+    }
+}
+"""
+
+
+def unlike(names, name):
+    """The name, told apart from those that are there."""
+    return name if name not in names else unlike(names, name + ", again")
+
+
+def counting(text, file, names):
+    """The text with its branches counted; their names, the file and the line's own words, are added to `names`."""
+    lines, arms = [], []
+    for line in text.split("\n"):
+        indent = len(line) - len(line.lstrip())
+        test = re.fullmatch(r"(.*\bif )(.*)( \{)", line)
+        arm = re.fullmatch(r"(\s*[A-Z]\w*::.* => )(.*)", line)
+        if test:
+            line = f"{test.group(1)}crate::taken::test({len(names)}, {test.group(2)}){test.group(3)}"
+            names += [unlike(names, f"{file}: if {test.group(2)}: {outcome}") for outcome in ("yes", "no")]
+        elif arm:
+            whole = arm.group(2).endswith(",") or arm.group(2) == "{}"
+            line = f"{arm.group(1)}{{ crate::taken::arm({len(names)}); {arm.group(2).rstrip(',')}" + (" }" if whole else "")
+            names.append(unlike(names, f"{file}: {arm.group(1).strip()[:-3]}"))
+            if not whole:
+                arms.append(indent)
+        elif arms and indent == arms[-1] and line.strip() in ("}", "},", "),"):
+            line = line.rstrip(",") + " }"
+            arms.pop()
+        lines.append(line)
+    return "\n".join(lines)
+
+
 def build():
-    """Compiles the crates, overflow and bounds checked. Gives the folder of the libraries."""
+    """Compiles the crates, overflow and bounds checked. Gives the folder of the libraries, and the names of the branches that are counted."""
     shutil.rmtree(TARGET, ignore_errors=True)
+    names = []
     for name, leans_on in CRATES.items():
         folder = TARGET / name
         folder.mkdir(parents=True)
-        for file in (rust_text.ROOT / "crates" / name / "src").glob("*.rt"):
-            head = "#![allow(warnings)]\n" if file.stem == "lib" else ""
-            (folder / f"{file.stem}.rs").write_text(head + stripped(file.read_text()))
+        for file in sorted((rust_text.ROOT / "crates" / name / "src").glob("*.rt")):
+            text = stripped(file.read_text())
+            (folder / f"{file.stem}.rs").write_text(counting(text, file.stem, names) if name == COUNTED else text)
+        root = folder / "lib.rs"
+        root.write_text("#![allow(warnings)]\n" + root.read_text() + (COUNTER.replace("ROOM", str(len(names))) if name == COUNTED else ""))
         run = ["rustc", "--edition", "2021", "-O", "-C", "debug-assertions=on", "--crate-type", "rlib", "--crate-name", name]
         run += [str(folder / "lib.rs"), "--out-dir", str(TARGET), "-L", str(TARGET)]
         for lower in leans_on:
@@ -53,4 +103,4 @@ def build():
         done = subprocess.run(run, capture_output=True, text=True)
         if done.returncode:
             sys.exit(f"port: rustc does not take {name}:\n{done.stderr[:4000]}")
-    return TARGET
+    return TARGET, names

@@ -2,7 +2,7 @@
 """Whole runs of the Rust's own `solve`, call by call, beside the advance of crates/radau.
 
     tests/runs.py check [FOLDER]     run both and compare every request
-    tests/runs.py branches [FOLDER]  print how often each branch of the Rust is taken
+    tests/runs.py branches [FOLDER]  print how often each branch of the Rust is taken, and each of the advance
 
 `check` ends with status 1 where a run differs, and shows where. FOLDER holds the Rust's text; tests/rust_text.py says where it
 is looked for otherwise. Without the text, or without rustc, `check` says that nothing was compared.
@@ -731,6 +731,24 @@ def try_branches(counts):
     insist(not unknown, f"these branches were taken and are not known: {unknown}")
 
 
+# Branches of the advance that no run takes, and why.
+NEVER = {
+    "advance: Stage::Ended(status)": "14 stands before it",
+    "advance: Step::Matrices(run)": "six passes settle the matrices",
+    "passes: Decomposed::RefusedOrder": "the order fits",
+    "passes: Decomposed::RefusedLength": "the lengths fit",
+    "passes: Step::Asked(call)": "the run of a step is taken only where another pass is wanted",
+    "passes: Step::Attempt(run)": "likewise",
+    "report: Reply::Filled": "15 stands before it",
+}
+
+
+def try_our_branches(counts):
+    """Every branch of the advance was taken, but for those that can't be."""
+    missing = [name for name, count in counts.items() if not count]
+    insist(sorted(missing) == sorted(NEVER), f"no run takes these branches of the advance: {missing}")
+
+
 def table(counts):
     return [f"{counts.get(name, '0'):>8} {name}" for name in names_counted()]
 
@@ -739,8 +757,8 @@ def table(counts):
 
 
 def replayed(folder, runs):
-    """Runs the Rust and the advance side by side. Gives what the program tells."""
-    libraries = port.build()
+    """Runs the Rust and the advance side by side. Gives what the program tells, and how often each branch of the advance was taken."""
+    libraries, names = port.build()
     root = make_crate(folder, extra=f'#[path = "{REPLAY.resolve()}"]\nmod replay;', main="replay::go();")
     made = TARGET / "replay"
     run = ["rustc", "--edition", "2021", "-O", "--crate-name", "replay", str(root), "-o", str(made), "-L", str(libraries)]
@@ -751,7 +769,8 @@ def replayed(folder, runs):
     asked = "".join(run.line(number + 1) + "\n" for number, run in enumerate(runs))
     done = subprocess.run([made], input=asked, capture_output=True, text=True)
     insist(done.returncode == 0, f"the comparison stopped:\n{done.stderr}")
-    return done.stdout
+    *told, counts = done.stdout.splitlines()
+    return "\n".join(told), dict(zip(names, map(int, counts.split()), strict=True))
 
 
 def check(folder):
@@ -762,16 +781,20 @@ def check(folder):
     answers, counts = answers_of(build(folder), runs)
     try_figures(answers)
     try_branches(counts)
-    told = replayed(folder, runs)
-    insist(told.endswith(" 0 differ\n"), told)
-    print(f"{told.strip()}; of the Rust's branches {len(counts)} are counted, and each is taken")
+    told, ours = replayed(folder, runs)
+    insist(told.endswith(" 0 differ"), told)
+    try_our_branches(ours)
+    print(f"{told}; of the Rust's branches {len(counts)} are counted, of the advance's {len(ours)}, and each is taken but for {len(NEVER)} that can't be")
 
 
 def branches(folder):
     insist(folder and rust_crate.compiler(), "without the Rust's text and rustc nothing is run")
-    counts = answers_of(build(folder), every_run())[1]
+    runs = every_run()
+    counts, ours = answers_of(build(folder), runs)[1], replayed(folder, runs)[1]
     print("\n".join(table(counts)))
+    print("\n".join(f"{count:>8} {name}" for name, count in ours.items()))
     try_branches(counts)
+    try_our_branches(ours)
 
 
 def main(words):

@@ -1,6 +1,7 @@
 -- Wrong readings of lu.rs, each as a routine that takes it, and each refuted: at a matrix of order 2 it gives what the Rust doesn't.
 --     not-unnegated           multipliers stored as they are, not their negatives
 --     not-last-of-largest     the last of the largest pivots, not the first
+--     not-one-way-swap        a row that is to go up put where it came from, so that the other is lost
 --     not-first-diagonal      the first diagonal entry tested at the end, not the last
 --     not-imaginary-sign      the real part of an imaginary-only product added, not taken away
 use Prim.Native.Nat.{ℕ, _+_, _-_}
@@ -8,7 +9,7 @@ use mathlib.Core.Bool.{Bool, true≢false}
 use mathlib.Core.Path.{_≡_, ap, sym}
 use mathlib.Core.List.{List, [], _∷_}
 use lib.Dec.{eqb}
-use lib.ListN.{getD}
+use lib.ListN.{getD, set}
 use lib.Ieee.{Float, add, sub, mul, div, neg, le, lt, eq, ne, ofBits}
 use Rattle.words.specs.Words.{double, _⊗_}
 use Rattle.words.specs.Loop.{loop, pick}
@@ -81,6 +82,35 @@ lastOfLargest n a ip = answered real n (lastTested real n (loop (lastPassAt n) 0
 pub not-last-of-largest : Meets lastOfLargest → ⊥
 unfolding loop pick at put absOf betterAt pivotRow swapped scaledAt columnAt eliminated passWith passed passAt lastTested single worked answered updateAt updated reciprocal multiplier isZero luDecompOf add mul div neg le lt eq ne ofBits
 not-last-of-largest meets = true≢false (sym (ap firstStays (meets 2 (one ∷ two ∷ minusOne ∷ one ∷ []) (7 ∷ 7 ∷ []))))
+
+-- ---- a swapped row index (lu.rs:87-92)
+
+module _ (n : ℕ) where
+  abbrev oneWaySwapped : ℕ → ℕ → ℕ → List Float → List Float
+  oneWaySwapped k m j a = pick (eqb m k) a (put (put a n k j (at a n k j)) n k j (at a n m j))
+
+  abbrev oneWayColumnAt : ℕ → ℕ → ℕ → List Float → List Float
+  oneWayColumnAt k m j a = updated n k j (at a n m j) (oneWaySwapped k m j a)
+
+  abbrev oneWayPassWith : ℕ → ℕ → List Float → List ℕ → Work (List Float)
+  oneWayPassWith k m a ip =
+      pick (isZero (at a n m k)) (work a (set ip k m) (column k))
+      (work (loop (oneWayColumnAt k m) (k + 1) n (loop (scaledAt real n k (reciprocal (at a n m k))) (k + 1) n (oneWaySwapped k m k a))) (set ip k m) nowhere)
+
+  abbrev oneWayPassAt : ℕ → Work (List Float) → Work (List Float)
+  oneWayPassAt k w = pick (goesOn (w .stop)) (oneWayPassWith k (pivotRow real n (w .a) k) (w .a) (w .ip)) w
+
+abbrev pub oneWaySwap : Routine (List Float)
+oneWaySwap n a ip = answered real n (lastTested real n (loop (oneWayPassAt n) 0 (n - 1) (work a ip nowhere)))
+
+-- below -0.5
+abbrev lowerBelow : Decomposition (List Float) → Bool
+lowerBelow d = lt (at (d .a) 2 1 0) (double 0xbfe0_0000_0000_0000)
+
+-- 1,2;4,4 has the multiplier -0.25, not -1
+pub not-one-way-swap : Meets oneWaySwap → ⊥
+unfolding loop pick at put absOf betterAt pivotRow swapped scaledAt columnAt eliminated passWith passed passAt lastTested single worked answered updateAt updated reciprocal multiplier isZero luDecompOf add mul div neg lt eq ne ofBits
+not-one-way-swap meets = true≢false (ap lowerBelow (meets 2 (one ∷ two ∷ four ∷ four ∷ []) (7 ∷ 7 ∷ [])))
 
 -- ---- the first diagonal entry at the end (lu.rs:122)
 
