@@ -6,9 +6,9 @@ use native.Mathlib.Omega.{arith}
 use lib.ListN.{length, getD}
 use Rattle.words.specs.Loop.{pick}
 use Rattle.words.proofs.Branch.{pick-all}
-use Rattle.sheet.specs.Sheet.{Model, Valid, written}
 use Rattle.sheet.specs.Kinds.{settingOf, reactionOf, kindOf}
 use Rattle.sheet.specs.Lines.{linesIn}
+use Rattle.sheet.specs.Malformed.{Begun}
 use Rattle.sheet.specs.Numbers.{Passage, passed, stuck, endsOf, numbersOf}
 use Rattle.sheet.specs.Reader.{broken, atEnd, afterReactions, afterCount, afterAmounts, afterSettings, sheetOf, modelFrom, malformed, readOf}
 use Rattle.sheet.specs.declared.kind.Kind.{Kind}
@@ -104,17 +104,6 @@ fitting-of h a n r lh fh la fa ln fn lr fr =
       count = fn;
       reactions = fr;
     }
-
--- bytes that begin with so many lines of a valid sheet
-pub record Begun (s : List ℕ) (lines : ℕ) : Type 0 where
-  pub model : Model
-  pub valid : Valid model
-  pub first : List ℕ
-  pub rest : List ℕ
-  pub other : List ℕ
-  pub here : s ≡ first ++ rest
-  pub there : written model ≡ first ++ other
-  pub counted : linesIn first ≡ lines
 
 begun-by : {s : List ℕ} {lines : ℕ} (h a n r : List ℕ) → Fitting h a n r → (p rest x : List ℕ) → s ≡ p ++ rest → text h a n r (getD h 7 0) ≡ p ++ x → linesIn p ≡ lines
     → Begun s lines

@@ -11,12 +11,12 @@ use lib.Dec.{ltb}
 use lib.ListN.{length}
 use Rattle.words.proofs.Branch.{pick-all}
 use Rattle.sheet.specs.Lines.{linesIn}
-use Rattle.sheet.specs.Sheet.{Model, Valid, written}
+use Rattle.sheet.specs.Malformed.{Begun, Malformed}
 use Rattle.sheet.specs.Reader.{Judged, whole, broken, sheetOf, Read, accepted, malformed, tooLong, toldOf, readOf}
 use Rattle.sheet.proofs.AnswerLaws.{read-long}
 use Rattle.sheet.proofs.Accepted.{accepted-sound, accepted-complete}
 use Rattle.sheet.proofs.First.{malformed-first}
-use Rattle.sheet.proofs.Reached.{Begun, lines-split, malformed-reached}
+use Rattle.sheet.proofs.Reached.{lines-split, malformed-reached}
 
 told-short : (j : Judged) → toldOf j ≡ tooLong → ⊥
 unfolding toldOf
@@ -32,12 +32,6 @@ pub too-long-exactly : (s : List ℕ) → (readOf s ≡ tooLong) ↔ (4096 < len
 too-long-exactly s = (too-long s, read-long s)
 
 -- ---- the line that is told
-
-pub record Malformed (s : List ℕ) (k : ℕ) : Type 0 where
-  pub short : length s ≤ 4096
-  pub none : (m : Model) → Valid m → s ≡ written m → ⊥
-  pub reached : (j : ℕ) → j < k → Begun s j
-  pub first : (j : ℕ) → Begun s j → j < k
 
 module _ (s : List ℕ) (k : ℕ) where
   first-by : readOf s ≡ malformed k → (j : ℕ) → Begun s j → (t : Bool) → ltb j k ≡ t → j < k

@@ -4,5 +4,6 @@ pub mod Sheet
 pub mod Kinds
 pub mod Numbers
 pub mod Lines
+pub mod Malformed
 pub mod Fill
 pub mod Reader
