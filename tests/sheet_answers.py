@@ -28,6 +28,7 @@ import struct
 import subprocess
 import sys
 
+import port
 import runs
 import rust_crate
 import rust_text
@@ -39,6 +40,7 @@ from sheet import Model, sheet_of  # noqa: E402
 
 STORED = rust_text.ROOT / "tests" / "sheets.txt"
 PROGRAM = rust_text.ROOT / "tests" / "sheet_answers.rs"
+OURS = rust_text.ROOT / "tests" / "sheet_port.rs"
 CYLINDERS = rust_text.ROOT / "cylinders"
 
 # What is asked of the file.
@@ -778,6 +780,27 @@ def write(folder):
     print(f"{len(answers)} sheets, {len(data)} bytes, written to {STORED.name}: {told(answers)}")
 
 
+def try_ours():
+    """The code of crates/sheet and crates/model, compiled by rustc, on every stored sheet: what it refuses, what it reads, and the derivative at the amounts."""
+    libraries, _ = port.build()
+    made = libraries / "sheet_port"
+    run = ["rustc", "--edition", "2021", "-O", str(OURS), "-o", str(made), "-L", str(libraries)]
+    for name in ("state", "sheet", "model"):
+        run += ["--extern", f"{name}={libraries}/lib{name}.rlib"]
+    done = subprocess.run(run, capture_output=True, text=True)
+    insist(done.returncode == 0, f"rustc does not take {OURS.name}:\n{done.stderr}")
+    done = subprocess.run([made], input=STORED.read_bytes(), capture_output=True)
+    insist(done.returncode == 0, f"our reader stopped:\n{done.stderr.decode()}")
+    for (data, answer), line in zip(records_of(STORED.read_bytes()), done.stdout.decode().splitlines(), strict=True):
+        if answer.startswith(("refused 20 ", "refused 21\n")):
+            wanted = answer.removeprefix("refused ").strip()
+        else:
+            dy = " ".join(f"{bits:016x}" for bits in derivative(sheet.model_of(data)))
+            wanted = f"{data.decode().replace(chr(10), '|')} {dy}"
+        insist(line == wanted, f"of the sheet {data}\n  our code says {line}\n  wanted        {wanted}")
+    print("the code of crates/sheet and crates/model agrees on each of them")
+
+
 def check(folder):
     insist(STORED.is_file(), f"there is no {STORED}")
     stored = records_of(STORED.read_bytes())
@@ -791,6 +814,8 @@ def check(folder):
         insist(old == new, f"record {place}\n  stored {old}\n  made   {new}")
     insist(len(stored) == len(answers), f"{len(stored)} sheets are stored, and {len(answers)} are made")
     print(f"{len(answers)} sheets have the answers that are stored: {told(answers)}")
+    if rust_crate.compiler():
+        try_ours()
 
 
 def advance(folder):
