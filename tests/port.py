@@ -18,8 +18,6 @@ CRATES = {
     "state": ["words"],
     "matrix": ["words", "scalar", "state"],
     "opening": ["words", "scalar", "state"],
-    "sheet": ["words", "state"],
-    "model": ["words", "state"],
     "blocks": ["words", "scalar", "matrix", "state", "opening"],
     "radau": ["words", "scalar", "matrix", "state", "opening", "blocks"],
 }

@@ -16,9 +16,9 @@ use Rattle.opening.specs.Rows.{verdictOf}
 use Rattle.opening.specs.Admission.{admissionRows}
 use Rattle.blocks.specs.Advance.{advanceBy}
 use Rattle.blocks.specs.Needs.{MemoryLong}
-use Rattle.history.specs.Host.{Action, filled, modified, wrote}
+use Rattle.history.specs.Host.{partAt, Action, filled, modified, wrote}
 use Rattle.history.specs.History.{point, nextPoint}
-use Rattle.account.specs.Journal.{partAt, SameLength, turn, Journal, journal, next}
+use Rattle.account.specs.Journal.{SameLength, turn, Journal, journal, next}
 use Rattle.blocks.proofs.Whole.{wholeOf}
 
 -- ---- what the host writes

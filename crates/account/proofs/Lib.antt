@@ -17,4 +17,5 @@ pub mod Advance
 pub mod Sound
 pub mod Tally
 pub mod Theorems
+pub mod Played
 pub mod Wrong

@@ -14,8 +14,9 @@ use Rattle.state.specs.declared.talk.Reply.the-variants as reply
 use Rattle.state.specs.declared.talk.Request.{Request}
 use Rattle.state.specs.declared.talk.Request.the-variants as request
 use Rattle.opening.specs.Admission.{askingAt, answersReport}
+use Rattle.history.specs.Host.{isEnd}
 use Rattle.account.specs.Journal.{ofKind}
-use Rattle.account.specs.Reading.{isReport, isEnd}
+use Rattle.account.specs.Reading.{isReport}
 
 -- what a request asks for, apart from the numbers in it
 pub data Kind : Type 0 where

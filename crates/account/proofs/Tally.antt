@@ -22,10 +22,10 @@ use Rattle.opening.specs.Admission.{askingAt}
 use Rattle.opening.proofs.RowLaws.{NoneHolds}
 use Rattle.blocks.specs.Events.{Event, Logged}
 use Rattle.blocks.specs.Advance.{Called}
-use Rattle.history.specs.Host.{Action}
+use Rattle.history.specs.Host.{isEnd, Action}
 use Rattle.account.specs.Journal.{ofKind, Fair, Turn, Journal}
 use Rattle.blocks.specs.Report.{isInterrupt}
-use Rattle.account.specs.Reading.{one, many, Question, questions, askedIn, isOde, isJac, isReport, isEnd, asksAt, acceptances, firstStage, Means, meansOf, happened, countsOf, standingAt, pastEvents, interruptedIn, width}
+use Rattle.account.specs.Reading.{one, many, Question, questions, askedIn, isOde, isJac, isReport, asksAt, acceptances, firstStage, Means, meansOf, happened, countsOf, standingAt, pastEvents, interruptedIn, width}
 use Rattle.account.specs.Truth.{AllTrue}
 use Rattle.blocks.proofs.Whole.{wholeOf}
 use Rattle.blocks.proofs.Ways.{asked}

@@ -40,10 +40,10 @@ use Rattle.opening.proofs.RowLaws.{NoneHolds}
 use Rattle.blocks.specs.Setters.{counts}
 use Rattle.blocks.specs.Matrices.{call}
 use Rattle.blocks.specs.Advance.{advanceBy}
-use Rattle.history.specs.Host.{Action}
+use Rattle.history.specs.Host.{isEnd, Action}
 use Rattle.history.specs.History.{nextPoint}
 use Rattle.account.specs.Journal.{Fair, Turn, Journal, next, FairFrom, after, Starts, JournalOf}
-use Rattle.account.specs.Reading.{one, many, Question, questions, askedIn, isReport, isEnd, firstStage, says, sameStatus, standingAt, interruptedIn, countsOf, happened, Means, width, mostRequests}
+use Rattle.account.specs.Reading.{one, many, Question, questions, askedIn, isReport, firstStage, says, sameStatus, standingAt, interruptedIn, countsOf, happened, Means, width, mostRequests}
 use Rattle.account.specs.Account.{Strategy, played, FairHost, Answered, EndsWithin, Over, Limits, Ends, Lands}
 use Rattle.account.proofs.Matches.{Matches, matches-report, matches-end, matches-ended, ended-matches}
 use Rattle.account.proofs.Flow.{owed, endsWith}

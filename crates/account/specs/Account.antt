@@ -17,9 +17,9 @@ use Rattle.state.specs.declared.talk.Request.{Request}
 use Rattle.state.specs.declared.talk.Request.the-variants as request
 use Rattle.opening.specs.Rows.{Opening}
 use Rattle.blocks.specs.Advance.{outcome, advanceOf}
-use Rattle.history.specs.Host.{Action, wrote}
+use Rattle.history.specs.Host.{isEnd, Action, wrote}
 use Rattle.account.specs.Journal.{Fair, Journal, next}
-use Rattle.account.specs.Reading.{isEnd, says, sameStatus, standingAt}
+use Rattle.account.specs.Reading.{says, sameStatus, standingAt}
 
 -- ---- 1. it ends
 

@@ -4,9 +4,7 @@ use mathlib.Core.Path.{_≡_}
 use mathlib.Core.Bool.{Bool, true, false}
 use mathlib.Core.List.{List, [], _∷_}
 use lib.ListN.{length}
-use lib.Ieee.{Float}
 use Rattle.state.specs.declared.talk.Place.{Place}
-use Rattle.state.specs.declared.talk.Place.the-variants as place
 use Rattle.state.specs.declared.talk.Reply.{Reply}
 use Rattle.state.specs.declared.talk.Reply.the-variants as reply
 use Rattle.state.specs.declared.talk.Request.{Request}
@@ -18,7 +16,7 @@ use Rattle.opening.specs.Opening.{openOf}
 use Rattle.blocks.specs.Events.{Event}
 use Rattle.blocks.specs.Advance.{advanceOf}
 use Rattle.state.specs.declared.talk.Opened.the-variants as opened
-use Rattle.history.specs.Host.{Action, wrote}
+use Rattle.history.specs.Host.{partAt, Action, wrote}
 use Rattle.history.specs.History.{Point, point, nextPoint}
 
 -- ---- what a host may do
@@ -41,17 +39,6 @@ ofKind (request.Report xold x offered) reply.Interrupt = true
 ofKind (request.Report xold x offered) (reply.Modified v) = true
 ofKind (request.Report xold x offered) (reply.Mark v) = true
 ofKind (request.Ended s) p = false
-
--- the part that a derivative is written to
-unfoldable pub partAt : Place → Memory → List Float
-partAt place.Nowhere m = []
-partAt place.YToF0 m = m .amounts .f0
-partAt place.ContToZ1 m = m .newton .z1
-partAt place.ContToZ2 m = m .newton .z2
-partAt place.ContToZ3 m = m .newton .z3
-partAt place.ContToF1 m = m .newton .f1
-partAt place.YToFOrigin m = m .differences .«f_origin»
-partAt place.YPerturbedToFPerturbed m = m .differences .«f_perturbed»
 
 -- what is written has the length of what stood there: lent memory doesn't grow
 unfoldable pub SameLength : Request → Place → Action → Memory → Type 0

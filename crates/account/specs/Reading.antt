@@ -55,12 +55,6 @@ isReport (request.Jacobian x) = false
 isReport (request.Report xold x offered) = true
 isReport (request.Ended s) = false
 
-unfoldable pub isEnd : Request → Bool
-isEnd (request.Derivative x) = false
-isEnd (request.Jacobian x) = false
-isEnd (request.Report xold x offered) = false
-isEnd (request.Ended s) = true
-
 -- what a derivative request at a place is
 pub record Asks : Type 0 where
   -- counted in ode, which leaves out those for a difference Jacobian

@@ -1,5 +1,6 @@
 // A case: the state of a run, forged at will, the reply that is handed with it, the lengths and pivots of the lent memory, and the verdict that is wanted. Its words
 // stand in one block; tests/admission_cases.py, which writes them, says what they are.
+use bits::double;
 use replay::settings::N;
 use replay::settings::X0;
 use replay::settings::XEND;
@@ -9,7 +10,6 @@ use replay::settings::settings_of;
 use replay::settings::tolerances_of;
 use replay::settings::word;
 use replay::word::Reading;
-use replay::word::double;
 use replay::word::quarter;
 use replay::word::read_block;
 use state::run::Control;

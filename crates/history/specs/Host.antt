@@ -1,6 +1,7 @@
 -- What a host may do between two advances: it replies, and it writes the part that the request names and no other (01, 'How a run talks').
 -- A derivative request names its part by the place beside it, a request for a Jacobian names `jac`; a report that is answered by 'modified' may have new amounts in y.
-use mathlib.Core.List.{List}
+use mathlib.Core.Bool.{Bool, true, false}
+use mathlib.Core.List.{List, []}
 use lib.Ieee.{Float}
 use Rattle.state.specs.declared.run.Run.{Run}
 use Rattle.state.specs.declared.talk.Request.{Request}
@@ -10,6 +11,24 @@ use Rattle.state.specs.declared.talk.Place.the-variants as place
 use Rattle.state.specs.declared.talk.Reply.{Reply}
 use Rattle.state.specs.declared.talk.Reply.the-variants as reply
 use Rattle.state.specs.Memory.{Memory, memory, amounts, newton, given, differences}
+
+-- the request that nothing answers
+unfoldable pub isEnd : Request → Bool
+isEnd (request.Derivative x) = false
+isEnd (request.Jacobian x) = false
+isEnd (request.Report xold x offered) = false
+isEnd (request.Ended s) = true
+
+-- the part that a derivative is written to
+unfoldable pub partAt : Place → Memory → List Float
+partAt place.Nowhere m = []
+partAt place.YToF0 m = m .amounts .f0
+partAt place.ContToZ1 m = m .newton .z1
+partAt place.ContToZ2 m = m .newton .z2
+partAt place.ContToZ3 m = m .newton .z3
+partAt place.ContToF1 m = m .newton .f1
+partAt place.YToFOrigin m = m .differences .«f_origin»
+partAt place.YPerturbedToFPerturbed m = m .differences .«f_perturbed»
 
 -- the reply, and what was written: into the part that is to be filled, and into the amounts
 pub record Action : Type 0 where

@@ -1,6 +1,7 @@
 pub mod Examples
 pub mod Wrong
 pub mod Determinism
+pub mod Refusals
 pub mod Sizes
 pub mod Passes
 pub mod Parts

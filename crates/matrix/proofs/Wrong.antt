@@ -1,9 +1,10 @@
--- Wrong readings of lu.rs, each as a routine that takes it, and each refuted: at a matrix of order 2 it gives what the Rust doesn't.
+-- Wrong readings of lu.rs and of 01's refusals, each as a routine that takes it, and each refuted: at a matrix of order 2 it gives what the Rust or 01 doesn't.
 --     not-unnegated           multipliers stored as they are, not their negatives
 --     not-last-of-largest     the last of the largest pivots, not the first
 --     not-one-way-swap        a row that is to go up put where it came from, so that the other is lost
 --     not-first-diagonal      the first diagonal entry tested at the end, not the last
 --     not-imaginary-sign      the real part of an imaginary-only product added, not taken away
+--     not-tested-late         pivots tested when the right side is written already
 use Prim.Native.Nat.{ℕ, _+_, _-_}
 use mathlib.Core.Bool.{Bool, true≢false}
 use mathlib.Core.Path.{_≡_, ap, sym}
@@ -11,16 +12,20 @@ use mathlib.Core.List.{List, [], _∷_}
 use lib.Dec.{eqb}
 use lib.ListN.{getD, set}
 use lib.Ieee.{Float, add, sub, mul, div, neg, le, lt, eq, ne, ofBits}
-use Rattle.words.specs.Words.{double, _⊗_}
+use Rattle.words.specs.Words.{double, _⊗_, _!_}
 use Rattle.words.specs.Loop.{loop, pick}
 use Rattle.words.specs.Grid.{at, put}
 use Rattle.scalar.specs.Order.{absOf}
+use Rattle.state.specs.Pivots.{strayAt, stray}
+use Rattle.matrix.specs.declared.answers.Solved.the-variants as solves
 use Rattle.matrix.specs.declared.complex.Complex.{Complex}
-use Rattle.matrix.specs.Answers.{nowhere, column, Decomposition, decomposedNumber}
+use Rattle.matrix.specs.Answers.{nowhere, column, Decomposition, decomposedNumber, Solution, solution}
 use Rattle.matrix.specs.Complex.{complex, Parts, parts, atComplex, putComplex, sizeComplex, negatedComplex, plusComplex, timesComplex, squareComplex, reciprocalComplex}
 use Rattle.matrix.specs.Elimination.{Kind, Best, best, Work, work, goesOn, betterAt, pivotRow, swapped, scaledAt, columnAt, eliminated, passWith, passed, passAt, lastTested, single, worked, answered}
 use Rattle.matrix.specs.Lu.{updateAt, updated, reciprocal, multiplier, isZero, real, luDecompOf}
 use Rattle.matrix.specs.LuComplex.{addedComplex, realAt, imaginaryAt, generalAt, updatedComplex, multiplierComplex, isZeroComplex, luDecompComplexOf}
+use Rattle.matrix.specs.Substitution.{exchanged, forwardAt, backAt, substituted, solved}
+use Rattle.matrix.specs.Linear.{divided, addAt, forward, takeAt, back, realSide, linSolveOf}
 use Rattle.matrix.proofs.Examples.{none, one, two, four, minusOne}
 
 -- what a routine is, and what the contract asks of it
@@ -158,3 +163,19 @@ pub not-imaginary-sign : MeetsComplex imaginarySign → ⊥
 unfolding loop pick at put absOf atComplex putComplex sizeComplex negatedComplex plusComplex timesComplex squareComplex reciprocalComplex betterAt pivotRow swapped scaledAt columnAt eliminated passWith passed passAt lastTested single worked answered addedComplex realAt imaginaryAt generalAt updatedComplex multiplierComplex isZeroComplex luDecompComplexOf add sub mul div neg lt eq ne ofBits
 not-imaginary-sign meets =
     true≢false (sym (ap isDone (meets 2 (parts (one ∷ none ∷ none ∷ one ∷ []) (none ∷ one ∷ one ∷ none ∷ [])) (7 ∷ 7 ∷ []))))
+
+-- ---- pivots tested after the work (01, number 18; a refusal writes nothing)
+
+abbrev pub MeetsSolve : (ℕ → List Float → List Float → List ℕ → Solution (List Float)) → Type 0
+MeetsSolve f = (n : ℕ) (a b : List Float) (ip : List ℕ) → f n a b ip ≡ linSolveOf n a b ip
+
+abbrev pub testedLate : ℕ → List Float → List Float → List ℕ → Solution (List Float)
+testedLate n a b ip = solution (pick (stray n ip) solves.RefusedPivot solves.Done) (solved realSide a n ip b)
+
+abbrev firstIsOne : Solution (List Float) → Bool
+firstIsOne s = eq (s .b ! 0) one
+
+-- of two rows there is no third to change places with
+pub not-tested-late : MeetsSolve testedLate → ⊥
+unfolding loop pick at strayAt stray exchanged forwardAt backAt substituted solved divided addAt forward takeAt back linSolveOf add mul div neg eq
+not-tested-late meets = true≢false (sym (ap firstIsOne (meets 2 (one ∷ none ∷ none ∷ one ∷ []) (one ∷ one ∷ []) (2 ∷ 0 ∷ []))))

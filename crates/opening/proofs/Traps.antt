@@ -126,8 +126,9 @@ pub floor-at-ceiling : (verdictBy whole.Absent whole.Absent whole.Absent (number
 unfolding verdictOf pick amountsFit newtonFit givenFit factorsFit differencesFit badNumber placeOf massGiven rtolGiven atolGiven partitionFails givenZero givenBelow orElse orNone absOf le lt eq sub ofBits
 floor-at-ceiling = (refl, refl, refl)
 
--- in machine words 1 + 2^63 + 2^63 is 1, and 2^63 + 2^63 is 0, which would leave 1 for an absent nind1
+-- in machine words 1 + 2^63 + 2^63 is 1, and so is 2^64 - 1 + 1 + 1, where nind1 alone is above n; 2^63 + 2^63 is 0, which would leave 1 for an absent nind1
 pub sums-dont-wrap : (verdictBy (whole.Given 1) (whole.Given 9_223_372_036_854_775_808) (whole.Given 9_223_372_036_854_775_808) number.Absent number.Absent ≡ Refused refusal.Partition)
+    × (verdictBy (whole.Given 18_446_744_073_709_551_615) (whole.Given 1) (whole.Given 1) number.Absent number.Absent ≡ Refused refusal.Partition)
     × (verdictBy whole.Absent (whole.Given 9_223_372_036_854_775_808) (whole.Given 9_223_372_036_854_775_808) number.Absent number.Absent ≡ Refused refusal.Partition)
 unfolding verdictOf pick amountsFit newtonFit givenFit factorsFit differencesFit badNumber placeOf massGiven rtolGiven atolGiven partitionFails givenZero givenBelow orElse orNone absOf le lt eq sub ofBits
-sums-dont-wrap = (refl, refl)
+sums-dont-wrap = (refl, refl, refl)

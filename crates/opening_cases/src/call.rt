@@ -15,11 +15,11 @@ use crate::memory::met_tolerances;
 use crate::memory::met_vector;
 use crate::memory::pivots;
 use crate::memory::vector;
+use bits::double;
 use opening::open;
 use replay::found::Found;
 use replay::settings::X0;
 use replay::settings::XEND;
-use replay::word::double;
 
 // Opens, and compares the answer.
 fn opened(

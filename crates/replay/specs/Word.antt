@@ -4,7 +4,6 @@ use mathlib.Core.Bool.{Bool, true, _&&_}
 use mathlib.Core.List.{List}
 use lib.Dec.{eqb, leb, ltb}
 use lib.ListN.{length, getD}
-use lib.Ieee.{Float, binary64, ne, toBits}
 use Rattle.words.specs.Loop.{pick, loop}
 use Rattle.replay.specs.declared.word.Word.{Word}
 use Rattle.replay.specs.declared.word.Word.the-variants.{Value, Wrong}
@@ -44,10 +43,6 @@ abbrev pub quarterOf : ℕ → ℕ → ℕ
 quarterOf word place =
     pick (eqb place 0) (word / 0x1_0000_0000_0000)
     (pick (eqb place 1) (word / 0x1_0000_0000 % 0x1_0000) (pick (eqb place 2) (word / 0x1_0000 % 0x1_0000) (word % 0x1_0000)))
-
--- the pattern of a double, with one for NaN
-abbrev pub patternOf : Float → ℕ
-patternOf x = pick (ne x x) 0x7ff8_0000_0000_0000 (toBits binary64 x)
 
 abbrev pub readingOf : Bool → Reading
 readingOf good = pick good Good Malformed

@@ -1,9 +1,9 @@
 // What came of comparing a case, value by value.
 ghost use mathlib.Core.Path.{_≡_};
-ghost use Rattle.replay.specs.Word.{patternOf};
+ghost use Rattle.bits.specs.Pattern.{patternOf};
 ghost use Rattle.replay.specs.Found.{nothingOf, comparedOf, numberOf, unreadValueOf, heldAgainstOf};
 use crate::word::Word;
-use crate::word::pattern;
+use bits::pattern;
 use std::num::wrapping_add_u64;
 
 // How many values were compared, how many of them differ, the place of the first that does, what it is and was to be, and whether what a value was to be could

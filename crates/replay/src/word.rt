@@ -1,8 +1,7 @@
 // Words: sixteen hexadecimal digits each, which stand for a number, for the bits of a double, or for four numbers of four digits.
 ghost use Prim.Native.Nat.{_≤_};
 ghost use mathlib.Core.Path.{_≡_};
-ghost use lib.Ieee.{ofBits, binary64};
-ghost use Rattle.replay.specs.Word.{digitOf, spelledOf, withinOf, quarterOf, patternOf, readingOf};
+ghost use Rattle.replay.specs.Word.{digitOf, spelledOf, withinOf, quarterOf, readingOf};
 use libc::STDIN_FILENO;
 
 pub enum Word {
@@ -139,24 +138,4 @@ pub fn quarter(word: u64, place: usize) -> u64
         return word / 0x1_0000 % 0x1_0000;
     }
     word % 0x1_0000
-}
-
-// The double with a pattern. All patterns of NaN stand for the one NaN.
-pub fn double(pattern: u64) -> f64
-    ensures { λ r. ⌜ r ≡ ofBits binary64 pattern ⌝ }
-{
-    if 0x7ff0_0000_0000_0000 < pattern % 0x8000_0000_0000_0000 {
-        return 0.0 / 0.0;
-    }
-    f64::from_bits(pattern)
-}
-
-// The pattern of a double, with one for NaN.
-pub fn pattern(x: f64) -> u64
-    ensures { λ r. ⌜ r ≡ patternOf x ⌝ }
-{
-    if x != x {
-        return 0x7ff8_0000_0000_0000;
-    }
-    f64::to_bits(x)
 }

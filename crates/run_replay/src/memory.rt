@@ -1,9 +1,9 @@
 // The lent memory of a run between two advances: 22 parts, by value, each in an array that has room for every order that is replayed. What lies behind a part's
 // length is never looked at.
 ghost use Prim.Native.Nat.{_≤_};
+use bits::double;
+use bits::pattern;
 use replay::settings::word;
-use replay::word::double;
-use replay::word::pattern;
 use replay::word::within;
 use std::num::wrapping_add_u64;
 use std::num::wrapping_add_usize;

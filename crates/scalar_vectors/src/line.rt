@@ -1,7 +1,7 @@
 // A line of the vectors, taken apart: a letter, two digits, three operands and the answer.
 // Its 73 bytes are laid out in tests/scalar_vectors.py, which writes them.
+use bits::double;
 use replay::word::Word;
-use replay::word::double;
 use replay::word::spelled;
 
 pub struct Vector {

@@ -4,6 +4,7 @@
 mod line;
 mod routine;
 
+use bits::pattern;
 use libc::STDIN_FILENO;
 use libc::STDOUT_FILENO;
 use line::Decoded;
@@ -11,7 +12,6 @@ use line::decode;
 use replay::count::Counts;
 use replay::told::MOST_TOLD;
 use replay::told::write_summary;
-use replay::word::pattern;
 use routine::ROUTINES;
 use routine::result;
 use routine::row;

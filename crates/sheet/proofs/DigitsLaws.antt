@@ -49,7 +49,7 @@ unfolding power
 power-rises i zero = let e : i + 0 ≡ i = omega arith in rw e (omega arith)
 power-rises i (suc d) = let e : i + suc d ≡ suc (i + d) = omega arith in rw e (omega (arith, power-rises i d))
 
-sixteen : power 16 16 ≡ 2 ^ 64
+pub sixteen : power 16 16 ≡ 2 ^ 64
 unfolding power
 sixteen = refl
 

@@ -73,7 +73,7 @@ byte-high d = pick-all (λ x. 48 ≤ x) (ltb d 10) (48 + d) (87 + d) (λ e. omeg
 
 -- ---- digits
 
-power-some : (b k : ℕ) → 0 < b → 0 < power b k
+pub power-some : (b k : ℕ) → 0 < b → 0 < power b k
 unfolding power
 power-some b zero h = omega arith
 power-some b (suc k) h = omega (arith, mul-le-mul-right b (power-some b k h))

@@ -25,8 +25,7 @@ use Rattle.blocks.specs.Matrices.{call, Tried, tried, triedOf, passesOf, passAt
 use Rattle.blocks.specs.Jacobian.{Columned, columned, askJacobianBy, askColumnOf, columnAt, columnOf, perturbation}
 use Rattle.blocks.specs.Advance.{Stepped, stepped, setFactors, setColumn, setDifferences, jacobianOf, repliedOf, calledOf}
 use Rattle.blocks.proofs.PassLaws.{passed, passes-core}
-use Rattle.history.specs.Host.{wrote, filled}
-use Rattle.account.specs.Reading.{isEnd}
+use Rattle.history.specs.Host.{isEnd, wrote, filled}
 use Rattle.solve.specs.Talk.{Host, World, onMemory, ask, replyOf}
 use Rattle.solve.specs.Solve.{Result, Next, columns, jacobianBy, jacobian, matrices}
 use Rattle.solve.proofs.Sound.{Sound, tried-past}

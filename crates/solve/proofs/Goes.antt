@@ -19,8 +19,8 @@ use Rattle.blocks.specs.declared.step.Step.{Step}
 use Rattle.blocks.specs.declared.step.Step.the-variants as step
 use Rattle.blocks.specs.Matrices.{call, passesOf, passAt}
 use Rattle.blocks.specs.Advance.{Stepped, stepped, Called, called, repliedOf, passedOf, calledOf, advanceBy}
+use Rattle.history.specs.Host.{isEnd}
 use Rattle.history.specs.History.{point, nextPoint}
-use Rattle.account.specs.Reading.{isEnd}
 use Rattle.solve.specs.Talk.{Exchange, Host, World, ask, replyOf, Talk, talk, admitted, advancedBy, talkBy, talkOf}
 use Rattle.solve.specs.Solve.{Result, finished, unfinished}
 use Rattle.solve.proofs.Sound.{Ends}

@@ -18,7 +18,7 @@ use Rattle.blocks.specs.Matrices.{call}
 use Rattle.blocks.specs.Estimate.{solvedFirst, errorOf, plusAt, sumAt}
 use Rattle.blocks.specs.Judge.{Judged, judgedOf, testedOf, estimateOf, refinedOf, askAccepted}
 use Rattle.blocks.specs.Advance.{Stepped, stepped, setCont, setYCont, repliedOf, concludeOf}
-use Rattle.account.specs.Reading.{isEnd}
+use Rattle.history.specs.Host.{isEnd}
 use Rattle.solve.specs.Talk.{Host, World, onMemory, ask}
 use Rattle.solve.specs.Solve.{Result, Next, estimate, refine, judge}
 use Rattle.solve.proofs.Sound.{Sound, accepted-sound, rejected-sound}

@@ -9,3 +9,4 @@ pub mod Begins
 pub mod Whole
 pub mod Theorem
 pub mod Offered
+pub mod Alike

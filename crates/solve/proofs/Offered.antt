@@ -22,10 +22,10 @@ use Rattle.opening.specs.Rows.{Opening, verdictOf}
 use Rattle.opening.specs.Opening.{Outcome, outcome, openOf}
 use Rattle.opening.specs.Admission.{admissionRows}
 use Rattle.blocks.specs.Advance.{advanceBy}
-use Rattle.history.specs.Host.{Action, wrote}
+use Rattle.history.specs.Host.{isEnd, Action, wrote}
 use Rattle.history.specs.History.{Point, point, nextPoint}
 use Rattle.account.specs.Journal.{Fair, Journal, journal, next, Starts}
-use Rattle.account.specs.Reading.{isEnd, mostRequests}
+use Rattle.account.specs.Reading.{mostRequests}
 use Rattle.account.specs.Account.{Strategy, played, FairHost, EndsWithin}
 use Rattle.account.proofs.Theorems.{turns-played, ends}
 use Rattle.solve.specs.Talk.{Host, World, Talk, talk, actionAt, Advance, admitted, offered, advancedBy, talkBy, talkOf, Admits, FairTalk, TalksTo}
@@ -122,7 +122,7 @@ module _ (host : Host) (o : Opening) (r : Run) (q : Request) (p : Place) (m : Me
       from : TalksTo offered host start e w → Returns host r m e w
       from a =
           let few = first-end offered host start (account .advances) (length (w .exchanges)) ended (a .before) in
-          solve-exactly host o r q p m accepted e w .1 (talks-alike offered admitted host start e w (λ k l. same k (omega (arith, few, l))) a)
+          solve-exactly host o r q p m accepted e w .1 (talks-alike offered admitted host host start e w (λ k l. same k (omega (arith, few, l))) a)
 
   pub solve-returns : ReturnsWithin (mostRequests (o .settings .source) (o .n) (o .settings .«max_steps») (o .settings .«newton_maxiter»)) host r m
   solve-returns =

@@ -21,7 +21,7 @@ use Rattle.blocks.specs.Matrices.{call, endedOf}
 use Rattle.blocks.specs.Judge.{askAccepted}
 use Rattle.blocks.specs.Report.{askFirstReport, askReport, reportedOf, arrivedOf}
 use Rattle.blocks.specs.Advance.{Stepped, stepped, rescaled, startedOf, returnedOf, repliedOf}
-use Rattle.account.specs.Reading.{isEnd}
+use Rattle.history.specs.Host.{isEnd}
 use Rattle.solve.specs.Talk.{Host, World, onMemory, ask, replyOf}
 use Rattle.solve.specs.Solve.{Next, onward, replied, report, arrive}
 use Rattle.solve.proofs.Sound.{Sound, Out, Left, ends}

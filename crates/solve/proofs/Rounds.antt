@@ -25,7 +25,7 @@ use Rattle.blocks.specs.Matrices.{failedOf, passesOf, passAt}
 use Rattle.blocks.specs.Attempt.{Begun, askStageOf, askFirstOf, beganOf, attemptOf}
 use Rattle.blocks.specs.Newton.{Resumed, againOf, roundOf}
 use Rattle.blocks.specs.Advance.{stepped, setCont, setNewton, repliedOf, concludeOf, calledOf}
-use Rattle.account.specs.Reading.{isEnd}
+use Rattle.history.specs.Host.{isEnd}
 use Rattle.solve.specs.Talk.{Host, World, world, onMemory, ask}
 use Rattle.solve.specs.Solve.{Result, Next, onward, rounded, newton, attempt}
 use Rattle.solve.proofs.Sound.{Sound, RoundLeft, ends, failed-out, round-left}

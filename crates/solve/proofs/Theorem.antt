@@ -32,9 +32,8 @@ use Rattle.opening.proofs.OpeningLaws.{within}
 use Rattle.blocks.specs.Matrices.{passesOf, passAt}
 use Rattle.blocks.specs.Advance as advance
 use Rattle.blocks.specs.Advance.{advanceBy, calledOf}
-use Rattle.history.specs.Host.{wrote}
+use Rattle.history.specs.Host.{isEnd, wrote}
 use Rattle.history.specs.History.{Point, point, nextPoint}
-use Rattle.account.specs.Reading.{isEnd}
 use Rattle.solve.specs.Talk.{exchange, Host, World, world, Talk, talk, actionAt, Advance, admitted, offered, advancedBy, talkBy, talkOf, Admits, TalksTo}
 use Rattle.solve.specs.Solve.{Result, finished, unfinished, solveOf, Returns}
 use Rattle.solve.proofs.Sound.{Sound}
@@ -109,11 +108,11 @@ module _ (advance : Advance) (host : Host) (start : Point) where
       let same = sym (a .talks) ∙ ap (λ (k : ℕ). talkBy advance host k (talk start [])) many ∙ b .talks in
       (ap (λ (t : Talk). t .point .run) same, ap (λ (t : Talk). world (t .point .memory) (t .exchanges)) same)
 
--- what one kind of advances talks to, so does another that goes the same way up to there
-pub talks-alike : (f g : Advance) (host : Host) (start : Point) (e : Run) (w : World)
-    → ((k : ℕ) → k ≤ length (w .exchanges) → talkBy f host k (talk start []) ≡ talkBy g host k (talk start []))
-    → TalksTo f host start e w → TalksTo g host start e w
-talks-alike f g host start e w same a =
+-- what one kind of advances, with one host, talks to, so do another and its host that go the same way up to there
+pub talks-alike : (f g : Advance) (host same-host : Host) (start : Point) (e : Run) (w : World)
+    → ((k : ℕ) → k ≤ length (w .exchanges) → talkBy f host k (talk start []) ≡ talkBy g same-host k (talk start []))
+    → TalksTo f host start e w → TalksTo g same-host start e w
+talks-alike f g host same-host start e w same a =
     record {
       status = a .status;
       stage = a .stage;
@@ -170,5 +169,5 @@ module _ (host : Host) (o : Opening) (r : Run) (q : Request) (p : Place) (m : Me
   pub solve-advances : (e : Run) (w : World) → Returns host r m e w → ((j : ℕ) → j < length (w .exchanges) → Admits host (talkBy offered host j (talk start [])))
       → TalksTo offered host start e w
   solve-advances e w s admits =
-      talks-alike admitted offered host start e w (λ k l. sym (offered-same host k (talk start []) (λ j h. admits j (omega (arith, h, l)))))
+      talks-alike admitted offered host host start e w (λ k l. sym (offered-same host k (talk start []) (λ j h. admits j (omega (arith, h, l)))))
       (solve-talks (s .passes) e w (s .is))

@@ -14,7 +14,7 @@ use Rattle.blocks.specs.declared.step.Step.the-variants as step
 use Rattle.blocks.specs.Matrices.{call}
 use Rattle.blocks.specs.Report.{arrivedOf}
 use Rattle.blocks.specs.Advance.{repliedOf}
-use Rattle.account.specs.Reading.{isEnd}
+use Rattle.history.specs.Host.{isEnd}
 use Rattle.solve.specs.Talk.{Host, World, world, ask, replyOf}
 use Rattle.solve.specs.Solve.{Next, onward, jacobian, matrices, attempt, newton, estimate, refine, judge, arrive, mainOf, solveOf}
 use Rattle.solve.proofs.Sound.{Sound, arrived-left}

@@ -18,10 +18,9 @@ use Rattle.blocks.specs.declared.step.Call.{Call}
 use Rattle.opening.specs.Rows.{verdictOf}
 use Rattle.opening.specs.Admission.{admissionRows}
 use Rattle.blocks.specs.Advance.{Outcome, advanceBy, advanceOf}
-use Rattle.history.specs.Host.{Action, wrote}
+use Rattle.history.specs.Host.{isEnd, Action, wrote}
 use Rattle.history.specs.History.{Point, point, nextPoint}
 use Rattle.account.specs.Journal.{Fair}
-use Rattle.account.specs.Reading.{isEnd}
 
 -- ---- the host
 

@@ -1,0 +1,9 @@
+// The answer to a sheet: what became of it, and the bytes that `decay` prints of that (01, 'Sheet and program').
+mod digits;
+pub mod forecast;
+mod lines;
+mod numbers;
+pub mod printed;
+
+pub use forecast::Forecast;
+pub use printed::print;

@@ -1,0 +1,7 @@
+-- In order of reading.
+pub mod HostLaws
+pub mod TurnLaws
+pub mod Lengths
+pub mod Room
+pub mod Kept
+pub mod Whole

@@ -1,0 +1,4 @@
+-- In order of reading.
+pub mod Forecast
+pub mod Account
+pub mod Told
