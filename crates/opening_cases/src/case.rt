@@ -1,8 +1,11 @@
 // A case: an opening, and what is wanted of it. Its words stand in one block: first those of n, the ends and the settings, then under the places that are named here.
 // tests/opening_cases.py, which writes them, says what they stand for.
+use bits::double;
 use replay::settings::CHOICES;
 use replay::settings::LISTS;
 use replay::settings::N;
+use replay::settings::X0;
+use replay::settings::XEND;
 use replay::settings::choice;
 use replay::settings::settings_of;
 use replay::settings::tolerances_of;
@@ -57,6 +60,15 @@ pub const WANTED_NIND2: usize = 49;
 
 pub const WANTED_NIND3: usize = 50;
 
+// What an opening is asked with, beside memory.
+pub struct Ask {
+    pub settings: Settings,
+    pub n: usize,
+    pub x0: f64,
+    pub xend: f64,
+    pub tolerances: Tolerances,
+}
+
 pub struct Case {
     pub words: [u64; WORDS],
     pub pairs: [u64; PAIRS],
@@ -79,19 +91,15 @@ impl Case {
         self.row() == 0
     }
 
-    pub fn n(self) -> usize {
+    pub fn ask(self) -> Ask {
         let words = self.words;
-        words[N] as usize
-    }
-
-    pub fn tolerances(self) -> Tolerances {
-        let words = self.words;
-        tolerances_of(&words)
-    }
-
-    pub fn settings(self) -> Settings {
-        let words = self.words;
-        settings_of(&words)
+        Ask {
+            settings: settings_of(&words),
+            n: words[N] as usize,
+            x0: double(words[X0]),
+            xend: double(words[XEND]),
+            tolerances: tolerances_of(&words),
+        }
     }
 }
 

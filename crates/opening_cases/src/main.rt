@@ -5,6 +5,7 @@ mod answer;
 mod call;
 mod case;
 mod memory;
+mod part;
 
 use call::judged;
 use case::Case;

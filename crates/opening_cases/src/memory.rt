@@ -1,239 +1,187 @@
-// The lent memory: 22 parts, each filled by its rule of the case, and held against what is wanted after the call.
-ghost use Prim.Native.Nat.{_<_, _≤_};
-use crate::case::CONTENTS;
+// The lent memory of an opening, by value: 22 parts, each in an array that has room for the longest part that a case has, and all of it held against what is wanted
+// after the call.
 use crate::case::Case;
-use crate::case::EXCEPTION;
-use crate::case::LENGTHS;
-use bits::double;
-use bits::pattern;
+use crate::part::COEFFICIENTS;
+use crate::part::MATRIX;
+use crate::part::VECTOR;
+use crate::part::coefficients;
+use crate::part::matrix;
+use crate::part::met_coefficients;
+use crate::part::met_matrix;
+use crate::part::met_pivots;
+use crate::part::met_tolerances;
+use crate::part::met_vector;
+use crate::part::pivots;
+use crate::part::vector;
 use replay::found::Found;
-use replay::settings::LISTS;
-use replay::settings::MASS_FULL;
-use replay::word::quarter;
-use replay::word::within;
-use std::num::wrapping_add_u64;
 
-// The entries of an array that holds n amounts, 4 n coefficients or n n entries of a matrix, for n up to 33 and one more.
-pub const VECTOR: usize = 34;
-
-pub const COEFFICIENTS: usize = 133;
-
-pub const MATRIX: usize = 1090;
-
-// The numbers of the parts that have rules of their own. Parts are counted from 0 in the order in which `open` takes them.
-const Y: usize = 0;
-
-const RTOL: usize = 10;
-
-const ATOL: usize = 11;
-
-const MASS: usize = 12;
-
-const IP1: usize = 17;
-
-const IP2: usize = 18;
-
-// What a part holds before the call: the patterns start with `first` and rise by `step`, but for one place.
-pub struct Contents {
-    pub first: u64,
-    pub step: u64,
-    pub exception: usize,
-    pub pattern: u64,
+pub struct Amounts {
+    pub y: [f64; VECTOR],
+    pub f0: [f64; VECTOR],
+    pub scal: [f64; VECTOR],
+    pub cont: [f64; COEFFICIENTS],
 }
 
-impl Contents {
-    // The entry at a place, where the rule has `word`.
-    fn entry(self, place: usize, word: u64) -> u64 {
-        if place == self.exception {
-            self.pattern
-        } else {
-            word
-        }
+pub struct Newton {
+    pub z1: [f64; VECTOR],
+    pub z2: [f64; VECTOR],
+    pub z3: [f64; VECTOR],
+    pub f1: [f64; VECTOR],
+    pub f2: [f64; VECTOR],
+    pub f3: [f64; VECTOR],
+}
+
+pub struct Given {
+    pub rtol: [f64; VECTOR],
+    pub atol: [f64; VECTOR],
+    pub mass: [f64; MATRIX],
+    pub jac: [f64; MATRIX],
+}
+
+pub struct Factors {
+    pub e1: [f64; MATRIX],
+    pub e2r: [f64; MATRIX],
+    pub e2i: [f64; MATRIX],
+    pub ip1: [usize; VECTOR],
+    pub ip2: [usize; VECTOR],
+}
+
+pub struct Differences {
+    pub y_perturbed: [f64; VECTOR],
+    pub f_perturbed: [f64; VECTOR],
+    pub f_origin: [f64; VECTOR],
+}
+
+pub struct Memory {
+    pub amounts: Amounts,
+    pub newton: Newton,
+    pub given: Given,
+    pub factors: Factors,
+    pub differences: Differences,
+}
+
+fn lent_amounts(case: Case) -> Amounts {
+    Amounts {
+        y: vector(case, 0),
+        f0: vector(case, 1),
+        scal: vector(case, 2),
+        cont: coefficients(case, 3),
     }
 }
 
-// The place of a part's rule among the contents.
-fn rule_of(part: usize) -> usize
-    ensures { λ r. ⌜ r ≤ 38 ⌝ }
-{
-    match part {
-        Y => CONTENTS,
-        MASS => CONTENTS + 2,
-        RTOL => CONTENTS + 4,
-        ATOL => CONTENTS + 6,
-        IP1 | IP2 => CONTENTS + 10,
-        _ => CONTENTS + 8,
+fn lent_newton(case: Case) -> Newton {
+    Newton {
+        z1: vector(case, 4),
+        z2: vector(case, 5),
+        z3: vector(case, 6),
+        f1: vector(case, 7),
+        f2: vector(case, 8),
+        f3: vector(case, 9),
     }
 }
 
-fn contents_of(case: Case, part: usize) -> Contents {
-    let words = case.words;
-    let at = rule_of(part);
-    let mut exception = MATRIX;
-    if quarter(words[EXCEPTION], 0) == part as u64 {
-        exception = quarter(words[EXCEPTION], 1) as usize;
-    }
-    Contents {
-        first: words[at],
-        step: words[at + 1],
-        exception,
-        pattern: words[EXCEPTION + 1],
+fn lent_given(case: Case) -> Given {
+    Given {
+        rtol: vector(case, 10),
+        atol: vector(case, 11),
+        mass: matrix(case, 12),
+        jac: matrix(case, 13),
     }
 }
 
-// The length of a part, which lies in an array of `room` entries.
-pub fn length(case: Case, part: usize, room: usize) -> usize
-    requires { ⌜ part < 22 ⌝ }
-    ensures { λ r. ⌜ r ≤ room ⌝ }
-{
-    let words = case.words;
-    within(quarter(words[LENGTHS + part / 4], part % 4) as usize, room)
-}
-
-// Whether an accepted opening leaves a part as it is.
-fn is_kept(case: Case, part: usize) -> bool {
-    match part {
-        Y => true,
-        MASS => case.choice(MASS_FULL),
-        _ => false,
+fn lent_factors(case: Case) -> Factors {
+    Factors {
+        e1: matrix(case, 14),
+        e2r: matrix(case, 15),
+        e2i: matrix(case, 16),
+        ip1: pivots(case, 17),
+        ip2: pivots(case, 18),
     }
 }
 
-// How many entries of a part the call sets to +0. Converted lists are judged apart.
-fn cleared(case: Case, part: usize) -> usize
-    requires { ⌜ part < 22 ⌝ }
-{
-    if case.is_accepted() & !is_kept(case, part) {
-        return length(case, part, MATRIX);
-    }
-    0
-}
-
-fn fill(part: &mut [f64], contents: Contents) {
-    let mut word = contents.first;
-    for i in 0..part.len() {
-        part[i] = double(contents.entry(i, word));
-        word = wrapping_add_u64(word, contents.step);
+fn lent_differences(case: Case) -> Differences {
+    Differences {
+        y_perturbed: vector(case, 19),
+        f_perturbed: vector(case, 20),
+        f_origin: vector(case, 21),
     }
 }
 
-pub fn vector(case: Case, part: usize) -> [f64; VECTOR] {
-    let mut made = [0.0; VECTOR];
-    fill(&mut made, contents_of(case, part));
-    made
-}
-
-pub fn coefficients(case: Case, part: usize) -> [f64; COEFFICIENTS] {
-    let mut made = [0.0; COEFFICIENTS];
-    fill(&mut made, contents_of(case, part));
-    made
-}
-
-pub fn matrix(case: Case, part: usize) -> [f64; MATRIX] {
-    let mut made = [0.0; MATRIX];
-    fill(&mut made, contents_of(case, part));
-    made
-}
-
-pub fn pivots(case: Case, part: usize) -> [usize; VECTOR] {
-    let contents = contents_of(case, part);
-    let mut made = [0usize; VECTOR];
-    let mut word = contents.first;
-    for i in 0..VECTOR {
-        made[i] = contents.entry(i, word) as usize;
-        word = wrapping_add_u64(word, contents.step);
+// What the case lends.
+pub fn lent(case: Case) -> Memory {
+    Memory {
+        amounts: lent_amounts(case),
+        newton: lent_newton(case),
+        given: lent_given(case),
+        factors: lent_factors(case),
+        differences: lent_differences(case),
     }
-    made
 }
 
-// Holds all entries of an array against what its part is to hold after the call.
-fn met(found: Found, case: Case, part: usize, values: &[f64]) -> Found
-    requires { ⌜ part < 22 ⌝ }
-{
-    let contents = contents_of(case, part);
-    let zeros = cleared(case, part);
-    let mut now = found;
-    let mut word = contents.first;
-    for i in 0..values.len() {
-        let before = pattern(double(contents.entry(i, word)));
-        let wanted = if i < zeros { 0 } else { before };
-        now = now.double(values[i], wanted);
-        word = wrapping_add_u64(word, contents.step);
-    }
-    now
+fn met_amounts(found: Found, case: Case, amounts: Amounts) -> Found {
+    let y = amounts.y;
+    let f0 = amounts.f0;
+    let scal = amounts.scal;
+    let cont = amounts.cont;
+    let now = met_vector(found, case, 0, &y);
+    let now = met_vector(now, case, 1, &f0);
+    let now = met_vector(now, case, 2, &scal);
+    met_coefficients(now, case, 3, &cont)
 }
 
-pub fn met_vector(found: Found, case: Case, part: usize, values: &[f64; VECTOR]) -> Found
-    requires { ⌜ part < 22 ⌝ }
-{
-    met(found, case, part, values)
+fn met_newton(found: Found, case: Case, newton: Newton) -> Found {
+    let z1 = newton.z1;
+    let z2 = newton.z2;
+    let z3 = newton.z3;
+    let f1 = newton.f1;
+    let f2 = newton.f2;
+    let f3 = newton.f3;
+    let now = met_vector(found, case, 4, &z1);
+    let now = met_vector(now, case, 5, &z2);
+    let now = met_vector(now, case, 6, &z3);
+    let now = met_vector(now, case, 7, &f1);
+    let now = met_vector(now, case, 8, &f2);
+    met_vector(now, case, 9, &f3)
 }
 
-pub fn met_coefficients(
-    found: Found,
-    case: Case,
-    part: usize,
-    values: &[f64; COEFFICIENTS],
-) -> Found
-    requires { ⌜ part < 22 ⌝ }
-{
-    met(found, case, part, values)
+fn met_given(found: Found, case: Case, given: Given) -> Found {
+    let rtol = given.rtol;
+    let atol = given.atol;
+    let mass = given.mass;
+    let jac = given.jac;
+    let now = met_tolerances(found, case, 10, &rtol);
+    let now = met_tolerances(now, case, 11, &atol);
+    let now = met_matrix(now, case, 12, &mass);
+    met_matrix(now, case, 13, &jac)
 }
 
-pub fn met_matrix(found: Found, case: Case, part: usize, values: &[f64; MATRIX]) -> Found
-    requires { ⌜ part < 22 ⌝ }
-{
-    met(found, case, part, values)
+fn met_factors(found: Found, case: Case, factors: Factors) -> Found {
+    let e1 = factors.e1;
+    let e2r = factors.e2r;
+    let e2i = factors.e2i;
+    let ip1 = factors.ip1;
+    let ip2 = factors.ip2;
+    let now = met_matrix(found, case, 14, &e1);
+    let now = met_matrix(now, case, 15, &e2r);
+    let now = met_matrix(now, case, 16, &e2i);
+    let now = met_pivots(now, case, 17, &ip1);
+    met_pivots(now, case, 18, &ip2)
 }
 
-// The same for pivots.
-pub fn met_pivots(found: Found, case: Case, part: usize, values: &[usize; VECTOR]) -> Found
-    requires { ⌜ part < 22 ⌝ }
-{
-    let contents = contents_of(case, part);
-    let zeros = cleared(case, part);
-    let mut now = found;
-    let mut word = contents.first;
-    for i in 0..VECTOR {
-        let before = contents.entry(i, word);
-        let wanted = if i < zeros { 0 } else { before };
-        now = now.compared(values[i] as u64, wanted);
-        word = wrapping_add_u64(word, contents.step);
-    }
-    now
+fn met_differences(found: Found, case: Case, differences: Differences) -> Found {
+    let y_perturbed = differences.y_perturbed;
+    let f_perturbed = differences.f_perturbed;
+    let f_origin = differences.f_origin;
+    let now = met_vector(found, case, 19, &y_perturbed);
+    let now = met_vector(now, case, 20, &f_perturbed);
+    met_vector(now, case, 21, &f_origin)
 }
 
-// The place of a tolerance in its pair.
-fn side_of(part: usize) -> usize
-    ensures { λ r. ⌜ r ≤ 1 ⌝ }
-{
-    if part == RTOL { 0 } else { 1 }
-}
-
-// The same for the parts of tolerances: where lists are given, an accepted opening leaves them converted.
-pub fn met_tolerances(found: Found, case: Case, part: usize, values: &[f64; VECTOR]) -> Found
-    requires { ⌜ part < 22 ⌝ }
-{
-    if case.is_accepted() & case.choice(LISTS) {
-        return met_list(
-            found,
-            case,
-            side_of(part),
-            length(case, part, VECTOR),
-            values,
-        );
-    }
-    met(found, case, part, values)
-}
-
-// Holds a converted list of `count` entries against the first (side 0) or second (side 1) of the wanted pairs.
-fn met_list(found: Found, case: Case, side: usize, count: usize, values: &[f64; VECTOR]) -> Found
-    requires { ⌜ (side ≤ 1) × (count ≤ 34) ⌝ }
-{
-    let pairs = case.pairs;
-    let mut now = found;
-    for i in 0..count {
-        now = now.double(values[i], pairs[2 * i + side]);
-    }
-    now
+// Holds all 22 parts against what is wanted, in the order in which `open` takes them.
+pub fn met_memory(found: Found, case: Case, memory: Memory) -> Found {
+    let amounts = met_amounts(found, case, memory.amounts);
+    let newton = met_newton(amounts, case, memory.newton);
+    let given = met_given(newton, case, memory.given);
+    let factors = met_factors(given, case, memory.factors);
+    met_differences(factors, case, memory.differences)
 }

@@ -1,10 +1,10 @@
--- `memory::fill` is safe and ends: `i` rises to the length of the part, which a store leaves as it is. Assumes nothing.
+-- `part::fill` is safe and ends: `i` rises to the length of the part, which a store leaves as it is. Assumes nothing.
 use borrow.Author.Needs.{needs}
 use mathlib.Core.Path.{_≡_}
 use Prim.Native.Nat.{_-_}
 use lib.ListN.{length}
-use Rattle.opening_cases.proofs.memory.fill.Statement.{statement}
-use Rattle.opening_cases.proofs.memory.fill.Tie as tie
+use Rattle.opening_cases.proofs.part.fill.Statement.{statement}
+use Rattle.opening_cases.proofs.part.fill.Tie as tie
 
 abbrev Inv-loop : tie.InvT-loop
 Inv-loop part₀ contents word₀ i₀ i-end part word i = (length part ≡ length part₀) × (i-end ≡ length part₀)

@@ -1,8 +1,8 @@
--- `memory::met_list` is safe and ends: `i` rises to the count, which is within the values and the pairs. Assumes nothing.
+-- `part::met_list` is safe and ends: `i` rises to the count, which is within the values and the pairs. Assumes nothing.
 use borrow.Author.Needs.{needs}
 use Prim.Native.Nat.{_-_}
-use Rattle.opening_cases.proofs.memory.met_list.Statement.{statement}
-use Rattle.opening_cases.proofs.memory.met_list.Tie as tie
+use Rattle.opening_cases.proofs.part.met_list.Statement.{statement}
+use Rattle.opening_cases.proofs.part.met_list.Tie as tie
 
 abbrev Inv-loop : tie.InvT-loop
 Inv-loop side count values pairs now₀ i₀ now i = Unit {0}

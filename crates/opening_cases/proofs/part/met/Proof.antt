@@ -1,14 +1,16 @@
--- `memory::met_pivots` is safe and ends, as `met` is. Assumes nothing.
+-- `part::met` is safe and ends: `i` rises to the number of values. Assumes nothing.
 use borrow.Author.Needs.{needs}
+use mathlib.Core.Path.{_≡_}
 use Prim.Native.Nat.{_-_}
-use Rattle.opening_cases.proofs.memory.met_pivots.Statement.{statement}
-use Rattle.opening_cases.proofs.memory.met_pivots.Tie as tie
+use lib.ListN.{length}
+use Rattle.opening_cases.proofs.part.met.Statement.{statement}
+use Rattle.opening_cases.proofs.part.met.Tie as tie
 
 abbrev Inv-loop : tie.InvT-loop
-Inv-loop part values contents zeros now₀ word₀ i₀ now word i = Unit {0}
+Inv-loop part values contents zeros now₀ word₀ i₀ i-end now word i = i-end ≡ length values
 
 abbrev μ-loop : tie.MeasureT-loop
-μ-loop part values contents zeros now₀ word₀ i₀ now word i = 34 - i
+μ-loop part values contents zeros now₀ word₀ i₀ i-end now word i = i-end - i
 
 contents-of-requires : tie.Need-contents-of-requires Inv-loop μ-loop
 contents-of-requires c κs = search needs
@@ -22,14 +24,20 @@ loop-holds c = search needs
 entry-requires : tie.Need-entry-requires Inv-loop μ-loop
 entry-requires c κs = search needs
 
-mul-compared : tie.Need-mul-compared Inv-loop μ-loop
-mul-compared c = search needs
+double-requires : tie.Need-double-requires Inv-loop μ-loop
+double-requires c κs = search needs
 
-element-copy-out-compared : tie.Need-element-copy-out-compared Inv-loop μ-loop
-element-copy-out-compared c = search needs
+pattern-requires : tie.Need-pattern-requires Inv-loop μ-loop
+pattern-requires c κs = search needs
 
-compared-requires : tie.Need-compared-requires Inv-loop μ-loop
-compared-requires c κs = search needs
+mul-double : tie.Need-mul-double Inv-loop μ-loop
+mul-double c = search needs
+
+shared-slice-read-double : tie.Need-shared-slice-read-double Inv-loop μ-loop
+shared-slice-read-double c = search needs
+
+double-requires-2 : tie.Need-double-requires-2 Inv-loop μ-loop
+double-requires-2 c κs = search needs
 
 wrapping-add-u64-requires : tie.Need-wrapping-add-u64-requires Inv-loop μ-loop
 wrapping-add-u64-requires c κs = search needs
@@ -46,8 +54,8 @@ loop-again c = search needs
 returns : tie.Need-returns Inv-loop μ-loop
 returns c = search needs
 
-pub met-pivots-spec : {M : Type 1} → statement M
-met-pivots-spec =
+pub met-spec : {M : Type 1} → statement M
+met-spec =
     tie.close
     (tie.spec
     Inv-loop
@@ -56,9 +64,11 @@ met-pivots-spec =
     cleared-requires
     loop-holds
     entry-requires
-    mul-compared
-    element-copy-out-compared
-    compared-requires
+    double-requires
+    pattern-requires
+    mul-double
+    shared-slice-read-double
+    double-requires-2
     wrapping-add-u64-requires
     add-i
     loop-less

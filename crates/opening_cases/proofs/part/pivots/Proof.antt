@@ -1,8 +1,8 @@
--- `memory::pivots` is safe and ends: `i` rises to the number of entries. Assumes nothing.
+-- `part::pivots` is safe and ends: `i` rises to the number of entries. Assumes nothing.
 use borrow.Author.Needs.{needs}
 use Prim.Native.Nat.{_-_}
-use Rattle.opening_cases.proofs.memory.pivots.Statement.{statement}
-use Rattle.opening_cases.proofs.memory.pivots.Tie as tie
+use Rattle.opening_cases.proofs.part.pivots.Statement.{statement}
+use Rattle.opening_cases.proofs.part.pivots.Tie as tie
 
 abbrev Inv-loop : tie.InvT-loop
 Inv-loop part contents made₀ word₀ i₀ made word i = Unit {0}
