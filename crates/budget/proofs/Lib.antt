@@ -5,3 +5,4 @@ pub mod Lengths
 pub mod Room
 pub mod Kept
 pub mod Whole
+pub mod Wrong
