@@ -12,14 +12,14 @@ import sys
 ROOT = pathlib.Path(__file__).resolve().parent.parent
 DOCUMENTS = sorted([*ROOT.glob("*.md"), *ROOT.glob("docs/*.md"), ROOT / "NOTICE"])
 CITED = re.compile(r"`([^`\s]+)` \((crates/[^)\s]+)\)")
-NAMED = re.compile(r"`((?:crates|docs|tests|bench|\.ci)/[^`\s*]*)`")
+NAMED = re.compile(r"`((?:crates|docs|tests|bench|include|tools|\.ci)/[^`\s*]*)`")
 MACHINE = re.compile(r"(?<![\w./])/(?:work|opt|root|home|tmp)/")
 
 
 def declares(text, name):
     """A definition, theorem or field of antt, or a function, type or constant of Rattle, is declared under this name."""
     word = re.escape(name)
-    return re.search(rf"^\s*(?:abbrev |unfoldable )?(?:pub )?(?:record |data |fn |enum |struct |const )?{word}(?=[\s:(])", text, re.M)
+    return re.search(rf"^\s*(?:abbrev |unfoldable )?(?:pub )?(?:extern \"C\" )?(?:record |data |fn |enum |struct |const )?{word}(?=[\s:(])", text, re.M)
 
 
 def complaints():

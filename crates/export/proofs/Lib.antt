@@ -1,0 +1,7 @@
+-- In order of reading.
+pub mod Words
+pub mod StateLaws
+pub mod StateTheorems
+pub mod PackLaws
+pub mod RunLaws
+pub mod SettingsTheorem

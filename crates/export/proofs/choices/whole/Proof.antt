@@ -1,0 +1,19 @@
+-- `whole` meets its contract.
+use mathlib.Core.Path.{refl}
+use borrow.Author.Needs.{needs}
+use borrow.Author.Tests.{eq-eqb, ne-eqb}
+use Rattle.words.proofs.Branch.{yes, no}
+use Rattle.export.specs.Choices.{wholeOf}
+use Rattle.export.proofs.choices.whole.Statement.{statement}
+use Rattle.export.proofs.choices.whole.Tie as tie
+
+returns : tie.Need-returns
+unfolding wholeOf
+returns c = yes _ _ _ (eq-eqb _ _ (c .if1 .taken)) refl
+
+returns-2 : tie.Need-returns-2
+unfolding wholeOf
+returns-2 c = no _ _ _ (ne-eqb _ _ (c .if1 .left)) refl
+
+pub whole-spec : {M : Type 1} → statement M
+whole-spec = tie.close (tie.spec returns returns-2)

@@ -1,0 +1,8 @@
+-- In order of reading.
+pub mod Choices
+pub mod State
+pub mod Talk
+pub mod Held
+pub mod Defaults
+pub mod Ends
+pub mod Entries
