@@ -13,8 +13,8 @@ use std::time::Instant;
 
 // A slice crosses as a pointer and a count.
 extern "C" {
-    fn matrix_bench_lu_decomp(n: usize, a: *mut f64, an: usize, ip: *mut usize, ipn: usize) -> u64;
-    fn matrix_bench_lu_decomp_complex(
+    fn elchepur_lu_decomp(n: usize, a: *mut f64, an: usize, ip: *mut usize, ipn: usize) -> u64;
+    fn elchepur_lu_decomp_complex(
         n: usize,
         ar: *mut f64,
         arn: usize,
@@ -23,7 +23,7 @@ extern "C" {
         ip: *mut usize,
         ipn: usize,
     ) -> u64;
-    fn matrix_bench_lin_solve(
+    fn elchepur_lin_solve(
         n: usize,
         a: *const f64,
         an: usize,
@@ -32,7 +32,7 @@ extern "C" {
         ip: *const usize,
         ipn: usize,
     ) -> u64;
-    fn matrix_bench_lin_solve_complex(
+    fn elchepur_lin_solve_complex(
         n: usize,
         ar: *const f64,
         arn: usize,
@@ -149,10 +149,10 @@ fn ours(routine: Routine, w: &mut Work) -> u64 {
     let (br, bi, ip) = (w.br.as_mut_ptr(), w.bi.as_mut_ptr(), w.ip.as_mut_ptr());
     unsafe {
         match routine {
-            Routine::Decompose => matrix_bench_lu_decomp(n, ar, nn, ip, n),
-            Routine::DecomposeComplex => matrix_bench_lu_decomp_complex(n, ar, nn, ai, nn, ip, n),
-            Routine::Solve => matrix_bench_lin_solve(n, ar, nn, br, n, ip, n),
-            _ => matrix_bench_lin_solve_complex(n, ar, nn, ai, nn, br, n, bi, n, ip, n),
+            Routine::Decompose => elchepur_lu_decomp(n, ar, nn, ip, n),
+            Routine::DecomposeComplex => elchepur_lu_decomp_complex(n, ar, nn, ai, nn, ip, n),
+            Routine::Solve => elchepur_lin_solve(n, ar, nn, br, n, ip, n),
+            _ => elchepur_lin_solve_complex(n, ar, nn, ai, nn, br, n, bi, n, ip, n),
         }
     }
 }

@@ -14,7 +14,9 @@ TARGET = rust_text.ROOT / "target" / "rust" / "port"
 # each crate after those that it leans on
 CRATES = {
     "words": [],
+    "bits": ["words"],
     "scalar": ["words"],
+    "dense": ["words", "scalar"],
     "state": ["words"],
     "matrix": ["words", "scalar", "state"],
     "opening": ["words", "scalar", "state"],

@@ -433,10 +433,10 @@ def derivative(read):
     return list(map(pattern_of, found))
 
 
-def answers_of_rust(folder, sheets):
-    """For each sheet how many requests its run makes and what is printed; and the names of the branches that were taken."""
+def answers_of_rust(folder, sheets, **changes):
+    """For each sheet how many requests its run makes and what is printed; and the names of the branches that were taken. The runs may be changed."""
     program = runs.build(folder, PROGRAM)
-    asked = "".join(run_of(data).line(number) + "\n" for number, data in enumerate(sheets, 1))
+    asked = "".join(run_of(data).copy(**changes).line(number) + "\n" for number, data in enumerate(sheets, 1))
     done = subprocess.run([program], input=asked, capture_output=True, text=True)
     insist(done.returncode == 0, f"the Rust's program stopped:\n{done.stderr}")
     lines = done.stdout.splitlines()
