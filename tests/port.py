@@ -2,8 +2,8 @@
 
 The branches of the solver are counted: each outcome of an `if` and each arm of a `match` of crates/radau, under the names that `build` gives."""
 
+import hashlib
 import re
-import shutil
 import subprocess
 import sys
 
@@ -22,6 +22,7 @@ CRATES = {
     "opening": ["words", "scalar", "state"],
     "blocks": ["words", "scalar", "matrix", "state", "opening"],
     "radau": ["words", "scalar", "matrix", "state", "opening", "blocks"],
+    "export": ["words", "bits", "scalar", "matrix", "dense", "state", "opening", "blocks", "radau"],
 }
 
 
@@ -86,23 +87,45 @@ def counting(text, file, names):
     return "\n".join(lines)
 
 
+def linked(libraries, names):
+    """The words by which rustc takes these crates."""
+    return ["-L", str(libraries)] + [word for name in names for word in ("--extern", f"{name}={libraries}/lib{name}.rlib")]
+
+
+def texts_of(name, names):
+    """The files of a crate as Rust; where its branches are counted, their names are added to `names`."""
+    texts = {}
+    for file in sorted((rust_text.ROOT / "crates" / name / "src").glob("*.rt")):
+        text = stripped(file.read_text())
+        texts[f"{file.stem}.rs"] = counting(text, file.stem, names) if name == COUNTED else text
+    counter = COUNTER.replace("ROOM", str(len(names))) if name == COUNTED else ""
+    texts["lib.rs"] = "#![allow(warnings)]\n" + texts["lib.rs"] + counter
+    return texts
+
+
+def compile_crate(name, texts, key):
+    """Compiles a crate, overflow and bounds checked, unless it stands there with this key already."""
+    folder = TARGET / name
+    kept = folder / "key"
+    if kept.is_file() and kept.read_text() == key:
+        return
+    folder.mkdir(parents=True, exist_ok=True)
+    for file, text in texts.items():
+        (folder / file).write_text(text)
+    run = ["rustc", "--edition", "2021", "-O", "-C", "debug-assertions=on", "--crate-type", "rlib", "--crate-name", name]
+    run += [str(folder / "lib.rs"), "--out-dir", str(TARGET), *linked(TARGET, CRATES[name])]
+    done = subprocess.run(run, capture_output=True, text=True)
+    if done.returncode:
+        sys.exit(f"port: rustc does not take {name}:\n{done.stderr[:4000]}")
+    kept.write_text(key)
+
+
 def build():
-    """Compiles the crates, overflow and bounds checked. Gives the folder of the libraries, and the names of the branches that are counted."""
-    shutil.rmtree(TARGET, ignore_errors=True)
-    names = []
+    """Compiles the crates. Gives the folder of the libraries, and the names of the branches that are counted."""
+    version = subprocess.run(["rustc", "--version"], capture_output=True, text=True).stdout
+    names, keys = [], {}
     for name, leans_on in CRATES.items():
-        folder = TARGET / name
-        folder.mkdir(parents=True)
-        for file in sorted((rust_text.ROOT / "crates" / name / "src").glob("*.rt")):
-            text = stripped(file.read_text())
-            (folder / f"{file.stem}.rs").write_text(counting(text, file.stem, names) if name == COUNTED else text)
-        root = folder / "lib.rs"
-        root.write_text("#![allow(warnings)]\n" + root.read_text() + (COUNTER.replace("ROOM", str(len(names))) if name == COUNTED else ""))
-        run = ["rustc", "--edition", "2021", "-O", "-C", "debug-assertions=on", "--crate-type", "rlib", "--crate-name", name]
-        run += [str(folder / "lib.rs"), "--out-dir", str(TARGET), "-L", str(TARGET)]
-        for lower in leans_on:
-            run += ["--extern", f"{lower}={TARGET}/lib{lower}.rlib"]
-        done = subprocess.run(run, capture_output=True, text=True)
-        if done.returncode:
-            sys.exit(f"port: rustc does not take {name}:\n{done.stderr[:4000]}")
+        texts = texts_of(name, names)
+        keys[name] = hashlib.sha256(repr((version, texts, [keys[lower] for lower in leans_on])).encode()).hexdigest()
+        compile_crate(name, texts, keys[name])
     return TARGET, names

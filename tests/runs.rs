@@ -1,81 +1,21 @@
 // Runs of the Rust's own `solve`, traced call by call for tests/runs.py, which says how the answers are laid out.
-// Ours is what stands here: the trace, the powers of document 01, what a host replies, and the two types of the file solout.rs.
+// Ours is what stands here: the trace, and what a host replies.
+#[path = "branches.rs"]
+mod branches;
+#[path = "powers.rs"]
+mod powers;
+
+use crate::branch_names::BRANCHES;
 use crate::dense::StepInterpolant;
 use crate::ivp::FirstOrderSystem;
 use crate::matrix::{Matrix, MatrixStorage};
 use crate::methods::{Evals, Steps, Tolerance};
+use crate::solout::{ControlFlag, SolOut};
 use crate::status::Status;
+pub use branches::{hit, note, noted, taken};
+pub use powers::{four_fifths, inverse_root, power, quarter, two_thirds};
 use std::cell::{Cell, RefCell};
-use std::collections::BTreeMap;
 use std::io::{Read, Write};
-
-// --- Document 01's powers ------------------------------------------------------------------------
-
-// The root of order m: halving between the patterns of +0 and infinity, middle rounded down.
-pub fn root(m: u32, v: f64) -> f64 {
-    assert!((1..=17).contains(&m));
-    if v.is_nan() || v < 0.0 {
-        return f64::NAN;
-    }
-    if v == 0.0 {
-        return 0.0;
-    }
-    if v.is_infinite() {
-        return v;
-    }
-    let (mut low, mut high) = (0u64, f64::INFINITY.to_bits());
-    while high - low > 1 {
-        let middle = (low + high) / 2;
-        let x = f64::from_bits(middle);
-        let product = (1..m).fold(x, |p, _| p * x);
-        if product <= v {
-            low = middle;
-        } else {
-            high = middle;
-        }
-    }
-    f64::from_bits(low)
-}
-
-pub fn power(k: usize, x: f64) -> f64 {
-    (0..k).fold(1.0, |p, _| p * x)
-}
-
-pub fn two_thirds(v: f64) -> f64 {
-    power(2, root(3, v))
-}
-
-pub fn four_fifths(v: f64) -> f64 {
-    power(4, root(5, v))
-}
-
-pub fn quarter(v: f64) -> f64 {
-    root(4, v)
-}
-
-// The exponent -1/m.
-pub fn inverse_root(m: usize, v: f64) -> f64 {
-    1.0 / root(m as u32, v)
-}
-
-// --- What solout.rs has --------------------------------------------------------------------------
-
-pub enum ControlFlag {
-    Continue,
-    Interrupt,
-    ModifiedSolution,
-    XOut(f64),
-}
-
-pub trait SolOut {
-    fn solout(
-        &mut self,
-        xold: f64,
-        x: &mut f64,
-        y: &mut [f64],
-        interpolant: Option<&StepInterpolant<'_>>,
-    ) -> ControlFlag;
-}
 
 // --- The trace -----------------------------------------------------------------------------------
 
@@ -143,8 +83,6 @@ pub struct Trace {
     pub asked: Vec<Asked>,
     parts: Parts,
     place: u64,
-    branches: BTreeMap<String, usize>,
-    notes: BTreeMap<&'static str, bool>,
 }
 
 thread_local! {
@@ -273,22 +211,6 @@ pub fn mass_made(mass: &Matrix) {
     });
 }
 
-// A branch was taken.
-pub fn hit(name: &str) {
-    with(|t| *t.branches.entry(name.to_string()).or_insert(0) += 1);
-}
-
-// A truth of an attempt that a later branch is counted with.
-pub fn note(name: &'static str, truth: bool) {
-    with(|t| {
-        t.notes.insert(name, truth);
-    });
-}
-
-pub fn noted(name: &str) -> bool {
-    with(|t| t.notes.get(name).copied().unwrap_or(false))
-}
-
 fn number_of(status: &Status) -> u64 {
     match status {
         Status::Success => 0,
@@ -303,7 +225,8 @@ fn number_of(status: &Status) -> u64 {
 
 // The end of a run: the request, then the result.
 pub fn end(h: f64, x: f64, status: Status, evals: &Evals, steps: &Steps) {
-    hit(&format!("status {}", number_of(&status)));
+    let name = format!("status {}", number_of(&status));
+    hit(BRANCHES.iter().position(|&known| known == name).expect("a status that comes"));
     let counts = [
         evals.ode,
         evals.jac,
@@ -745,9 +668,9 @@ pub fn read_line(line: &str) -> (Opening, Host) {
 // Runs the Rust's `solve`, under the Rust rule or changed to the book rule, and gives what was asked.
 pub fn traced(opening: &Opening, host: &Host) -> Vec<Asked> {
     let (n, square) = (opening.n(), opening.n() * opening.n());
+    branches::forget();
     with(|t| {
         t.asked.clear();
-        t.notes.clear();
         t.parts = NAMES
             .iter()
             .map(|name| vec![0; if *name == "mass" { square } else { n }])
@@ -762,10 +685,6 @@ pub fn traced(opening: &Opening, host: &Host) -> Vec<Asked> {
         solved!(radau_rust, opening, host);
     }
     with(|t| std::mem::take(&mut t.asked))
-}
-
-pub fn branches() -> BTreeMap<String, usize> {
-    with(|t| t.branches.clone())
 }
 
 // Standard input has a line for each run; standard output gets for each run the words of its requests, on one line, and at the end a
@@ -786,7 +705,7 @@ pub fn run() {
         out.push_str(&words.join(" "));
         out.push('\n');
     }
-    for (name, count) in branches() {
+    for (name, count) in taken() {
         out.push_str(&format!("{count} {name}\n"));
     }
     std::io::stdout()

@@ -1,5 +1,5 @@
 // How each run of the Rust's `solve` ended, for tests/sheet_answers.py. It stands beside tests/runs.rs, which reads the runs and traces them.
-use crate::program::{branches, read_line, traced};
+use crate::program::{read_line, taken, traced};
 use std::io::Read;
 
 // The words of a result, as `end` of tests/runs.rs lays them out.
@@ -43,7 +43,7 @@ pub fn go() {
             hexadecimal(&last.parts[0])
         );
     }
-    for (name, count) in branches() {
+    for (name, count) in taken() {
         println!("{count} {name}");
     }
 }
