@@ -25,6 +25,14 @@ const EDGES: [f64; 19] = [
 ];
 const FINITE: usize = 16;
 
+// The bit that makes a NaN a quiet one.
+const QUIET: u64 = 1 << 51;
+
+// Whether a double is a signalling NaN. Of such a one the Rust's own max and min are NaN on Arm and the other number on x86-64, so it decides nothing.
+pub fn signals(x: f64) -> bool {
+    x.is_nan() && x.to_bits() & QUIET == 0
+}
+
 fn mixed(z: u64) -> u64 {
     let z = (z ^ (z >> 30)).wrapping_mul(0xbf58_476d_1ce4_e5b9);
     let z = (z ^ (z >> 27)).wrapping_mul(0x94d0_49bb_1331_11eb);
@@ -89,9 +97,11 @@ impl Draw {
         }
     }
 
-    // Any pattern at all.
+    // Any pattern, but that signalling NaNs become quiet.
     pub fn pattern(&mut self) -> f64 {
-        f64::from_bits(self.word())
+        let word = self.word();
+        let quiet = if signals(f64::from_bits(word)) { QUIET } else { 0 };
+        f64::from_bits(word | quiet)
     }
 
     pub fn edge(&mut self) -> f64 {

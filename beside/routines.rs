@@ -1,5 +1,5 @@
 // The scalar routines beside definitions written plainly here or the processor's own, and the four matrix routines beside the Rust's.
-use super::draw::Draw;
+use super::draw::{signals, Draw};
 use super::memory::{bits, difference};
 use super::plain;
 use super::stop::{insist, none};
@@ -68,7 +68,7 @@ fn scalar(d: &mut Draw) {
     }
     // Where the Rust's own order is settled, it agrees with 01's words.
     let zeros = a == 0.0 && b == 0.0;
-    if !zeros {
+    if !zeros && !signals(a) && !signals(b) {
         same("max, the Rust's", &[a, b], elchepur_max(a, b), a.max(b));
         same("min, the Rust's", &[a, b], elchepur_min(a, b), a.min(b));
     }
