@@ -11,16 +11,16 @@ use Rattle.dense.specs.Bounds.{ends, boundsOf}
 
 -- ---- the numbers of the examples
 
-abbrev none : Float
+abbrev pub none : Float
 none = double 0
 
-abbrev minusNone : Float
+abbrev pub minusNone : Float
 minusNone = double 0x8000_0000_0000_0000
 
-abbrev one : Float
+abbrev pub one : Float
 one = double 0x3ff0_0000_0000_0000
 
-abbrev two : Float
+abbrev pub two : Float
 two = double 0x4000_0000_0000_0000
 
 -- ---- interpolation

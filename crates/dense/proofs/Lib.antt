@@ -1,3 +1,4 @@
 pub mod Filling
 pub mod InterpolationTheorems
 pub mod Examples
+pub mod Wrong

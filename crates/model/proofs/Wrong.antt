@@ -80,6 +80,16 @@ unfolding derivativeOf zeros timesAmount speedOf lessened raised reacted pick ad
 products-first =
     shut-out productsFirst (double one ∷ []) (reaction (double one) 0 0 1 0 ∷ reaction (double large) 1 0 1 0 ∷ []) [] 0 one refl refl (λ e. omega arith)
 
+-- ---- the first product is added before the second reactant is subtracted: the same with the species as second reactant
+
+abbrev pub productBetween : Reading
+productBetween = sharing (λ y r d. let v = speedOf y r in raised v (r .product2) (lessened v (r .reactant2) (raised v (r .product1) (lessened v (r .reactant1) d))))
+
+pub product-between : Meets productBetween → ⊥
+unfolding derivativeOf zeros timesAmount speedOf lessened raised reacted pick add sub mul ofBits toBits
+product-between =
+    shut-out productBetween (double one ∷ []) (reaction (double one) 0 0 1 0 ∷ reaction (double large) 0 1 1 0 ∷ []) [] 0 one refl refl (λ e. omega arith)
+
 -- ---- the amounts are multiplied first, and the rate last: their product overflows, where the rate would have brought it down
 
 abbrev pub rateLast : Reading

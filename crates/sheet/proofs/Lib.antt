@@ -12,3 +12,4 @@ pub mod First
 pub mod Reached
 pub mod SheetTheorems
 pub mod Samples
+pub mod Wrong

@@ -6,7 +6,7 @@ use Rattle.state.specs.declared.settings.Rule.the-variants.{Rust, Book}
 use Rattle.sheet.specs.Digits.{byteOf, power, digits, widthOf}
 use Rattle.sheet.specs.Sheet.{Model, written}
 
-abbrev decaying : Model
+abbrev pub decaying : Model
 decaying =
     record {
       x0 = 0x0000_0000_0000_0000;
@@ -19,7 +19,7 @@ decaying =
       reactions = [];
     }
 
-abbrev reacting : Model
+abbrev pub reacting : Model
 reacting =
     record {
       x0 = 0x0000_0000_0000_0000;
