@@ -3,5 +3,6 @@ pub mod PutLaws
 pub mod DigitLaws
 pub mod LineLaws
 pub mod PrintedTheorems
+pub mod Determinism
 pub mod Samples
 pub mod Wrong

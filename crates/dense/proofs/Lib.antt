@@ -1,4 +1,5 @@
 pub mod Filling
+pub mod Determinism
 pub mod InterpolationTheorems
 pub mod Examples
 pub mod Wrong

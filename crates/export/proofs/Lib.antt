@@ -5,3 +5,4 @@ pub mod StateTheorems
 pub mod PackLaws
 pub mod RunLaws
 pub mod SettingsTheorem
+pub mod Determinism

@@ -1,9 +1,9 @@
--- Each contract settles its call: two outcomes that it allows for one input are the same answer and the same memory. Floats have one NaN here, so
--- payloads of NaN are not told apart.
+-- Each contract settles its call: two outcomes that it allows for one input are the same answer and the same memory.
 use Prim.Native.Nat.{ℕ}
-use mathlib.Core.Path.{_≡_, sym, ap, _∙_}
+use mathlib.Core.Path.{_≡_}
 use mathlib.Core.List.{List}
 use lib.Ieee.{Float}
+use Rattle.words.proofs.Outcome.{one-part}
 use Rattle.matrix.specs.declared.answers.Decomposed.{Decomposed}
 use Rattle.matrix.specs.declared.answers.Solved.{Solved}
 use Rattle.matrix.specs.Answers.{Decomposition, decomposition, Solution, solution}
@@ -15,15 +15,11 @@ use Rattle.matrix.specs.LinearComplex.{linSolveComplexOf}
 
 module _ {A : Type 0} {r s : Decomposed} {a b : A} {ip jp : List ℕ} where
   decomposed-once : (w : Decomposition A) → decomposition r a ip ≡ w → decomposition s b jp ≡ w → (r ≡ s) × (a ≡ b) × (ip ≡ jp)
-  decomposed-once w p q =
-      let e : decomposition r a ip ≡ decomposition s b jp = p ∙ sym q in
-      (ap (λ (d : Decomposition A). d .answer) e, ap (λ (d : Decomposition A). d .a) e, ap (λ (d : Decomposition A). d .ip) e)
+  decomposed-once w p q = (one-part (λ (d : Decomposition A). d .answer) p q, one-part (λ (d : Decomposition A). d .a) p q, one-part (λ (d : Decomposition A). d .ip) p q)
 
 module _ {B : Type 0} {r s : Solved} {b d : B} where
   solved-once : (w : Solution B) → solution r b ≡ w → solution s d ≡ w → (r ≡ s) × (b ≡ d)
-  solved-once w p q =
-      let e : solution r b ≡ solution s d = p ∙ sym q in
-      (ap (λ (x : Solution B). x .answer) e, ap (λ (x : Solution B). x .b) e)
+  solved-once w p q = (one-part (λ (x : Solution B). x .answer) p q, one-part (λ (x : Solution B). x .b) p q)
 
 module _ (n : ℕ) (ip₀ : List ℕ) where
   pub lu-decomp-once : (a₀ : List Float) {r s : Decomposed} {a b : List Float} {ip jp : List ℕ}

@@ -5,4 +5,5 @@ pub mod ToleranceLaws
 pub mod OpeningLaws
 pub mod AdmissionLaws
 pub mod OpeningTheorems
+pub mod Determinism
 pub mod Traps

@@ -11,5 +11,6 @@ pub mod Accepted
 pub mod First
 pub mod Reached
 pub mod SheetTheorems
+pub mod Determinism
 pub mod Samples
 pub mod Wrong
