@@ -2,21 +2,11 @@
 use crate::case::Case;
 use opening::admission::admission;
 use replay::word::within;
-use state::talk::Refusal;
+use state::refusal_number;
 use state::talk::Verdict;
 
 // The entries of a matrix of the first order that is refused, and one more: no part is longer.
 const MOST: usize = 1090;
-
-// 01's number of a refusal that an advance can give, 99 for any other.
-fn row(refusal: Refusal) -> u64 {
-    match refusal {
-        Refusal::Unfit => 13,
-        Refusal::HasEnded => 14,
-        Refusal::WrongReply => 15,
-        _ => 99,
-    }
-}
 
 // As much of an array as a part of the case is long. What floats it holds is nothing to the tests before an advance.
 fn cut(entries: &[f64], case: Case, part: usize) -> &[f64] {
@@ -32,7 +22,7 @@ fn cut_pivots(entries: &[usize], case: Case, part: usize) -> &[usize] {
 fn number_of(verdict: Verdict) -> u64 {
     match verdict {
         Verdict::Passed => 0,
-        Verdict::Refused(refusal) => row(refusal),
+        Verdict::Refused(refusal) => refusal_number(refusal),
     }
 }
 

@@ -2,7 +2,6 @@
 mod digits;
 pub mod forecast;
 mod lines;
-mod numbers;
 pub mod printed;
 
 pub use forecast::Forecast;

@@ -11,7 +11,7 @@ use crate::digits::ROOM;
 use crate::digits::put_float;
 use crate::digits::put_number;
 use crate::forecast::Reached;
-use crate::numbers::status_number;
+use state::status_number;
 use state::talk::IntegrationResult;
 
 // The most amounts that there are.

@@ -9,7 +9,7 @@ use crate::forecast::Forecast;
 use crate::lines::put_line;
 use crate::lines::put_reached;
 use crate::lines::put_text;
-use crate::numbers::refusal_number;
+use state::refusal_number;
 
 // Puts the bytes over the first of `out` and returns how many they are: no more than 735. The others stay as they were.
 pub fn print(forecast: Forecast, out: &mut [u8; 1024]) -> usize

@@ -18,13 +18,12 @@ use state::run::Numbers;
 use state::run::Run;
 use state::run::Shape;
 use state::run::Stage;
-use state::run::Status;
 use state::settings::Settings;
+use state::status_number;
 ghost use mathlib.Core.Path.{_≡_};
 ghost use Prim.Native.Nat.{_+_, _≤_};
 ghost use lib.ListN.{length};
 ghost use lib.Seq.{paste};
-ghost use Rattle.state.specs.Numbers.{statusNumber};
 ghost use Rattle.export.specs.State.{settingsWords, shapeWords, fixedWords, countsWords, controlWords, numbersWords, stageTag, stageWord, stageWords, packOf};
 
 fn settings_words(s: Settings) -> [u64; 25]
@@ -139,18 +138,6 @@ fn numbers_words(v: Numbers) -> [u64; 15]
         number_tag(xout),
         number_word(xout),
     ]
-}
-
-pub fn status_number(status: Status) -> u64
-    ensures { λ r. ⌜ r ≡ statusNumber status ⌝ }
-{
-    match status {
-        Status::Success => 0,
-        Status::UserInterrupt => 1,
-        Status::NeedLargerNMax => 2,
-        Status::StepSizeTooSmall => 3,
-        Status::SingularMatrix => 5,
-    }
 }
 
 fn stage_tag(stage: Stage) -> u64

@@ -1,43 +1,19 @@
 // What a run and its host say to each other, as numbers.
 use crate::choices::flag_word;
 use crate::pack::packed;
-use crate::pack::status_number;
+use state::refusal_number;
 use state::run::Stage;
+use state::status_number;
 use state::talk::Answer;
 use state::talk::IntegrationResult;
 use state::talk::Opened;
 use state::talk::Place;
-use state::talk::Refusal;
 use state::talk::Reply;
 use state::talk::Request;
 use state::talk::Result;
 ghost use mathlib.Core.Path.{_≡_};
-ghost use Rattle.state.specs.Numbers.{refusalNumber};
 ghost use Rattle.opening.specs.Admission.{askingAt};
 ghost use Rattle.export.specs.Talk.{kindNumber, placeNumber, requestFlag, toldOf, atOf, replyOf, crossed, ofOpened, ofAnswer, ended, endNumbers, ofResult};
-
-pub fn refusal_number(refusal: Refusal) -> u64
-    ensures { λ r. ⌜ r ≡ refusalNumber refusal ⌝ }
-{
-    match refusal {
-        Refusal::Order => 1,
-        Refusal::Length => 2,
-        Refusal::NotFinite(_) => 3,
-        Refusal::MaxSteps => 4,
-        Refusal::Uround => 5,
-        Refusal::SafetyFactor => 6,
-        Refusal::Scales => 7,
-        Refusal::NewtonMaxiter => 8,
-        Refusal::Tolerance(_) => 9,
-        Refusal::Partition => 10,
-        Refusal::FirstStep => 11,
-        Refusal::MaxStep => 12,
-        Refusal::MinStep => 12,
-        Refusal::Unfit => 13,
-        Refusal::HasEnded => 14,
-        Refusal::WrongReply => 15,
-    }
-}
 
 fn kind_number(request: Request) -> u64
     ensures { λ r. ⌜ r ≡ kindNumber request ⌝ }

@@ -43,6 +43,7 @@ use replay::settings::UROUND;
 use replay::settings::X0;
 use replay::settings::XEND;
 use replay::word::quarter;
+use state::refusal_number;
 use state::run::Control;
 use state::run::Counts;
 use state::run::Fixed;
@@ -64,28 +65,6 @@ use state::talk::Request;
 use state::talk::Value;
 
 const ONE: u64 = 0x3ff0_0000_0000_0000;
-
-// Document 01's number of a refusal.
-fn row(refusal: Refusal) -> u64 {
-    match refusal {
-        Refusal::Order => 1,
-        Refusal::Length => 2,
-        Refusal::NotFinite(_) => 3,
-        Refusal::MaxSteps => 4,
-        Refusal::Uround => 5,
-        Refusal::SafetyFactor => 6,
-        Refusal::Scales => 7,
-        Refusal::NewtonMaxiter => 8,
-        Refusal::Tolerance(_) => 9,
-        Refusal::Partition => 10,
-        Refusal::FirstStep => 11,
-        Refusal::MaxStep => 12,
-        Refusal::MinStep => 12,
-        Refusal::Unfit => 13,
-        Refusal::HasEnded => 14,
-        Refusal::WrongReply => 15,
-    }
-}
 
 // The numbers of the floats that may fail, from 1 in the order of the tests.
 fn float(value: Value) -> u64 {
@@ -139,7 +118,7 @@ fn place_told(refusal: Refusal) -> u64 {
 fn met_refusal(found: Found, case: Case, refusal: Refusal) -> Found {
     let words = case.words;
     found
-        .compared(row(refusal), quarter(words[OUTCOME], 0))
+        .compared(refusal_number(refusal), quarter(words[OUTCOME], 0))
         .compared(float_told(refusal), quarter(words[OUTCOME], 1))
         .compared(place_told(refusal), quarter(words[OUTCOME], 2))
 }

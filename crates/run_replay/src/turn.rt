@@ -19,7 +19,7 @@ use replay::found::Found;
 use state::result;
 use state::run::Counts;
 use state::run::Run;
-use state::run::Status;
+use state::status_number;
 use state::talk::IntegrationResult;
 use state::talk::Place;
 use state::talk::Reply;
@@ -52,13 +52,7 @@ fn kind(request: Request) -> u64 {
 fn flag(request: Request) -> u64 {
     match request {
         Request::Report(_, _, offered) => { if offered { 1 } else { 0 } }
-        Request::Ended(status) => match status {
-            Status::Success => 0,
-            Status::UserInterrupt => 1,
-            Status::NeedLargerNMax => 2,
-            Status::StepSizeTooSmall => 3,
-            Status::SingularMatrix => 5,
-        },
+        Request::Ended(status) => status_number(status),
         _ => 0,
     }
 }

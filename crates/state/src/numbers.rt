@@ -1,8 +1,8 @@
 // Document 01's numbers of a status and of a refusal.
 ghost use mathlib.Core.Path.{_≡_};
 ghost use Rattle.state.specs.Numbers.{refusalNumber, statusNumber};
-use state::run::Status;
-use state::talk::Refusal;
+use crate::run::Status;
+use crate::talk::Refusal;
 
 pub fn status_number(status: Status) -> u64
     ensures { λ r. ⌜ r ≡ statusNumber status ⌝ }
