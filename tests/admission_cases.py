@@ -29,7 +29,8 @@ always 7ff8000000000000.
 import sys
 
 import rust_text
-from scalar_vectors import INFINITY, LARGEST, NAN, SIGN, SMALLEST, number, pattern_of
+from draw import INFINITY, LARGEST, NAN, SIGN, SMALLEST, pattern_of
+from scalar_vectors import number
 from opening_cases import NAMES, PARTS, Opening, compare, head_words, insist, packed, text_of
 from opening_cases import ROWS as OPENING_ROWS
 

@@ -61,6 +61,10 @@ class Draw:
         """A double above -1 and below 1, with 52 digits behind the point."""
         return (self.between(1, (1 << 53) - 1) - (1 << 52)) / (1 << 52)
 
+    def within(self, power_of_two):
+        """A double from 2**-power_of_two up to 2**power_of_two."""
+        return self.between(ONE - power_of_two * UNIT, ONE + power_of_two * UNIT)
+
     def finite(self):
         """Any finite double."""
         return self.sign() | self.between(ZERO, LARGEST)

@@ -43,8 +43,8 @@ import subprocess
 import sys
 
 import rust_text
-from scalar_vectors import INFINITY, LARGEST, NAN, ONE, SIGN, SMALLEST, SMALLEST_NORMAL, UNIT
-from scalar_vectors import Draw, larger, number, pattern_of, smaller, two_thirds
+from draw import INFINITY, LARGEST, NAN, ONE, SIGN, SMALLEST, SMALLEST_NORMAL, UNIT, Draw, pattern_of
+from scalar_vectors import larger, number, smaller, two_thirds
 
 ROOT = rust_text.ROOT
 STDIN = ROOT / "crates" / "opening_cases" / "stdin"

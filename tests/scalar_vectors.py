@@ -42,6 +42,7 @@ import struct
 import sys
 
 import rust_text
+from draw import INFINITY, LARGEST, NAN, ONE, SIGN, SMALLEST, SMALLEST_NORMAL, SPECIALS, UNIT, ZERO, Draw, pattern_of
 
 ROOT = rust_text.ROOT
 VECTORS = ROOT / "crates" / "scalar_vectors" / "stdin"
@@ -73,17 +74,6 @@ COEFFICIENTS = (
 # The program reads no more lines than this.
 MOST_LINES = 20_000
 
-# Patterns.
-SIGN = 1 << 63
-UNIT = 1 << 52  # from one binade to the next
-ZERO = 0
-SMALLEST = 1
-SMALLEST_NORMAL = UNIT
-ONE = 0x3FF0000000000000
-LARGEST = 0x7FEFFFFFFFFFFFFF
-INFINITY = 0x7FF0000000000000
-NAN = 0x7FF8000000000000
-
 LOWEST = -1074  # the smallest double is 2**LOWEST
 
 
@@ -111,10 +101,6 @@ def is_negative(pattern):
 
 def number(pattern):
     return struct.unpack("<d", struct.pack("<Q", pattern))[0]
-
-
-def pattern_of(value):
-    return NAN if math.isnan(value) else struct.unpack("<Q", struct.pack("<d", value))[0]
 
 
 def parts(pattern):
@@ -282,23 +268,8 @@ def coefficients(folder):
 # --- The arguments ---------------------------------------------------------------------------
 
 
-class Draw:
-    """Numbers drawn by SplitMix64, so that they are the same on every machine and Python."""
-
-    def __init__(self, seed):
-        self.state = seed
-
-    def bits(self):
-        mask = (1 << 64) - 1
-        self.state = (self.state + 0x9E3779B97F4A7C15) & mask
-        z = self.state
-        z = ((z ^ (z >> 30)) * 0xBF58476D1CE4E5B9) & mask
-        z = ((z ^ (z >> 27)) * 0x94D049BB133111EB) & mask
-        return z ^ (z >> 31)
-
-    def between(self, low, high):
-        """A whole number from low to high, both among them."""
-        return low + self.bits() % (high - low + 1)
+class Arguments(Draw):
+    """Positive doubles and whole numbers, drawn."""
 
     def digits(self, length):
         """A whole number of exactly that many binary digits."""
@@ -310,33 +281,10 @@ class Draw:
     def subnormal(self):
         return self.digits(self.between(1, 52))
 
-    def within(self, power_of_two):
-        """A double from 2**-power_of_two up to 2**power_of_two."""
-        return self.between(ONE - power_of_two * UNIT, ONE + power_of_two * UNIT)
-
-    def choice(self, items):
-        return items[self.between(0, len(items) - 1)]
-
 
 def around(pattern):
     """A double with the next one below and above it."""
     return [pattern - 1, pattern, pattern + 1]
-
-
-SPECIALS = [
-    NAN,
-    ZERO,
-    SIGN | ZERO,
-    INFINITY,
-    SIGN | INFINITY,
-    SMALLEST,
-    SIGN | SMALLEST,
-    SMALLEST_NORMAL,
-    ONE,
-    SIGN | ONE,
-    LARGEST,
-    SIGN | LARGEST,
-]
 
 
 def square_arguments(draw):
@@ -457,10 +405,10 @@ def lines_of_small(draw):
 
 def lines_outside():
     """All lines but the coefficients', each once."""
-    made = [line("s", 0, [v], sqrt(v)) for v in square_arguments(Draw(1))]
-    made += lines_of_roots(Draw(2))
-    powered = [line("p", exponent, [x], power(exponent, x)) for exponent, x in powers(Draw(3))]
-    made += powered + lines_of_fractions(Draw(4)) + lines_of_small(Draw(5))
+    made = [line("s", 0, [v], sqrt(v)) for v in square_arguments(Arguments(1))]
+    made += lines_of_roots(Arguments(2))
+    powered = [line("p", exponent, [x], power(exponent, x)) for exponent, x in powers(Arguments(3))]
+    made += powered + lines_of_fractions(Arguments(4)) + lines_of_small(Arguments(5))
     return list(dict.fromkeys(made))
 
 
@@ -482,7 +430,7 @@ def summary(lines):
 
 def try_rounding():
     """Hold `rounded` against the processor's products and quotients."""
-    draw = Draw(6)
+    draw = Arguments(6)
     for _ in range(4000):
         any_two = draw.bits(), draw.bits()
         low = draw.within(30) - 520 * UNIT, draw.within(30) - 520 * UNIT  # about the subnormals
