@@ -348,6 +348,13 @@ fn main() {{
 """
 
 
+def after_modules(methods):
+    """What methods/mod.rs has after its lists of modules."""
+    start = "use crate::{Float, ivp::FirstOrderSystem, status::Status};\n"
+    insist(methods.count(start) == 1, "methods/mod.rs begins otherwise")
+    return methods[methods.index(start):]
+
+
 def make_crate(folder, target, program, extra, main):
     """Writes the crate below `target` around our `program`, with `extra` items and this main function. Gives the path of its root."""
     target.mkdir(parents=True, exist_ok=True)
@@ -358,10 +365,7 @@ def make_crate(folder, target, program, extra, main):
     (target / "radau_book.rs").write_text(numbered(edited("radau.rs", radau, BOOK_EDITS)))
     (target / "ivp.rs").write_text(numbered(edited("ivp.rs", (source / "ivp.rs").read_text(), IVP_EDITS)))
     (target / "branch_names.rs").write_text(name_table("BRANCHES", names_counted()) + name_table("NOTES", names_noted()))
-    methods = (source / "methods" / "mod.rs").read_text()
-    start = "use crate::{Float, ivp::FirstOrderSystem, status::Status};\n"
-    insist(methods.count(start) == 1, "methods/mod.rs begins otherwise")
-    (target / "methods.rs").write_text(methods[methods.index(start):])
+    (target / "methods.rs").write_text(after_modules((source / "methods" / "mod.rs").read_text()))
     root = target / "root.rs"
     tests = rust_text.ROOT / "tests"
     root.write_text(ROOT_TEXT.format(source=source, tests=tests, program=program.resolve(), extra=extra, main=main))

@@ -1,0 +1,41 @@
+//! What a run that succeeded left, and the counts of any run.
+
+/// A run that reached its end: the last attempt was aimed at xend and accepted.
+///
+/// Only [`solve`](crate::methods::RADAU::solve) makes one, and only of such a run, so whoever holds one holds the amounts at the end.
+#[derive(Clone, Debug, PartialEq)]
+#[non_exhaustive]
+pub struct IntegrationResult {
+    /// The point reached: xend, but for the rounding of the last step, and unless the last report modified it.
+    pub x: f64,
+    /// The amounts there.
+    pub y: Vec<f64>,
+    /// The step that a further attempt would have had.
+    pub h: f64,
+    /// What was evaluated.
+    pub evals: Evals,
+    /// The steps.
+    pub steps: Steps,
+}
+
+/// How often what was evaluated. That each is the number of what happened is a theorem about the solver behind this crate.
+#[derive(Clone, Copy, Debug, Default, PartialEq, Eq)]
+pub struct Evals {
+    /// Derivatives, without those of difference Jacobians.
+    pub ode: usize,
+    /// Jacobians.
+    pub jac: usize,
+    /// Decompositions that were tried, and the first error solve of each attempt.
+    pub lu: usize,
+}
+
+/// The steps of a run, likewise.
+#[derive(Clone, Copy, Debug, Default, PartialEq, Eq)]
+pub struct Steps {
+    /// Attempts begun, the one over the limit too.
+    pub total: usize,
+    /// Attempts accepted.
+    pub accepted: usize,
+    /// Slow verdicts, and error tests failed after the first acceptance.
+    pub rejected: usize,
+}
