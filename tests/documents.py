@@ -10,9 +10,9 @@ import subprocess
 import sys
 
 ROOT = pathlib.Path(__file__).resolve().parent.parent
-DOCUMENTS = sorted([*ROOT.glob("*.md"), *ROOT.glob("docs/*.md"), *ROOT.glob("beside/*.md"), *ROOT.glob("rust/*.md"), ROOT / "NOTICE"])
+DOCUMENTS = sorted([*ROOT.glob("*.md"), *ROOT.glob("docs/*.md"), *ROOT.glob("beside/*.md"), *ROOT.glob("bench/*.md"), *ROOT.glob("judge/*.md"), *ROOT.glob("rust/*.md"), ROOT / "NOTICE"])
 CITED = re.compile(r"`([^`\s]+)` \((crates/[^)\s]+)\)")
-NAMED = re.compile(r"`((?:crates|docs|tests|bench|beside|include|tools|rust|\.ci)/[^`\s*]*)`")
+NAMED = re.compile(r"`((?:crates|docs|tests|bench|beside|judge|include|tools|rust|\.ci)/[^`\s*]*)`")
 MACHINE = re.compile(r"(?<![\w./])/(?:work|opt|root|home|tmp)/")
 
 

@@ -1,4 +1,4 @@
-"""The Rust's own `solve` in a crate of ours, changed so that its calls of the host can be traced. For tests/runs.py and beside/run.
+"""The Rust's own `solve` in a crate of ours, changed so that its calls of the host can be traced. For tests/runs.py and beside/run; untraced for bench/run.
 
 error.rs, dense.rs, status.rs and the four files of matrix/ are taken where they stand. Of methods/mod.rs stands what comes after its lists of
 modules. radau.rs and ivp.rs are copied with these changes, each of which must find its words exactly once:
@@ -334,11 +334,7 @@ mod solve {{
         pub struct EventConfig;
     }}
 }}
-mod ivp;
-mod methods;
-mod radau_rust;
-mod radau_book;
-mod branch_names;
+{modules}
 #[path = "{program}"]
 mod program;
 {extra}
@@ -355,6 +351,10 @@ def after_modules(methods):
     return methods[methods.index(start):]
 
 
+TRACED = "mod ivp;\nmod methods;\nmod radau_rust;\nmod radau_book;\nmod branch_names;"
+UNTRACED = '#[path = "{source}/ivp.rs"]\nmod ivp;\nmod methods;\nmod radau_libm;\nmod radau_ours;'
+
+
 def make_crate(folder, target, program, extra, main):
     """Writes the crate below `target` around our `program`, with `extra` items and this main function. Gives the path of its root."""
     target.mkdir(parents=True, exist_ok=True)
@@ -365,10 +365,26 @@ def make_crate(folder, target, program, extra, main):
     (target / "radau_book.rs").write_text(numbered(edited("radau.rs", radau, BOOK_EDITS)))
     (target / "ivp.rs").write_text(numbered(edited("ivp.rs", (source / "ivp.rs").read_text(), IVP_EDITS)))
     (target / "branch_names.rs").write_text(name_table("BRANCHES", names_counted()) + name_table("NOTES", names_noted()))
+    return make_root(source, target, program, TRACED, extra, main)
+
+
+def make_untraced(folder, target, program, extra, main):
+    """The same without a trace, to be measured: radau_libm has the Rust's text with its own powers, radau_ours has its powers directed to the
+    program's `two_thirds`, `four_fifths`, `quarter`, `power` and `inverse_root`. Nothing else of `solve` is changed, and ivp.rs stands as it is."""
+    target.mkdir(parents=True, exist_ok=True)
+    source = (folder / "src").resolve()
+    radau = edited("radau.rs", (source / "methods" / "radau.rs").read_text(), SHIMS)
+    (target / "radau_libm.rs").write_text(radau)
+    (target / "radau_ours.rs").write_text(edited("radau.rs", radau, POWERS))
+    return make_root(source, target, program, UNTRACED.format(source=source), extra, main)
+
+
+def make_root(source, target, program, modules, extra, main):
+    """Writes methods.rs and the crate's root, whose `modules` are those of the Rust's solver. Gives the root's path."""
     (target / "methods.rs").write_text(after_modules((source / "methods" / "mod.rs").read_text()))
     root = target / "root.rs"
     tests = rust_text.ROOT / "tests"
-    root.write_text(ROOT_TEXT.format(source=source, tests=tests, program=program.resolve(), extra=extra, main=main))
+    root.write_text(ROOT_TEXT.format(source=source, tests=tests, modules=modules, program=program.resolve(), extra=extra, main=main))
     return root
 
 

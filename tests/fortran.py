@@ -1,0 +1,41 @@
+"""The published RADAU5 in Fortran, as the source package of Debian's r-cran-desolve has it: radau5.f, and radau5a.f beside it. For bench/run and judge/run.
+
+It is compiled by gfortran at -O3 without fused multiply-add. Nothing of it is stored here."""
+
+import pathlib
+import shutil
+import subprocess
+import sys
+
+# How the package's text calls a Jacobian: the authors' own has two arguments fewer.
+JACOBIAN = "CALL JAC(N,X,Y,MLJAC,MUJAC,FJAC,LDJAC,RPAR,IPAR)"
+
+
+def texts_of(path):
+    """The two texts, by their names. `path` is that of radau5.f or of its folder."""
+    path = pathlib.Path(path)
+    folder = path if path.is_dir() else path.parent
+    files = [folder / "radau5.f", folder / "radau5a.f"]
+    missing = [file for file in files if not file.is_file()]
+    if missing:
+        sys.exit(f"there is no {missing[0]}")
+    texts = {file.stem: file.read_text(errors="replace") for file in files}
+    if texts["radau5"].count(JACOBIAN) != 1:
+        sys.exit(f"{files[0]} is not that of r-cran-desolve: it calls a Jacobian otherwise")
+    return texts
+
+
+def compiled(texts, target, words=("-O3", "-ffp-contract=off")):
+    """Compiles the texts below `target`. Gives the words by which rustc links them."""
+    if not shutil.which("gfortran"):
+        sys.exit("there is no gfortran")
+    target.mkdir(parents=True, exist_ok=True)
+    linked = []
+    for name, text in texts.items():
+        file, made = target / f"{name}.f", target / f"{name}.o"
+        file.write_text(text)
+        done = subprocess.run(["gfortran", "-std=legacy", "-w", "-fPIC", *words, "-c", file, "-o", made], capture_output=True, text=True)
+        if done.returncode:
+            sys.exit(f"gfortran does not take {name}.f:\n{done.stderr[:2000]}")
+        linked += ["-C", f"link-arg={made}"]
+    return linked + ["-C", "link-arg=-lgfortran", "-C", "link-arg=-lm", "--cfg", "fortran"]
