@@ -17,7 +17,7 @@ routine and, for rule 1, 01's two changes; the derivative is 01's sentence, writ
 the same sentence written here; the settings are the Rust's defaults, the mass is Identity, the tolerances are scalars, the Jacobian is by differences.
 
 Those of refusals come from `refusal` below, an independent reader: it was written from document 01 ('Sheet and program', 'Numbers that
-refuse') and the readings of it that follow (R20 to R22), and makes no use of tools/sheet.py; on every sheet here the two are held against each other.
+refuse') and the readings of it that follow, and makes no use of tools/sheet.py; on every sheet here the two are held against each other.
 Lines are judged in order and the first wrong one is told. Where the input ends with the last LF before the sheet is complete, the number is
 that of the lines plus 1, and 1 for no bytes at all. Bytes behind the last LF are a line without LF, wrong under its own number whatever they hold;
 so is a further line, an empty one too. 21 goes before 20, and 20 before opening's list, of which 3, 4 and 9 alone can come.

@@ -1,6 +1,6 @@
 -- `solve` past its checks, in direct style, to be held beside radau.rs:330-798: the pieces stand in the order of the text, and mainOf and solveOf put them together.
 -- A piece is given the run, the world, and what follows: `next` is the text below it, `main` is `continue 'main`; `break 'main` is `finished`.
--- Rust's calls of `derivative`, `jac` and `solout` are `ask`; what is computed between two of them are the definitions of `radau`, which hold the floating-point text.
+-- Rust's calls of `derivative`, `jac` and `solout` are `ask`; what is computed between two of them are the definitions of `blocks`, which hold the floating-point text.
 -- Doubles by their patterns: 0x3ff0_0000_0000_0000 is 1.0, 0x3fb9_9999_9999_999a is 0.1.
 use Prim.Native.Nat.{ℕ, zero, suc, _+_, _<_}
 use mathlib.Core.Bool.{_&&_, _||_}
