@@ -2,17 +2,23 @@
 """Holds the documents to the repository.
 
 In every document a name with its file, written `name` (crates/../File), must be declared there; every file or folder of ours
-that a document names must exist. Nothing that is committed may name a folder of one machine."""
+that a document names or links to must exist. A run of `tools/decay` that a document shows must be the stored answer of that sheet. Nothing that is committed
+may name a folder of one machine."""
 
 import pathlib
 import re
 import subprocess
 import sys
 
+import sheet_answers
+
 ROOT = pathlib.Path(__file__).resolve().parent.parent
-DOCUMENTS = sorted([*ROOT.glob("*.md"), *ROOT.glob("docs/*.md"), *ROOT.glob("beside/*.md"), *ROOT.glob("bench/*.md"), *ROOT.glob("judge/*.md"), *ROOT.glob("rust/*.md"), ROOT / "NOTICE"])
+DOCUMENTS = sorted([*ROOT.glob("*.md"), *(file for file in ROOT.glob("*/*.md") if file.parent.name != "target"), ROOT / "NOTICE"])
 CITED = re.compile(r"`([^`\s]+)` \((crates/[^)\s]+)\)")
-NAMED = re.compile(r"`((?:crates|docs|tests|bench|beside|judge|include|tools|rust|\.ci)/[^`\s*]*)`")
+FOLDERS = "|".join(re.escape(file.name) for file in ROOT.iterdir() if file.is_dir() and file.name not in (".git", "target"))
+NAMED = re.compile(rf"`((?:{FOLDERS})/[^`\s*]*)`")
+LINKED = re.compile(r"\]\((?!https?:)([^)#\s]+)\)")
+SHOWN = re.compile(r"^    \$ tools/decay (\S+)\n((?:    .*\n)+)", re.M)
 MACHINE = re.compile(r"(?<![\w./])/(?:work|opt|root|home|tmp)/")
 
 
@@ -22,18 +28,34 @@ def declares(text, name):
     return re.search(rf"^\s*(?:abbrev |unfoldable )?(?:pub )?(?:extern \"C\" )?(?:record |data |fn |enum |struct |const )?{word}(?=[\s:(])", text, re.M)
 
 
+def about_names(text):
+    """What the text names and is not there."""
+    for name, file in CITED.findall(text):
+        if not (ROOT / file).is_file():
+            yield f"there is no {file}"
+        elif not declares((ROOT / file).read_text(), name):
+            yield f"{file} declares no {name}"
+    for path in NAMED.findall(text):
+        if path != "docs/src" and "NAME" not in path and not (ROOT / path).exists():
+            yield f"there is no {path}"
+
+
+def about(document, stored):
+    """What is wrong in a document; `stored` has what `decay` prints of each stored sheet."""
+    text = document.read_text()
+    yield from about_names(text)
+    for path in LINKED.findall(text):
+        if not (document.parent / path).exists():
+            yield f"it links to {path}, which is not there"
+    for path, printed in SHOWN.findall(text):
+        if stored.get((ROOT / path).read_bytes()) != printed.replace("    ", ""):
+            yield f"{path} has another answer than is shown"
+
+
 def complaints():
+    stored = dict(sheet_answers.records_of(sheet_answers.STORED.read_bytes()))
     for document in DOCUMENTS:
-        text = document.read_text()
-        where = document.relative_to(ROOT)
-        for name, file in CITED.findall(text):
-            if not (ROOT / file).is_file():
-                yield f"{where}: there is no {file}"
-            elif not declares((ROOT / file).read_text(), name):
-                yield f"{where}: {file} declares no {name}"
-        for path in NAMED.findall(text):
-            if path != "docs/src" and "NAME" not in path and not (ROOT / path).exists():
-                yield f"{where}: there is no {path}"
+        yield from (f"{document.relative_to(ROOT)}: {wrong}" for wrong in about(document, stored))
     listed = subprocess.run(["git", "ls-files", "-z"], cwd=ROOT, capture_output=True, check=True).stdout.decode()
     for name in filter(None, listed.split("\0")):
         if (ROOT / name).is_file() and MACHINE.search((ROOT / name).read_text(errors="replace")) and name != "tests/documents.py":
@@ -41,5 +63,5 @@ def complaints():
 
 
 found = list(complaints())
-print("\n".join(found) if found else f"{len(DOCUMENTS)} documents name only what is here")
+print("\n".join(found) if found else f"{len(DOCUMENTS)} documents name only what is here, and show runs as they are stored")
 sys.exit(1 if found else 0)
