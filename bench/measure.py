@@ -35,5 +35,5 @@ def instructions(words):
 def archive():
     """Our archive for the processor at hand. What is not proved yet is proved first."""
     made = rust_crate.TARGET / "libelchepur.a"
-    ran([ROOT / "tools" / "archive", made])
+    ran([ROOT / "tools" / "archive", made, "export"])
     return made

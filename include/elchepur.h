@@ -1,5 +1,5 @@
 /* Elchepur: the stiff solver RADAU (Radau IIA, order 5) and its routines, proved in Rattle, for C99 and C++.
- * Behind every function here stands a contract of crates/export that settles its answer and every slice for all inputs.
+ * Behind every function here stands a contract of crates/export, of the last one of crates/printout, that settles its answer and every slice for all inputs.
  *
  * Rules for all functions:
  * - A slice is a pointer and the count of what it points to. A pointer is never null, not even with a count of 0, and is aligned as its type asks.
@@ -273,6 +273,18 @@ enum {
 
 /* Writes entry k of the table. Refuses with 30. */
 uint64_t elchepur_coefficient(size_t k, double *value);
+
+/* ---- Sheets: what the program `decay` makes of a model sheet ---- */
+
+enum {
+    ELCHEPUR_PRINTED = 1024,      /* bytes of room for what is printed of a sheet */
+    ELCHEPUR_PRINTED_MOST = 735   /* no sheet has more printed of it */
+};
+
+/* Writes over the first bytes of `printed` what `decay` prints of a sheet, and answers how many bytes these are; no zero byte ends them, and the others
+ * stay as they were. A sheet is any bytes at all: what is wrong with them is printed, as in `refused 20 7`. It runs the model to its end, which may take as
+ * many steps as the sheet permits, up to 1,000,000. */
+uint64_t elchepur_forecast(const uint8_t *sheet, size_t sheet_count, uint8_t printed[ELCHEPUR_PRINTED]);
 
 #ifdef __cplusplus
 }

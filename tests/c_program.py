@@ -1,20 +1,21 @@
 #!/usr/bin/env python3
-"""The crate `export` as programs in C see it: its header, its archive, and runs through both.
+"""The crates `export` and `printout` as programs in C see them: their header, their archive, and runs through both.
 
-    tests/c_program.py check [FOLDER]  hold the header to the sources, and run the programs in C: on the archive, where `export` is proved and was
-                                       not edited since; else on its very sources, their contracts taken out, compiled by rustc
+    tests/c_program.py check [FOLDER]  hold the header to the sources, and run the programs in C: on the archive, where both are proved and were
+                                       not edited since; else on their very sources, the contracts taken out, compiled by rustc
     tests/c_program.py run [FOLDER]    the same on the archive; what is not proved yet is proved first
 
 Both end with status 1 where something differs. FOLDER holds the Rust's text; tests/rust_text.py says where it is looked for otherwise. What is
 missing (rt, rustc, a compiler of C or C++, nm, the Rust's text) is said plainly, and what needs it is passed over.
 
-The header: each function that crates/export marks `extern "C"` must be declared with the types that Rattle gives its parameters, and no other
+The header: each function that the two mark `extern "C"` must be declared with the types that Rattle gives its parameters, and no other
 function; each place in the table of coefficients must have the name that stands there. The archive must define the same functions and no others.
 
 The programs:
   - tests/c_calls.c calls each function with a few values whose answers document 01 gives;
   - tests/c_replay.c replays the stored runs of the Rust's own `solve` (crates/run_replay/stdin), every request and all 22 parts compared, hosts that
     make the Jacobian, masses, marks and modified points among them;
+  - tests/c_sheets.c hands every sheet of crates/sheet_replay/stdin over, those that are refused too, and prints what is printed of it;
   - tests/c_program.c is a host of its own: it runs every sheet of crates/sheet_replay/stdin, with the answers stored there, and once more with a Jacobian of
     the host's own, with the answers that the Rust gives then."""
 
@@ -23,6 +24,7 @@ import shutil
 import subprocess
 import sys
 
+import exported
 import port
 import rust_crate
 import rust_text
@@ -30,11 +32,10 @@ import sheet_answers
 
 ROOT = rust_text.ROOT
 HEADER = ROOT / "include" / "elchepur.h"
-SOURCES = ROOT / "crates" / "export" / "src"
 TARGET = ROOT / "target" / "c"
 ARCHIVE = TARGET / "libelchepur.a"
 STAMPS = ROOT / "target" / "stamp"  # where rt notes what it proved
-PROGRAMS = ("c_calls", "c_replay", "c_program")
+PROGRAMS = ("c_calls", "c_replay", "c_program", "c_sheets")
 # No product and sum may become one operation: the Rust's host has two.
 FLAGS = ["-std=c99", "-O2", "-ffp-contract=off", "-Wall", "-Wextra", "-pedantic", "-Werror"]
 
@@ -56,17 +57,10 @@ def said(words, **more):
 C_TYPES = {"f64": "double", "u64": "uint64_t", "usize": "size_t", "u8": "uint8_t"}
 
 
-def parameter_of(kind):
-    """A type of Rattle taken apart: how it is lent, whether it is a slice, what of, and an array's length."""
-    shape = re.fullmatch(r"(&mut |&|)(\[)?(\w+)(?:; (\d+))?\]?", kind)
-    insist(shape and shape.group(3) in C_TYPES, f"for the type {kind} C has none")
-    lent, opens, item, count = shape.groups()
-    return lent, bool(opens and not count), item, count
-
-
 def in_c(name, kind):
     """How C declares a parameter of Rattle: a slice is a pointer and a count."""
-    lent, is_slice, item, count = parameter_of(kind)
+    lent, is_slice, item, count = exported.parameter_of(kind)
+    insist(item in C_TYPES, f"for the type {kind} C has none")
     c_type = ("const " if lent == "&" else "") + C_TYPES[item]
     if not lent:
         return [f"{c_type} {name}"]
@@ -75,24 +69,16 @@ def in_c(name, kind):
     return [f"{c_type} *{name}"] + ([f"size_t {name}_count"] if is_slice else [])
 
 
-def exported():
-    """Of each function that is exported its file, its parameters as pairs, and its result."""
-    found = {}
-    for file in sorted(SOURCES.glob("*.rt")):
-        text = file.read_text()
-        marked = re.findall(r'#\[no_mangle\]\npub extern "C" fn (\w+)\(([^)]*)\)(?: -> (\w+))?\n', text)
-        insist(len(marked) == text.count('extern "C"') == text.count("#[no_mangle]"), f"{file.name} exports a function in a form that is not expected")
-        for name, parameters, result in marked:
-            pairs = [tuple(pair.strip().split(": ", 1)) for pair in re.split(r",(?![^\[]*\])", parameters) if pair.strip()]
-            found[name] = (file.stem, pairs, result)
-    return found
+def functions():
+    """Each function with its crate, its file, its parameters as pairs, and its result."""
+    return {name: (crate, *rest) for crate in exported.CRATES for name, rest in exported.exported(crate).items()}
 
 
 def wanted_declarations():
     """What the sources ask for: for each exported function its declaration in C."""
     return {
         name: f"{C_TYPES[result] if result else 'void'} {name}({', '.join(word for pair in pairs for word in in_c(*pair))})"
-        for name, (_, pairs, result) in exported().items()
+        for name, (_, _, pairs, result) in functions().items()
     }
 
 
@@ -123,7 +109,7 @@ def check_header():
     names = {f"ELCHEPUR_COEFFICIENT_{name.strip()}": str(place) for place, name in enumerate(entries) if name.strip()}
     places = {name: place for name, place in header_text()[1].items() if name.startswith("ELCHEPUR_COEFFICIENT_")}
     insist(names == places, "the header names the table of coefficients otherwise")
-    print(f"the header declares the {len(declared)} functions of crates/export, and {len(places)} coefficients by their places")
+    print(f"the header declares the {len(declared)} functions of the crates {' and '.join(exported.CRATES)}, and {len(places)} coefficients by their places")
 
 
 # --- The archive ---------------------------------------------------------------------------------
@@ -135,14 +121,14 @@ def leans_on(name):
     return line.group(1).split() if line else []
 
 
-def below(name):
-    """All crates that it leans on."""
-    found, left = set(), leans_on(name)
+def below():
+    """All crates that those lean on that offer functions to C."""
+    found, left = set(), [lower for name in exported.CRATES for lower in leans_on(name)]
     while left:
-        lower = left.pop()
-        if lower not in found:
-            found.add(lower)
-            left += leans_on(lower)
+        name = left.pop()
+        if name not in found:
+            found.add(name)
+            left += leans_on(name)
     return found
 
 
@@ -154,14 +140,14 @@ def is_later(made, name):
 
 def is_made():
     """Whether the archive was made of the proved crates as they stand."""
-    stamps = {name: STAMPS / name for name in below("export")}
-    if not is_later(ARCHIVE, "export") or not all(is_later(stamp, name) for name, stamp in stamps.items()):
+    stamps = {name: STAMPS / name for name in below()}
+    if not all(is_later(ARCHIVE, name) for name in exported.CRATES) or not all(is_later(stamp, name) for name, stamp in stamps.items()):
         return False
     return all(stamp.stat().st_mtime <= ARCHIVE.stat().st_mtime for stamp in stamps.values())
 
 
 def is_proved():
-    return is_made() or all(is_later(STAMPS / name, name) for name in ["export", *below("export")])
+    return is_made() or all(is_later(STAMPS / name, name) for name in [*exported.CRATES, *below()])
 
 
 def check_archive():
@@ -184,30 +170,25 @@ def proved_archive():
 # --- The sources, compiled by rustc --------------------------------------------------------------
 
 
-def shim(name, file, pairs, result):
-    """An exported function as rustc can offer it to C: rustc itself passes a slice otherwise than Rattle."""
+def shim(name, crate, file, pairs, result):
+    """A function as rustc can offer it to C: rustc itself passes a slice otherwise than Rattle."""
     words, values = [], []
     for parameter, kind in pairs:
-        lent, is_slice, item, _ = parameter_of(kind)
+        lent, is_slice, item, _ = exported.parameter_of(kind)
         pointer, make = ("*mut", "from_raw_parts_mut") if lent == "&mut " else ("*const", "from_raw_parts")
         words.append(f"{parameter}: {pointer} {item}, {parameter}_count: usize" if is_slice else f"{parameter}: {kind}")
         values.append(f"std::slice::{make}({parameter}, {parameter}_count)" if is_slice else parameter)
     answer = f" -> {result}" if result else ""
-    return f"#[no_mangle]\npub unsafe extern \"C\" fn {name}({', '.join(words)}){answer} {{ crate::{file}::{name}({', '.join(values)}) }}\n"
+    return f"#[no_mangle]\npub unsafe extern \"C\" fn {name}({', '.join(words)}){answer} {{ {crate}::{file}::{name}({', '.join(values)}) }}\n"
 
 
 def sources_compiled():
     """A library of the sources, overflow and bounds checked, and what else a program around it links."""
     libraries, _ = port.build()
-    folder = TARGET / "sources"
-    folder.mkdir(parents=True, exist_ok=True)
-    for file in SOURCES.glob("*.rt"):
-        text = port.stripped(file.read_text()).replace('#[no_mangle]\npub extern "C" fn', "pub fn")
-        (folder / f"{file.stem}.rs").write_text(f"#![allow(warnings)]\n{text}mod shims;\n" if file.stem == "lib" else text)
-    (folder / "shims.rs").write_text("".join(shim(name, *rest) for name, rest in exported().items()))
-    made = TARGET / "libsources.a"
-    run = ["rustc", "--edition", "2021", "-O", "-C", "debug-assertions=on", "--crate-type", "staticlib", "--crate-name", "export", folder / "lib.rs", "-o", made]
-    said(run + ["-L", libraries] + [word for name in leans_on("export") for word in ("--extern", f"{name}={libraries}/lib{name}.rlib")])
+    TARGET.mkdir(parents=True, exist_ok=True)
+    shims, made = TARGET / "shims.rs", TARGET / "libsources.a"
+    shims.write_text("".join(shim(name, *rest) for name, rest in functions().items()))
+    said(["rustc", "--edition", "2021", "-O", "-C", "debug-assertions=on", "--crate-type", "staticlib", shims, "-o", made, *port.linked(libraries, exported.CRATES)])
     return [made, "-lpthread", "-ldl", "-lm"]
 
 
@@ -245,16 +226,20 @@ def run_programs(folder):
     print(said([TARGET / "c_calls"]), end="")
     print(said([TARGET / "c_replay"], stdin=(ROOT / "crates" / "run_replay" / "stdin").open()), end="")
     records = sheet_answers.records_of(sheet_answers.STORED.read_bytes())
+    got = said([TARGET / "c_sheets"], stdin=sheet_answers.STORED.open("rb"))
+    wanted = "".join(answer for _, answer in records)
+    insist(got == wanted, f"the sheets, handed over: {first_other(wanted, got)}")
+    print(f"{len(records)} sheets, handed over as they are, have the stored answers")
     formed = [(data, answer) for data, answer in records if not answer.startswith(("refused 20", "refused 21"))]
     run_sheets([data for data, _ in formed], "".join(answer for _, answer in formed), "differences")
-    print(f"{len(formed)} sheets have the stored answers")
+    print(f"the {len(formed)} of them that are well formed have them through a host in C too")
     if not (folder and rust_crate.compiler()):
         print("so the runs with a Jacobian of the host's own are NOT compared")
         return
     sheets = [data for data, answer in formed if not answer.startswith("refused")]
     answers, _ = sheet_answers.answers_of_rust(folder, sheets, host=True)
     run_sheets(sheets, "".join(answer for _, answer in answers), "host")
-    print(f"{len(sheets)} of them have the Rust's answers with a Jacobian of the host's own")
+    print(f"the {len(sheets)} that run have the Rust's answers with a Jacobian of the host's own")
 
 
 def library(way):
@@ -263,7 +248,7 @@ def library(way):
         return None
     if way == "run" or is_proved():
         return proved_archive() if has("rt", "the archive is NOT built") else None
-    print("export is not proved here, or was edited since: the programs in C run on its sources, compiled by rustc; `tests/c_program.py run` proves it")
+    print("export or printout is not proved here, or was edited since: the programs in C run on their sources, compiled by rustc; `tests/c_program.py run` proves them")
     return sources_compiled() if has("rustc", "they are NOT run") else None
 
 

@@ -1,11 +1,12 @@
-"""The functions that crates/export marks `extern "C"`, as their sources declare them."""
+"""The functions that crates/export and crates/printout mark `extern "C"`, as their sources declare them."""
 
 import re
 import sys
 
 import rust_text
 
-SOURCES = rust_text.ROOT / "crates" / "export" / "src"
+# The crates that offer functions to C.
+CRATES = ("export", "printout")
 MARKED = re.compile(r'#\[no_mangle\]\npub extern "C" fn (\w+)\(([^)]*)\)(?: -> (\w+))?\n')
 TYPE = re.compile(r"(&mut |&|)(\[)?(\w+)(?:; (\d+))?\]?")
 
@@ -15,10 +16,10 @@ def insist(fact, words):
         sys.exit(f"exported: {words}")
 
 
-def exported():
-    """Of each function its file, its parameters as pairs, and its result."""
+def exported(crate="export"):
+    """Of each function of a crate its file, its parameters as pairs, and its result."""
     found = {}
-    for file in sorted(SOURCES.glob("*.rt")):
+    for file in sorted((rust_text.ROOT / "crates" / crate / "src").glob("*.rt")):
         text = file.read_text()
         marked = MARKED.findall(text)
         insist(len(marked) == text.count('extern "C"') == text.count("#[no_mangle]"), f"{file.name} exports a function in a form that is not expected")

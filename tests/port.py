@@ -23,13 +23,20 @@ CRATES = {
     "blocks": ["words", "scalar", "matrix", "state", "opening"],
     "radau": ["words", "scalar", "matrix", "state", "opening", "blocks"],
     "export": ["words", "bits", "scalar", "matrix", "dense", "state", "opening", "blocks", "radau"],
+    "model": ["words", "state"],
+    "sheet": ["words", "state"],
+    "answer": ["words", "bits", "state", "sheet"],
+    "budget": ["words", "scalar", "matrix", "state", "opening", "blocks", "model", "radau"],
+    "forecast": ["words", "bits", "state", "sheet", "answer", "budget"],
+    "printout": ["words", "sheet", "answer", "forecast"],
 }
 
 
 def stripped(text):
-    """Without `ghost use`, `requires` and `ensures`, each of which stands in a line of its own; types get what Rattle gives them unasked."""
+    """Without `ghost use`, `requires` and `ensures`, each of which stands in a line of its own, and without the form for C, in which rustc passes slices
+    otherwise than Rattle; types get what Rattle gives them unasked."""
     lines = []
-    for line in text.split("\n"):
+    for line in text.replace('#[no_mangle]\npub extern "C" fn', "pub fn").split("\n"):
         word = line.strip().split(" ")[0]
         if word in ("ghost", "requires", "ensures"):
             if not line.rstrip().endswith((";", "}")):
