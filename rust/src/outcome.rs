@@ -3,6 +3,22 @@
 /// A run that reached its end: the last attempt was aimed at xend and accepted.
 ///
 /// Only [`solve`](crate::methods::RADAU::solve) makes one, and only of such a run, so whoever holds one holds the amounts at the end.
+/// Nobody else can:
+///
+/// ```compile_fail
+/// # use elchepur::prelude::*;
+/// let invented = IntegrationResult { x: 730.0, y: vec![9.5], h: 1.0, evals: Evals::default(), steps: Steps::default() };
+/// ```
+///
+/// Its parts can be taken from it:
+///
+/// ```
+/// # use elchepur::prelude::*;
+/// fn left(run: IntegrationResult) -> f64 {
+///     let IntegrationResult { x: _, y, h: _, evals: _, steps: _, .. } = run;
+///     y[0]
+/// }
+/// ```
 #[derive(Clone, Debug, PartialEq)]
 #[non_exhaustive]
 pub struct IntegrationResult {

@@ -22,6 +22,11 @@ pub enum Rule {
 ///
 /// let solver = RADAU::builder().max_steps(500).max_step(0.5).build();
 /// assert_eq!(solver, RADAU { max_steps: 500, max_step: Some(0.5), ..RADAU::default() });
+///
+/// // The defaults are the Rust's.
+/// let RADAU { max_steps, uround, safety_factor, scale_min, scale_max, newton_maxiter, .. } = RADAU::default();
+/// assert_eq!((max_steps, uround, newton_maxiter), (100_000, 2.3e-16, 7));
+/// assert_eq!((safety_factor, scale_min, scale_max), (0.9, 0.2, 8.0));
 /// ```
 #[derive(Clone, Debug, PartialEq)]
 pub struct RADAU {

@@ -6,7 +6,7 @@ mod shared;
 
 use elchepur::prelude::*;
 use shared::{bits, file};
-use std::cell::RefCell;
+use std::cell::{Cell, RefCell};
 
 // The bits of a run's choices.
 const MAX_STEP: u64 = 1;
@@ -65,14 +65,12 @@ impl Stored<'_> {
         Request { kind, flag: head >> 4 & 15, reply, at, told }
     }
 
-    fn run(&mut self) -> Run {
-        let n = self.word() as usize;
-        let (x0, xend, choices) = (self.float(), self.float(), self.word());
+    /// The settings, and the scalar tolerances behind them; how many requests there are comes last.
+    fn settings(&mut self, choices: u64) -> (RADAU, (f64, f64), u64) {
         let (max_steps, newton_maxiter) = (self.word() as usize, self.word() as usize);
         let floats = self.floats(8);
-        let (rtol, atol) = (self.float(), self.float());
+        let tolerances = (self.float(), self.float());
         let counts = [self.word(), self.word(), self.word()];
-        let requests = self.word();
         let is = |choice: u64| choices & choice != 0;
         let float = |choice: u64, at: usize| is(choice).then_some(floats[at]);
         let count = |choice: u64, at: usize| is(choice).then_some(counts[at] as usize);
@@ -95,19 +93,28 @@ impl Stored<'_> {
             dense_output: is(DENSE_OUTPUT),
             rule: if is(BOOK) { Rule::Book } else { Rule::Rust },
         };
+        (settings, tolerances, self.word())
+    }
+
+    fn run(&mut self) -> Run {
+        let n = self.word() as usize;
+        let (ends, choices) = ((self.float(), self.float()), self.word());
+        let (settings, (rtol, atol), requests) = self.settings(choices);
+        let is = |choice: u64| choices & choice != 0;
         let y = self.floats(n);
         let mass = self.floats(if is(FULL) { n * n } else { 0 });
-        let lists = if is(LISTS) { Some((self.floats(n), self.floats(n))) } else { None };
-        let tolerances = lists.map_or((rtol.into(), atol.into()), |(rtol, atol)| (rtol.into(), atol.into()));
+        let lists = is(LISTS).then(|| (self.floats(n).into(), self.floats(n).into()));
+        let tolerances = lists.unwrap_or((rtol.into(), atol.into()));
         let requests = (0..requests).map(|_| self.request(n)).collect::<Vec<_>>();
         Run {
             settings,
-            ends: (x0, xend),
+            ends,
             y,
             mass,
             tolerances,
             of_the_system: is(OF_THE_SYSTEM),
             requests: RefCell::new(requests.into_iter()),
+            step: Cell::new(None),
         }
     }
 }
@@ -129,6 +136,8 @@ struct Run {
     tolerances: (Tolerance, Tolerance),
     of_the_system: bool,
     requests: RefCell<std::vec::IntoIter<Request>>,
+    // The step of the last report's interpolant.
+    step: Cell<Option<f64>>,
 }
 
 impl Run {
@@ -186,6 +195,7 @@ impl SolOut for Reports<'_> {
     fn solout(&mut self, xold: f64, x: &mut f64, y: &mut [f64], interpolant: Option<&StepInterpolant<'_>>) -> ControlFlag {
         let Request { flag, reply, told, .. } = self.0.next(REPORT, &[xold, *x]);
         assert_eq!(interpolant.is_some(), flag == 1, "whether there is an interpolant");
+        self.0.step.set(interpolant.map(|step| step.step_params().1));
         match reply {
             CONTINUE => ControlFlag::Continue,
             INTERRUPT => ControlFlag::Interrupt,
@@ -216,16 +226,22 @@ fn ended(answer: Result<IntegrationResult, Error>) -> (u64, Vec<u64>) {
 fn every_run_makes_the_rusts_calls_and_ends_as_it_did() {
     let text = file("crates/run_replay/stdin");
     let mut stored = Stored(text.split_whitespace().peekable());
-    let (mut runs, mut statuses) = (0, [0; 6]);
+    let (mut runs, mut statuses, mut steps) = (0, [0; 6], 0);
     while stored.0.peek().is_some() {
         let run = stored.run();
         let (status, words) = ended(run.solve());
         let last = run.next(ENDED, &[]);
         let wanted: Vec<u64> = last.told.iter().map(|word| word.to_bits()).collect();
+        // A run that is interrupted still holds the step that its last report tells of.
+        if let Some(step) = run.step.get().filter(|_| status == 1) {
+            assert_eq!(bits(step), wanted[0], "the step of run {runs}");
+            steps += 1;
+        }
         assert_eq!((status, words), (last.flag, wanted), "run {runs}");
         runs += 1;
         statuses[status as usize] += 1;
     }
     assert_eq!(runs, 361);
+    assert!(steps > 0, "no run is interrupted at a step");
     assert!([0, 1, 2, 3, 5].iter().all(|status| statuses[*status] > 0), "{statuses:?}");
 }
