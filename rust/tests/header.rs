@@ -105,6 +105,28 @@ fn every_declaration_is_the_headers() {
     }
 }
 
+/// The parts that a declaration takes, as a call is to hand them over: each pointer with the length of its own part.
+fn parts(declaration: &str) -> Vec<String> {
+    let parameters = declaration.split(['(', ')']).nth(1).expect("parameters").split(", ");
+    let pointers = parameters.filter_map(|parameter| parameter.split_once(": *"));
+    let lent = |(name, kind): (&str, &str)| match kind.starts_with("mut") {
+        true => [format!("m.{name}.as_mut_ptr()"), format!("m.{name}.len()")],
+        false => [format!("m.{name}.as_ptr()"), format!("m.{name}.len()")],
+    };
+    pointers.flat_map(lent).collect()
+}
+
+#[test]
+fn every_part_is_handed_over_with_its_own_length() {
+    let (text, declared) = (bare(&file("rust/src/c.rs")), declared());
+    for name in ["elchepur_open", "elchepur_advance"] {
+        let call = between(&text, "unsafe {", "};").find(|block| block.contains(name)).expect("a call");
+        let handed: Vec<&str> = call.split(',').map(str::trim).filter(|word| word.starts_with("m.")).collect();
+        assert_eq!(handed.len(), 2 * 22);
+        assert_eq!(handed, parts(&declared[name]), "{name}");
+    }
+}
+
 #[test]
 fn nothing_else_is_foreign() {
     for entry in std::fs::read_dir(concat!(env!("CARGO_MANIFEST_DIR"), "/src")).expect("the sources") {

@@ -114,7 +114,7 @@ impl Stored<'_> {
             tolerances,
             of_the_system: is(OF_THE_SYSTEM),
             requests: RefCell::new(requests.into_iter()),
-            step: Cell::new(None),
+            shortened: Cell::new(0),
         }
     }
 }
@@ -136,8 +136,8 @@ struct Run {
     tolerances: (Tolerance, Tolerance),
     of_the_system: bool,
     requests: RefCell<std::vec::IntoIter<Request>>,
-    // The step of the last report's interpolant.
-    step: Cell<Option<f64>>,
+    // The reports whose step was shortened after its end was fixed.
+    shortened: Cell<usize>,
 }
 
 impl Run {
@@ -195,7 +195,13 @@ impl SolOut for Reports<'_> {
     fn solout(&mut self, xold: f64, x: &mut f64, y: &mut [f64], interpolant: Option<&StepInterpolant<'_>>) -> ControlFlag {
         let Request { flag, reply, told, .. } = self.0.next(REPORT, &[xold, *x]);
         assert_eq!(interpolant.is_some(), flag == 1, "whether there is an interpolant");
-        self.0.step.set(interpolant.map(|step| step.step_params().1));
+        if let Some((from, h)) = interpolant.map(|step| step.step_params()) {
+            assert_eq!(bits(from), bits(xold));
+            // Of a slow attempt that was accepted all the same the Rust has shortened the step, and left its end.
+            let is_short = h.abs() < 0.99 * (*x - xold).abs();
+            assert!(is_short || bits(from + h) == bits(*x), "the step by {h} from {xold} to {x}");
+            self.0.shortened.set(self.0.shortened.get() + usize::from(is_short));
+        }
         match reply {
             CONTINUE => ControlFlag::Continue,
             INTERRUPT => ControlFlag::Interrupt,
@@ -226,22 +232,18 @@ fn ended(answer: Result<IntegrationResult, Error>) -> (u64, Vec<u64>) {
 fn every_run_makes_the_rusts_calls_and_ends_as_it_did() {
     let text = file("crates/run_replay/stdin");
     let mut stored = Stored(text.split_whitespace().peekable());
-    let (mut runs, mut statuses, mut steps) = (0, [0; 6], 0);
+    let (mut runs, mut statuses, mut shortened) = (0, [0; 6], 0);
     while stored.0.peek().is_some() {
         let run = stored.run();
         let (status, words) = ended(run.solve());
         let last = run.next(ENDED, &[]);
         let wanted: Vec<u64> = last.told.iter().map(|word| word.to_bits()).collect();
-        // A run that is interrupted still holds the step that its last report tells of.
-        if let Some(step) = run.step.get().filter(|_| status == 1) {
-            assert_eq!(bits(step), wanted[0], "the step of run {runs}");
-            steps += 1;
-        }
         assert_eq!((status, words), (last.flag, wanted), "run {runs}");
         runs += 1;
         statuses[status as usize] += 1;
+        shortened += run.shortened.get();
     }
     assert_eq!(runs, 361);
-    assert!(steps > 0, "no run is interrupted at a step");
+    assert!(shortened > 0, "no step was shortened");
     assert!([0, 1, 2, 3, 5].iter().all(|status| statuses[*status] > 0), "{statuses:?}");
 }
