@@ -1,6 +1,6 @@
 // How much nitric oxide a cylinder holds on the day of its label. README.md shows how this program was moved from ivp.
 
-use elchepur::{dense::StepInterpolant, error::Error, ivp::FirstOrderSystem, matrix::MatrixStorage, methods::RADAU, solout::*};
+use elchepur::{dense::StepInterpolant, ivp::FirstOrderSystem, matrix::MatrixStorage, methods::RADAU, solout::*};
 
 struct Cylinder;
 
@@ -36,7 +36,6 @@ fn main() {
     let answer = solver.solve(&Cylinder, 0.0, &[10.0, 0.25, 0.0, 0.0], 730.0, 1e-6.into(), 1e-10.into(), Some(&mut label));
     match answer {
         Ok(run) => println!("{:.3} left, {} steps", label.left, run.steps.accepted),
-        Err(Error::BrokenOff(broken)) => println!("no forecast: {broken}"),
-        Err(error) => println!("not run: {error}"),
+        Err(error) => println!("no forecast: {error}"),
     }
 }

@@ -4,8 +4,8 @@ use crate::c;
 
 /// The step that a report tells of, at any point of it.
 ///
-/// Under the Rust rule an attempt may have been shortened after its end was fixed: then [`bounds`](StepInterpolant::bounds) is not the way from the report's
-/// old x to the new. It is so in the Rust.
+/// Under [`Rule::Rust`](crate::methods::Rule::Rust) an attempt may have been shortened after its end was fixed: then [`bounds`](StepInterpolant::bounds) is not the way from the report's
+/// old x to the new. It is so in ivp.
 #[derive(Clone, Copy, Debug)]
 pub struct StepInterpolant<'a> {
     cont: &'a [f64],
@@ -22,7 +22,7 @@ impl<'a> StepInterpolant<'a> {
     /// followed further.
     ///
     /// # Panics
-    /// Where `yi` is shorter than y, as in the Rust; nothing is written then.
+    /// Where `yi` is shorter than y, as in ivp; nothing is written then.
     pub fn interpolate(&self, xi: f64, yi: &mut [f64]) {
         interpolate(xi, yi, self.cont, self.xold, self.h);
     }

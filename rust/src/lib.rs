@@ -28,8 +28,8 @@
 //! }
 //! ```
 //!
-//! The archive behind it is proved to do what the Rust does, bit for bit, with the Rust's power calls directed to routines that are the same on every machine.
-//! This crate around it is not proved; its tests hold it to answers of the Rust.
+//! The archive behind it is proved to do what ivp does, bit for bit, with ivp's power calls directed to routines that are the same on every machine.
+//! This crate around it is not proved; its tests hold it to answers of ivp.
 #![deny(unsafe_code, missing_docs)]
 
 #[allow(unsafe_code)]
@@ -48,12 +48,12 @@ pub mod status;
 mod system;
 mod tolerance;
 
-/// The system of equations, where the Rust has it.
+/// The system of equations, where ivp has it.
 pub mod ivp {
     pub use crate::system::FirstOrderSystem;
 }
 
-/// The solver and what goes with it, where the Rust has them.
+/// The solver and what goes with it, where ivp has them.
 pub mod methods {
     pub use crate::outcome::{Evals, IntegrationResult, Steps};
     pub use crate::settings::{RADAUBuilder, Rule, RADAU};

@@ -2,7 +2,7 @@
 
 use std::ops::{Index, IndexMut};
 
-/// How a matrix is held. The Rust's `Banded` is not here.
+/// How a matrix is held. ivp's `Banded` is not here.
 #[derive(Clone, Copy, Debug, PartialEq, Eq)]
 pub enum MatrixStorage {
     /// Ones on the diagonal and zeros beside it; it can't be written.
@@ -50,7 +50,7 @@ impl Matrix {
     /// These entries, row by row.
     ///
     /// # Panics
-    /// Where there are not as many as rows times columns, as in the Rust.
+    /// Where there are not as many as rows times columns, as in ivp.
     pub fn from_vec(rows: usize, columns: usize, entries: Vec<f64>) -> Matrix {
         assert_eq!(entries.len(), rows * columns, "Incompatible data length");
         Matrix::new(rows, columns, MatrixStorage::Full, entries)

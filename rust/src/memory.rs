@@ -1,4 +1,4 @@
-//! The 22 parts of memory that a run is lent, under the Rust's names, and where a derivative is asked of which.
+//! The 22 parts of memory that a run is lent, under ivp's names, and where a derivative is asked of which.
 
 use crate::numbers::*;
 

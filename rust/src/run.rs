@@ -1,4 +1,4 @@
-//! A run from its opening to its end: each request of the solver becomes a call of the system or of the `SolOut`, in the Rust's order.
+//! A run from its opening to its end: each request of the solver becomes a call of the system or of the `SolOut`, in ivp's order.
 
 use crate::c::{self, Opening};
 use crate::dense::StepInterpolant;
@@ -20,7 +20,7 @@ const BY_DIFFERENCES: u64 = 1;
 impl RADAU {
     /// Solves a system from x0 and y0 to xend. A result is a run that succeeded, and nothing else is: how else it can end stands in [`Error`].
     ///
-    /// The system and the `SolOut` are called in the Rust's order and with its bits, but for `mass`, which is asked for before the run.
+    /// The system and the `SolOut` are called in ivp's order and with its bits, but for `mass`, which is asked for before the run.
     ///
     /// # Panics
     /// Where the system or the `SolOut` does; where `jac` leaves the Jacobian to the solver after it has made one.

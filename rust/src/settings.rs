@@ -8,9 +8,9 @@ use crate::numbers::*;
 /// Which of the two rules a run goes by.
 #[derive(Clone, Copy, Debug, PartialEq, Eq)]
 pub enum Rule {
-    /// As the Rust does it, bit for bit.
+    /// As ivp does it, bit for bit.
     Rust,
-    /// As the published RADAU5 does it in two places where the Rust departs from it: a single tolerance is converted once, and a slow Newton iteration
+    /// As the published RADAU5 does it in two places where ivp departs from it: a single tolerance is converted once, and a slow Newton iteration
     /// ends the attempt.
     Book,
 }
@@ -23,7 +23,7 @@ pub enum Rule {
 /// let solver = RADAU::builder().max_steps(500).max_step(0.5).build();
 /// assert_eq!(solver, RADAU { max_steps: 500, max_step: Some(0.5), ..RADAU::default() });
 ///
-/// // The defaults are the Rust's.
+/// // The defaults are ivp's.
 /// let RADAU { max_steps, uround, safety_factor, scale_min, scale_max, newton_maxiter, .. } = RADAU::default();
 /// assert_eq!((max_steps, uround, newton_maxiter), (100_000, 2.3e-16, 7));
 /// assert_eq!((safety_factor, scale_min, scale_max), (0.9, 0.2, 8.0));
@@ -62,7 +62,7 @@ pub struct RADAU {
     pub first_step: Option<f64>,
     /// Whether every report but the first has an interpolant.
     pub dense_output: bool,
-    /// The rule, which the Rust doesn't have.
+    /// The rule, which ivp doesn't have.
     pub rule: Rule,
 }
 
@@ -103,7 +103,7 @@ impl RADAU {
     /// [`StepInterpolant::interpolate`](crate::dense::StepInterpolant::interpolate).
     ///
     /// # Panics
-    /// Where `yi` is shorter than a quarter of `cont`, as in the Rust.
+    /// Where `yi` is shorter than a quarter of `cont`, as in ivp.
     pub fn interpolate(xi: f64, yi: &mut [f64], cont: &[f64], xold: f64, h: f64) {
         dense::interpolate(xi, yi, cont, xold, h);
     }

@@ -50,8 +50,8 @@ pub trait SolOut {
     /// Told the x before the step and the x and y after it; at the first report both x are the start. `interpolant` is never there at the first report, and
     /// later where `dense_output` is on or an [`XOut`](ControlFlag::XOut) is due.
     ///
-    /// x and y may be written together with [`ControlFlag::ModifiedSolution`]. Written otherwise they would not reach the run, which the Rust lets pass:
-    /// here the call of `solve` then ends with [`Error::Altered`](crate::error::Error::Altered).
+    /// x and y may be written together with [`ControlFlag::ModifiedSolution`]. ivp takes up what is written with any flag; this
+    /// solver can't, and the call of `solve` then ends with [`Error::Altered`](crate::error::Error::Altered).
     fn solout(&mut self, xold: f64, x: &mut f64, y: &mut [f64], interpolant: Option<&StepInterpolant<'_>>) -> ControlFlag;
 }
 

@@ -37,14 +37,14 @@ pub trait FirstOrderSystem {
 
     /// Writes the Jacobian of `derivative` at x and y into `j`, which has zeros the first time, and later what was written before.
     ///
-    /// A system that has none leaves it to the solver, which then makes it by differences of `derivative`, in the Rust's order and with its bits.
+    /// A system that has none leaves it to the solver, which then makes it by differences of `derivative`, in ivp's order and with its bits.
     fn jac(&self, _x: f64, _y: &[f64], j: &mut Matrix) {
         j.leave_to_solver();
     }
 
     /// Writes the mass into `m`. It is asked for once, before the run.
     ///
-    /// As in the Rust nothing is written by default, so that the mass is zero unless the setting `mass_storage` is
+    /// As in ivp nothing is written by default, so that the mass is zero unless the setting `mass_storage` is
     /// [`MatrixStorage::Identity`](crate::matrix::MatrixStorage::Identity).
     fn mass(&self, _m: &mut Matrix) {}
 }
