@@ -112,6 +112,23 @@ of-stage stage.Report = (refl, refl)
 of-stage stage.DerivativeAgain = (refl, refl)
 of-stage (stage.Ended s) = (refl, refl)
 
+-- a run goes on, or it has ended
+pub by-stage : (X : Stage → Type 0) → ((s : Stage) → askingAt s .ended ≡ false → X s) → ((t : Status) → X (stage.Ended t)) → (s : Stage) → X s
+unfolding askingAt
+by-stage X on end stage.FirstDerivative = on stage.FirstDerivative refl
+by-stage X on end stage.FirstReport = on stage.FirstReport refl
+by-stage X on end stage.FirstDerivativeAgain = on stage.FirstDerivativeAgain refl
+by-stage X on end stage.Jacobian = on stage.Jacobian refl
+by-stage X on end (stage.Column c) = on (stage.Column c) refl
+by-stage X on end stage.Newton1 = on stage.Newton1 refl
+by-stage X on end stage.Newton2 = on stage.Newton2 refl
+by-stage X on end stage.Newton3 = on stage.Newton3 refl
+by-stage X on end stage.Refinement = on stage.Refinement refl
+by-stage X on end stage.Accepted = on stage.Accepted refl
+by-stage X on end stage.Report = on stage.Report refl
+by-stage X on end stage.DerivativeAgain = on stage.DerivativeAgain refl
+by-stage X on end (stage.Ended t) = end t
+
 -- a reply of the kind asked for
 of-reply : (q : Request) (a : Reply) → ofKind q a ≡ true → (isEnd q ≡ false) × (answersReport a ≡ isReport q)
 unfolding ofKind isEnd isReport answersReport
@@ -153,19 +170,8 @@ ended-request (request.Ended s) t e = ap request.Ended (ap statusIn e)
 
 ended-stage : (s : Stage) (t : Status) → ended t ≡ kindAt s → s ≡ stage.Ended t
 unfolding kindAt ends statusIn
-ended-stage stage.FirstDerivative t e = absurd (true≢false (ap ends e))
-ended-stage stage.FirstReport t e = absurd (true≢false (ap ends e))
-ended-stage stage.FirstDerivativeAgain t e = absurd (true≢false (ap ends e))
-ended-stage stage.Jacobian t e = absurd (true≢false (ap ends e))
-ended-stage (stage.Column c) t e = absurd (true≢false (ap ends e))
-ended-stage stage.Newton1 t e = absurd (true≢false (ap ends e))
-ended-stage stage.Newton2 t e = absurd (true≢false (ap ends e))
-ended-stage stage.Newton3 t e = absurd (true≢false (ap ends e))
-ended-stage stage.Refinement t e = absurd (true≢false (ap ends e))
-ended-stage stage.Accepted t e = absurd (true≢false (ap ends e))
-ended-stage stage.Report t e = absurd (true≢false (ap ends e))
-ended-stage stage.DerivativeAgain t e = absurd (true≢false (ap ends e))
-ended-stage (stage.Ended s) t e = ap stage.Ended (sym (ap statusIn e))
+ended-stage s t =
+    by-stage (λ (s : Stage). ended t ≡ kindAt s → s ≡ stage.Ended t) (λ s on e. absurd (true≢false (ap ends e ∙ of-stage s .1 ∙ on))) (λ u e. ap stage.Ended (sym (ap statusIn e))) s
 
 pub matches-ended : {t : Status} {q : Request} {p : Place} → Matches (stage.Ended t) q p → q ≡ request.Ended t
 unfolding kindAt

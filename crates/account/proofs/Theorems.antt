@@ -45,7 +45,7 @@ use Rattle.history.specs.History.{nextPoint}
 use Rattle.account.specs.Journal.{Fair, Turn, Journal, next, FairFrom, after, Starts, JournalOf}
 use Rattle.account.specs.Reading.{one, many, Question, questions, askedIn, isReport, firstStage, says, sameStatus, standingAt, interruptedIn, countsOf, happened, Means, width, mostRequests}
 use Rattle.account.specs.Account.{Strategy, played, FairHost, Answered, EndsWithin, Over, Limits, Ends, Lands}
-use Rattle.account.proofs.Matches.{Matches, matches-report, matches-end, matches-ended, ended-matches}
+use Rattle.account.proofs.Matches.{Matches, by-stage, matches-report, matches-end, matches-ended, ended-matches}
 use Rattle.account.proofs.Flow.{owed, endsWith}
 use Rattle.account.proofs.Stands.{Stands, marksOf, endMarks}
 use Rattle.account.proofs.Bounds.{WithinAt, Ceilings, bounds-fit, bounds-ended}
@@ -142,38 +142,19 @@ module _ (o : Opening) (j : Journal) (w : JournalOf o j) where
 
 -- ---- 3. limits
 
--- a run goes on, or it has ended
-by-stage : (X : Stage → Type 0) → ((s : Stage) → askingAt s .ended ≡ false → X s) → ((t : Status) → X (stage.Ended t)) → (s : Stage) → X s
-unfolding askingAt
-by-stage X on end stage.FirstDerivative = on stage.FirstDerivative refl
-by-stage X on end stage.FirstReport = on stage.FirstReport refl
-by-stage X on end stage.FirstDerivativeAgain = on stage.FirstDerivativeAgain refl
-by-stage X on end stage.Jacobian = on stage.Jacobian refl
-by-stage X on end (stage.Column c) = on (stage.Column c) refl
-by-stage X on end stage.Newton1 = on stage.Newton1 refl
-by-stage X on end stage.Newton2 = on stage.Newton2 refl
-by-stage X on end stage.Newton3 = on stage.Newton3 refl
-by-stage X on end stage.Refinement = on stage.Refinement refl
-by-stage X on end stage.Accepted = on stage.Accepted refl
-by-stage X on end stage.Report = on stage.Report refl
-by-stage X on end stage.DerivativeAgain = on stage.DerivativeAgain refl
-by-stage X on end (stage.Ended t) = end t
-
 module _ (r : Run) (q : Request) (p : Place) where
+  -- under the ceilings it is the attempts that decide
+  limits-by : Ceilings r
+      → r .counts .total ≤ r .settings .«max_steps» + 1
+      → (q ≡ request.Ended status.NeedLargerNMax) ↔ (r .counts .total ≡ r .settings .«max_steps» + 1)
+      → Limits (r .settings) (r .counts) q
+  limits-by c total limit = record { ode = c .ode; jac = c .jac; lu = c .lu; total = total; accepted = c .accepted; rejected = c .rejected; limit = limit; book = c .judged }
+
   running-limits : (s : Stage) → askingAt s .ended ≡ false → WithinAt s r → Matches s q p → Limits (r .settings) (r .counts) q
   unfolding isEnd
   running-limits s e w m =
       let f = bounds-fit s r e w in
-      record {
-        ode = f .ceilings .ode;
-        jac = f .ceilings .jac;
-        lu = f .ceilings .lu;
-        total = omega (arith, f .total);
-        accepted = f .ceilings .accepted;
-        rejected = f .ceilings .rejected;
-        limit = (λ is. absurd (true≢false (not-ended is)), λ over. absurd (omega (arith, f .total, over)));
-        book = f .ceilings .judged;
-      }
+      limits-by (f .ceilings) (omega (arith, f .total)) (λ is. absurd (true≢false (not-ended is)), λ over. absurd (omega (arith, f .total, over)))
     where
       not-ended : q ≡ request.Ended status.NeedLargerNMax → true ≡ false
       not-ended is = sym (ap isEnd is) ∙ matches-end m ∙ e
@@ -181,16 +162,8 @@ module _ (r : Run) (q : Request) (p : Place) where
   ended-limits : (t : Status) → WithinAt (stage.Ended t) r → Matches (stage.Ended t) q p → Limits (r .settings) (r .counts) q
   ended-limits t w m =
       let f = bounds-ended t r w in
-      record {
-        ode = f .ceilings .ode;
-        jac = f .ceilings .jac;
-        lu = f .ceilings .lu;
-        total = f .total;
-        accepted = f .ceilings .accepted;
-        rejected = f .ceilings .rejected;
-        limit = (λ is. f .limited (let same : request.Ended t ≡ request.Ended status.NeedLargerNMax = sym (matches-ended m) ∙ is in cc), λ over. matches-ended m ∙ ap request.Ended (f .only over));
-        book = f .ceilings .judged;
-      }
+      limits-by (f .ceilings) (f .total)
+      (λ is. f .limited (let same : request.Ended t ≡ request.Ended status.NeedLargerNMax = sym (matches-ended m) ∙ is in cc), λ over. matches-ended m ∙ ap request.Ended (f .only over))
 
 sound-limits : (o : Opening) (j : Journal) → Sound o j → Limits (o .settings) (j .point .run .counts) (j .point .request)
 sound-limits o j s =
@@ -214,22 +187,14 @@ module _ (s : Status) (ts : List Turn) where
     small : happened (λ (e : Means). e .small) ts ≡ one (sameStatus status.StepSizeTooSmall s)
     singular : ltb 5 (standingAt ts .failures) ≡ endMarks s .singular
 
--- the five marks of a status, one by one
-well-is : (s : Status) → endMarks s .well ≡ sameStatus s status.Success
+-- the marks that stand for a status
+marks-are : (s : Status) → (endMarks s .well ≡ sameStatus s status.Success) × (endMarks s .singular ≡ sameStatus s status.SingularMatrix)
 unfolding endMarks
-well-is status.Success = refl
-well-is status.UserInterrupt = refl
-well-is status.NeedLargerNMax = refl
-well-is status.StepSizeTooSmall = refl
-well-is status.SingularMatrix = refl
-
-singular-is : (s : Status) → endMarks s .singular ≡ sameStatus s status.SingularMatrix
-unfolding endMarks
-singular-is status.Success = refl
-singular-is status.UserInterrupt = refl
-singular-is status.NeedLargerNMax = refl
-singular-is status.StepSizeTooSmall = refl
-singular-is status.SingularMatrix = refl
+marks-are status.Success = (refl, refl)
+marks-are status.UserInterrupt = (refl, refl)
+marks-are status.NeedLargerNMax = (refl, refl)
+marks-are status.StepSizeTooSmall = (refl, refl)
+marks-are status.SingularMatrix = (refl, refl)
 
 same-either : (a b : ℕ) (c : Bool) → eqb a b ≡ c → c ≡ eqb b a
 same-either a b true e = sym (eq-eqb b a (sym (eqb-true a b e)))
@@ -245,11 +210,11 @@ counted-once false = refl
 
 says-so : (s t : Status) (ts : List Turn) → Told s ts → says t ts ≡ sameStatus s t
 unfolding says
-says-so s status.Success ts e = e .landed ∙ well-is s
+says-so s status.Success ts e = e .landed ∙ marks-are s .0
 says-so s status.UserInterrupt ts e = e .interrupt ∙ same-back status.UserInterrupt s
 says-so s status.NeedLargerNMax ts e = ap (ltb 0) (e .over) ∙ counted-once (sameStatus status.NeedLargerNMax s) ∙ same-back status.NeedLargerNMax s
 says-so s status.StepSizeTooSmall ts e = ap (ltb 0) (e .small) ∙ counted-once (sameStatus status.StepSizeTooSmall s) ∙ same-back status.StepSizeTooSmall s
-says-so s status.SingularMatrix ts e = e .singular ∙ singular-is s
+says-so s status.SingularMatrix ts e = e .singular ∙ marks-are s .1
 
 none-again : (s : Status) (last : Bool) → (endMarks s .again && last || endMarks s .well) ≡ endMarks s .well
 unfolding endMarks

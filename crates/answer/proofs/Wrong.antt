@@ -9,6 +9,7 @@ use Rattle.words.specs.Loop.{pick}
 use Rattle.sheet.specs.Digits.{byteOf, power, digits, hexOf}
 use Rattle.sheet.specs.Reader.{over}
 use Rattle.answer.specs.declared.forecast.Forecast.{Forecast}
+use Rattle.answer.specs.declared.forecast.Reached.{Reached}
 use Rattle.answer.specs.declared.forecast.Ending.{Ending}
 use Rattle.answer.specs.declared.forecast.Ending.the-variants as ending
 use Rattle.answer.specs.Printed.{text, widthIn, floatOf, statusLine, amountsText, reachedText, endingText, printedOf}
@@ -32,16 +33,20 @@ shut-out printer f i wrong right p q differ meets = differ (sym p ∙ ap (λ l. 
 abbrev by : (Ending → List Float → List ℕ) → Printer
 by bytes f = bytes (f .ending) (f .amounts)
 
+-- and is wrong only where a run ended
+abbrev atEnd : (Reached → List Float → List ℕ) → Ending → List Float → List ℕ
+atEnd wrong (ending.Ended e) amounts = wrong e amounts
+atEnd wrong (ending.Refused x) amounts = endingText (ending.Refused x) amounts
+atEnd wrong (ending.Malformed k) amounts = endingText (ending.Malformed k) amounts
+atEnd wrong ending.TooLong amounts = endingText ending.TooLong amounts
+
 -- ---- a NaN with the sign that a machine's own NaN has: fff8000000000000
 
 abbrev signed : Float → List ℕ
 signed x = pick (ne x x) (hexOf 0xfff8_0000_0000_0000) (floatOf x)
 
 abbrev pub ownBits : Ending → List Float → List ℕ
-ownBits (ending.Ended e) amounts = statusLine (e .result) ++ text "x " ++ signed (e .result .x) ++ text "\ny" ++ amountsText (take (e .species) amounts) ++ text "\n"
-ownBits (ending.Refused x) amounts = endingText (ending.Refused x) amounts
-ownBits (ending.Malformed k) amounts = endingText (ending.Malformed k) amounts
-ownBits ending.TooLong amounts = endingText ending.TooLong amounts
+ownBits = atEnd (λ e amounts. statusLine (e .result) ++ text "x " ++ signed (e .result .x) ++ text "\ny" ++ amountsText (take (e .species) amounts) ++ text "\n")
 
 -- the byte behind `x `: an f, where a 7 is wanted
 pub own-bits : Meets (by ownBits) → ⊥
@@ -51,10 +56,7 @@ own-bits = shut-out (by ownBits) (ended nan 0) 60 102 55 refl refl (λ e. omega 
 -- ---- all that the array has, whatever the number of amounts
 
 abbrev pub allAmounts : Ending → List Float → List ℕ
-allAmounts (ending.Ended e) amounts = reachedText (record { result = e .result; species = length amounts }) amounts
-allAmounts (ending.Refused x) amounts = endingText (ending.Refused x) amounts
-allAmounts (ending.Malformed k) amounts = endingText (ending.Malformed k) amounts
-allAmounts ending.TooLong amounts = endingText ending.TooLong amounts
+allAmounts = atEnd (λ e amounts. reachedText (record { result = e .result; species = length amounts }) amounts)
 
 -- the byte behind the only amount: a space, where LF is wanted
 pub all-amounts : Meets (by allAmounts) → ⊥
