@@ -9,7 +9,6 @@ with 8 turns, less with 4, over 4, less the same of turns that call nothing. A t
 millisecond, again less that of turns that call nothing. The tables go to standard output."""
 
 import platform
-import sys
 
 import measure
 import rust_crate
@@ -45,8 +44,8 @@ def cells(ours, rust, one_unit, digits):
     return f"{numbers} | {ours / rust:.2f} | {ours / one_unit:.2f}"
 
 
-def main(folder):
-    archive = measure.archive()
+def main(folder, given):
+    archive = measure.archive(given)
     link = ["-C", f"link-arg={archive}"]
     one_unit = rust_crate.build(folder, measure.HERE / "matrix.rs", link + ["-C", "codegen-units=1"])
     one_unit = one_unit.rename(one_unit.with_name("matrix_one_unit"))

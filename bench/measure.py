@@ -32,8 +32,9 @@ def instructions(words):
     return int(re.search(r"Collected *: *(\d+)", ran(count + words, env=bound).stderr).group(1))
 
 
-def archive():
-    """Our archive for the processor at hand. What is not proved yet is proved first."""
-    made = rust_crate.TARGET / "libelchepur.a"
-    ran([ROOT / "tools" / "archive", made, "export"])
+def archive(given):
+    """Our archive for the processor at hand: that which is given, else it is made, and what is not proved yet is proved first."""
+    made = pathlib.Path(given or rust_crate.TARGET / "libelchepur.a").resolve()
+    if not given:
+        ran([ROOT / "tools" / "archive", made, "export"])
     return made

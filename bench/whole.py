@@ -21,16 +21,16 @@ EVERY_WAY = [(jacobian, dense) for jacobian in ("host", "differences") for dense
 FULL = "mixed"
 
 
-def built(folder, published):
+def built(folder, archive, published):
     """The program, around the Rust's text, our archive and the Fortran, if it is given."""
     TARGET.mkdir(parents=True, exist_ok=True)
     # A function of Rust's that only passes a call on is to cost nothing.
     text = interface.archive_text().replace("\npub fn ", "\n#[inline]\npub fn ")
     (TARGET / "interface.rs").write_text(text)
     root = rust_solve.make_untraced(folder, TARGET, measure.HERE / "whole" / "program.rs", "mod interface;", "program::run();")
-    words = ["-C", f"link-arg={measure.archive()}"]
+    words = ["-C", f"link-arg={measure.archive(archive)}"]
     if published:
-        words += fortran.compiled(fortran.texts_of(published), TARGET / "fortran")
+        words += fortran.linked(fortran.objects(fortran.texts_of(published), TARGET / "fortran"))
     return rust_solve.compiled(root, "whole", words)
 
 
@@ -92,8 +92,8 @@ def remembered(program, rows):
             row["memory"] = {name: (resident(program, row, name, 1) - idle, heap_and_stack(program, row, name)) for name in row["ends"]}
 
 
-def main(folder, published, printed):
-    program = built(folder, published)
+def main(folder, archive, published, printed):
+    program = built(folder, archive, published)
     rows = rows_of(program)
     counted(program, rows)
     remembered(program, rows)

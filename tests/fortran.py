@@ -25,17 +25,25 @@ def texts_of(path):
     return texts
 
 
-def compiled(texts, target, words=("-O3", "-ffp-contract=off")):
-    """Compiles the texts below `target`. Gives the words by which rustc links them."""
+def objects(texts, target):
+    """Compiles the texts below `target`. Gives the objects' paths."""
     if not shutil.which("gfortran"):
         sys.exit("there is no gfortran")
     target.mkdir(parents=True, exist_ok=True)
-    linked = []
-    for name, text in texts.items():
-        file, made = target / f"{name}.f", target / f"{name}.o"
+    return [compiled(target / f"{name}.f", text) for name, text in texts.items()]
+
+
+def compiled(file, text):
+    made = file.with_suffix(".o")
+    if not (made.is_file() and file.is_file() and file.read_text() == text):
         file.write_text(text)
-        done = subprocess.run(["gfortran", "-std=legacy", "-w", "-fPIC", *words, "-c", file, "-o", made], capture_output=True, text=True)
+        done = subprocess.run(["gfortran", "-std=legacy", "-w", "-fPIC", "-O3", "-ffp-contract=off", "-c", file, "-o", made], capture_output=True, text=True)
         if done.returncode:
-            sys.exit(f"gfortran does not take {name}.f:\n{done.stderr[:2000]}")
-        linked += ["-C", f"link-arg={made}"]
-    return linked + ["-C", "link-arg=-lgfortran", "-C", "link-arg=-lm", "--cfg", "fortran"]
+            sys.exit(f"gfortran does not take {file.name}:\n{done.stderr[:2000]}")
+    return made
+
+
+def linked(paths):
+    """The words by which rustc links the objects, and knows that they are there."""
+    words = [word for path in paths for word in ("-C", f"link-arg={path}")]
+    return words + ["-C", "link-arg=-lgfortran", "-C", "link-arg=-lm", "--cfg", "fortran"]
