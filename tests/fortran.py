@@ -14,6 +14,8 @@ JACOBIAN = "CALL JAC(N,X,Y,MLJAC,MUJAC,FJAC,LDJAC,RPAR,IPAR)"
 def texts_of(path):
     """The two texts, by their names. `path` is that of radau5.f or of its folder."""
     path = pathlib.Path(path)
+    if not path.exists():
+        sys.exit(f"there is no {path}")
     folder = path if path.is_dir() else path.parent
     files = [folder / "radau5.f", folder / "radau5a.f"]
     missing = [file for file in files if not file.is_file()]
