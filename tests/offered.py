@@ -22,7 +22,10 @@ ROOT = pathlib.Path(__file__).resolve().parent.parent
 ONE_OUTCOME = ("one-outcome", "crates/words/proofs/Outcome.antt")
 # The definitions of an advance stand apart from its code, and so does the theorem.
 STANDS_IN = {"radau": "blocks"}
-RELATIONS = {"forecast::bytes::forecast": ("one-forecast", "crates/forecast/proofs/Theorem.antt")}
+RELATIONS = {
+    "forecast::bytes::forecast": ("one-forecast", "crates/forecast/proofs/Theorem.antt"),
+    "printout::sheets::elchepur_forecast": ("one-printout", "crates/printout/proofs/Theorem.antt"),
+}
 # What these read from standard input or write to standard output, no contract can say.
 UNSETTLED = {
     "replay::told::write_summary": "writes to standard output",

@@ -47,6 +47,7 @@ fn in_rust(parameter: &str, next: Option<&&str>) -> String {
         "double" => "f64",
         "uint64_t" => "u64",
         "size_t" => "usize",
+        "uint8_t" => "u8",
         other => panic!("no type {other} is expected"),
     };
     let constant = parameter.starts_with("const ");
