@@ -113,6 +113,26 @@ def memory(rows):
     return table(head, lines)
 
 
+# The parts of our code by the beginnings of their functions' names; the rest is the program's start and its memory.
+PARTS = {
+    "the advance": ("radau::", "opening::", "state::"), "matrices": ("matrix::",), "packing and unpacking the state": ("export::", "elchepur_"), "copying": ("__GI_mem", "mem"),
+    "roots and powers": ("scalar::",), "the host": ("whole::", "<whole::"),
+}
+
+
+def grouped(found):
+    """The share of each part."""
+    whole = sum(count for _, count in found)
+    shares = {part: sum(count for name, count in found if name.startswith(words)) / whole for part, words in PARTS.items()}
+    return {**shares, "else": 1 - sum(shares.values())}
+
+
+def where(rows):
+    """Of each model where our instructions go."""
+    lines = [[row["model"], str(row["n"])] + [f"{share:.0%}" for share in row["where"].values()] for row in rows]
+    return table(["model", "n", *rows[0]["where"]], lines)
+
+
 def verdict(found, goal):
     return [f"{found:.2f}", f"{goal:g}", "met" if found <= goal else "not met"]
 
@@ -149,17 +169,29 @@ def spread(rows):
     return f"The median of a time lies above the least by {above[len(above) // 2]:.1%} in the middle and {above[-1]:.1%} at most."
 
 
+def in_short(rows):
+    """Ours as a share of each other contestant's, model by model; above 1 ours loses."""
+    lines = []
+    for what, word in (("ns", "time"), ("instructions", "instructions")):
+        for other in [name for name in rows[0]["ends"] if name != OURS]:
+            found = [measured(row, what) for row in rows]
+            lines.append([f"{word}, of {NAMES[other]}"] + [ratio(each[OURS], each[other]) for each in found])
+    return table(["ours"] + [f"{row['model']} ({row['n']})" for row in rows], lines)
+
+
 def all_of(rows):
     plain = [row for row in rows if row["way"] == PLAIN]
     without = "" if FORTRAN in rows[0]["ends"] else "The published Fortran was not given, so its columns are not there.\n\n"
     parts = [
         f"Made on {machine()}. {spread(rows)} Ours and the Rust with our powers ended with the same bits and counts in every run.\n\n{without}",
+        "### In short\n\nOurs as a share of the others', for a run with the host's Jacobian and no dense output; above 1 ours loses.\n\n" + in_short(plain),
         "### The goals\n\n" + goals(plain),
         "### Time of a run\n\nMedian, in microseconds of the processor's time.\n\n" + of_runs(rows, "ns", "µs", 1e3),
         "### Instructions of a run\n\nBy callgrind, in thousands.\n\n" + of_runs(rows, "instructions", "thousands", 1e3),
         "### An attempt\n\nHost's Jacobian, no dense output. Time in ns:\n\n" + per_attempt(plain, "ns", "ns"),
         "Instructions:\n\n" + per_attempt(plain, "instructions", "instructions"),
         "### Operations\n\nHost's Jacobian, no dense output.\n\n" + per_operation(plain),
+        "### Where our instructions go\n\nHost's Jacobian, no dense output.\n\n" + where(plain),
         "### Memory\n\nOne run, host's Jacobian, no dense output: the resident size at its most, above that of a process that runs nothing, in kB; and heap and stack together, in bytes.\n\n" + memory(plain),
         "### Counts\n\nAccepted, rejected, total, ode, jac, lu. The Fortran's lu are pairs of decompositions, and its ode has the calls for differences (docs/DEPARTURES.md, D34).\n\n" + counts(rows),
     ]
