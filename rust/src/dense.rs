@@ -4,8 +4,8 @@ use crate::c;
 
 /// The step that a report tells of, at any point of it.
 ///
-/// Under [`Rule::Rust`](crate::methods::Rule::Rust) an attempt may have been shortened after its end was fixed: then [`bounds`](StepInterpolant::bounds) is not the way from the report's
-/// old x to the new. It is so in ivp.
+/// Under [`Rule::Rust`](crate::methods::Rule::Rust) an attempt may have been shortened after its end was fixed: then
+/// [`bounds`](StepInterpolant::bounds) is not the way from the report's old x to the new. It is so in ivp.
 #[derive(Clone, Copy, Debug)]
 pub struct StepInterpolant<'a> {
     cont: &'a [f64],

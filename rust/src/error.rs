@@ -85,7 +85,8 @@ impl fmt::Display for Interrupted {
     }
 }
 
-/// A run that ended before its end. It has amounts, but none at xend: they are had by [`reached`](BrokenOff::reached) alone, with the point that they belong to.
+/// A run that ended before its end. It has amounts, but none at xend: they are had by [`reached`](BrokenOff::reached) alone, with the point that they
+/// belong to.
 ///
 /// ```
 /// # use elchepur::prelude::*;

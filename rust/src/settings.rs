@@ -102,6 +102,14 @@ impl RADAU {
     /// The amounts at xi from the coefficients `cont` of the step from xold by h: see
     /// [`StepInterpolant::interpolate`](crate::dense::StepInterpolant::interpolate).
     ///
+    /// ```
+    /// use elchepur::methods::RADAU;
+    ///
+    /// let mut y = [7.0];
+    /// RADAU::interpolate(1.0, &mut y, &[1.0, 2.0, 0.0, 0.0], 0.0, 2.0);
+    /// assert_eq!(y, [0.0]);
+    /// ```
+    ///
     /// # Panics
     /// Where `yi` is shorter than a quarter of `cont`, as in ivp.
     pub fn interpolate(xi: f64, yi: &mut [f64], cont: &[f64], xold: f64, h: f64) {

@@ -57,6 +57,17 @@ fn a_list_that_is_none_is_told() {
 }
 
 #[test]
+fn a_sheet_that_is_none_is_told() {
+    let sheet = file("cylinders/nitric_oxide.sheet");
+    let lines: Vec<&str> = sheet.lines().collect();
+    let read = |lines: &[&str]| Model::read(&lines.join("\n")).map(|_| ());
+    assert_eq!(read(&lines), Ok(()));
+    assert_eq!(read(&lines[..9]), Err("the sheet ends early".to_string()));
+    assert_eq!(read(&[&lines[..7], &["0", "0"]].concat()), Err("the sheet has no species".to_string()));
+    assert_eq!(read(&[&lines[..13], &["3ff0000000000000 1 5 0 0"]].concat()), Err("there is no species 5".to_string()));
+}
+
+#[test]
 fn days_are_counted_over_leap_days() {
     for (filled, label, days) in
         [("2026-05-04", "2028-05-03", 730.0), ("1999-12-31", "2000-03-01", 61.0), ("2100-02-28", "2100-03-01", 1.0)]

@@ -1,6 +1,6 @@
-//! The Rust's runs through this crate: the 361 of crates/run_replay/stdin (laid out as tests/stored_runs.py says). The system and the `SolOut` answer each call as
-//! the Rust's host did, and see that it is the call that the Rust made: which function, at which x, with an interpolant or not. All settings, masses,
-//! lists of tolerances, Jacobians of the system's own, marks, modified points and interrupts come there.
+//! The Rust's runs through this crate: the 361 of crates/run_replay/stdin (laid out as tests/stored_runs.py says). The system and the `SolOut` answer
+//! each call as the Rust's host did, and see that it is the call that the Rust made: which function, at which x, with an interpolant or not. All settings,
+//! masses, lists of tolerances, Jacobians of the system's own, marks, modified points and interrupts come there.
 
 mod shared;
 

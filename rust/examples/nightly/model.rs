@@ -58,6 +58,9 @@ impl Model {
         let max_steps = words.number()?;
         let rule = if words.number()? == 0 { Rule::Rust } else { Rule::Book };
         let species = words.number()?;
+        if species == 0 {
+            return Err("the sheet has no species".to_string());
+        }
         let amounts = (0..species).map(|_| words.float()).collect::<Result<_, _>>()?;
         let reactions = words.number()?;
         let reactions = (0..reactions).map(|_| words.reaction(species)).collect::<Result<_, _>>()?;
