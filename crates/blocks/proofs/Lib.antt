@@ -2,6 +2,8 @@
 pub mod AdmittedLaws
 pub mod LogLaws
 pub mod MatrixLaws
+pub mod ZeroLaws
+pub mod ReorderedLaws
 pub mod PassLaws
 pub mod FitLaws
 pub mod AttemptLaws

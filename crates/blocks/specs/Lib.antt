@@ -7,6 +7,7 @@ pub mod Matrices
 pub mod Attempt
 pub mod Newton
 pub mod Estimate
+pub mod Reordered
 pub mod Judge
 pub mod Report
 pub mod Jacobian

@@ -5,7 +5,8 @@ ghost use mathlib.Core.Path.{_≡_};
 ghost use Prim.Native.Nat.{_≤_, _<_};
 ghost use lib.ListN.{length};
 ghost use Rattle.words.specs.Grid.{Square, at, put};
-ghost use Rattle.blocks.specs.Entries.{massAt, jacAt, rtolAt, atolAt, asFloat, combined};
+ghost use Rattle.blocks.specs.Entries.{massAt, rtolAt, atolAt, asFloat, combined};
+ghost use Rattle.blocks.specs.Reordered.{allFinite};
 
 // Row r, column c of an n by n matrix.
 pub fn entry(a: &[f64], n: usize, r: usize, c: usize) -> f64
@@ -35,14 +36,6 @@ pub fn mass_at(mode: Mass, mass: &[f64], n: usize, r: usize, c: usize) -> f64
         }
         Mass::Full => entry(mass, n, r, c),
     }
-}
-
-// The one place where the Jacobian is read.
-pub fn jac_at(jac: &[f64], n: usize, r: usize, c: usize) -> f64
-    requires { ⌜ (r < n) × (c < n) × Square n (now jac) ⌝ }
-    ensures { λ v. ⌜ v ≡ jacAt (now (jac .entry)) n r c ⌝ }
-{
-    entry(jac, n, r, c)
 }
 
 pub fn rtol_at(tolerances: Tolerances, rtol: &[f64], i: usize) -> f64
@@ -78,4 +71,16 @@ pub fn combined(a: f64, x: f64, b: f64, y: f64, c: f64, z: f64) -> f64
     ensures { λ v. ⌜ v ≡ combined a x b y c z ⌝ }
 {
     a * x + b * y + c * z
+}
+
+// Whether each is finite: any other is no zero when it is taken from itself.
+pub fn all_finite(n: usize, values: &[f64]) -> bool
+    requires { ⌜ length (now values) ≡ n ⌝ }
+    ensures { λ v. ⌜ v ≡ allFinite n (now (values .entry)) ⌝ }
+{
+    let mut all = true;
+    for j in 0..n {
+        all = all & (values[j] - values[j] == 0.0);
+    }
+    all
 }

@@ -1,4 +1,5 @@
 // Loops of the error estimate (radau.rs:622-668).
+use crate::entries::all_finite;
 use crate::entries::as_float;
 use crate::entries::combined;
 use crate::entries::mass_at;
@@ -17,6 +18,7 @@ ghost use Rattle.words.specs.Loop.{loop};
 ghost use Rattle.words.specs.Grid.{Square};
 ghost use Rattle.blocks.specs.Entries.{three};
 ghost use Rattle.blocks.specs.Estimate.{defectAt, defectOf, rowSum, sides, sidesOf, solvedFirst, errorAt, errorOf, plusAt, sumAt};
+ghost use Rattle.blocks.specs.Reordered.{identitySideAt};
 
 fn defect_by(
     n: usize,
@@ -55,8 +57,8 @@ fn row_sum(mode: Mass, n: usize, mass: &[f64], f1: &[f64], i: usize) -> f64
     sum
 }
 
-// f2 and the right side of the error's system.
-pub fn error_sides(
+// Every row's sum term by term.
+fn literal_sides(
     mode: Mass,
     n: usize,
     mass: &[f64],
@@ -73,6 +75,43 @@ pub fn error_sides(
         f2[i] = sum;
         cont[i] = sum + f0[i];
     }
+}
+
+// Each row's sum by its term on the diagonal: the others are zeros, where f1 is finite.
+fn identity_sides(n: usize, f0: &[f64], f1: &[f64], f2: &mut [f64], cont: &mut [f64])
+    requires { ⌜ (length (now f0) ≡ n) × (length (now f1) ≡ n) × (length (now f2) ≡ n) × (n ≤ length (now cont)) ⌝ }
+    ensures { λ _. ⌜ sides (now (f2 .exit)) (now (cont .exit)) ≡ loop (identitySideAt (now (f0 .entry)) (now (f1 .entry))) 0 n (sides (now (f2 .entry)) (now (cont .entry))) ⌝ }
+{
+    for i in 0..n {
+        let sum = 0.0 + 1.0 * f1[i];
+        f2[i] = sum;
+        cont[i] = sum + f0[i];
+    }
+}
+
+// f2 and the right side of the error's system.
+pub fn error_sides(
+    mode: Mass,
+    n: usize,
+    mass: &[f64],
+    f0: &[f64],
+    f1: &[f64],
+    f2: &mut [f64],
+    cont: &mut [f64],
+)
+    requires { ⌜ Square n (now mass) × (length (now f0) ≡ n) × (length (now f1) ≡ n) × (length (now f2) ≡ n) × (n ≤ length (now cont)) ⌝ }
+    ensures { λ _. ⌜ sides (now (f2 .exit)) (now (cont .exit)) ≡ sidesOf mode n (now (mass .entry)) (now (f0 .entry)) (now (f1 .entry)) (sides (now (f2 .entry)) (now (cont .entry))) ⌝ }
+{
+    match mode {
+        Mass::Identity => {
+            if all_finite(n, f1) {
+                identity_sides(n, f0, f1, f2, cont);
+                return;
+            }
+        }
+        Mass::Full => {}
+    }
+    literal_sides(mode, n, mass, f0, f1, f2, cont);
 }
 
 // The first n entries of cont are solved for.

@@ -1,4 +1,5 @@
 // The right sides of a Newton round, their solution, its norm, and the increments that it gives: loops over z1, z2, z3 and f1, f2, f3 (radau.rs:513-560, 601-612).
+use crate::entries::all_finite;
 use crate::entries::as_float;
 use crate::entries::combined;
 use crate::entries::mass_at;
@@ -34,7 +35,8 @@ ghost use Rattle.words.specs.Loop.{loop};
 ghost use Rattle.words.specs.Grid.{Square};
 ghost use Rattle.state.specs.Memory.{newton, factors};
 ghost use Rattle.blocks.specs.Entries.{three};
-ghost use Rattle.blocks.specs.Newton.{transformAt, massSums, massAddAt, rightSides, solvedOf, normAt, dynoOf, addAt, backAt, updatedOf};
+ghost use Rattle.blocks.specs.Newton.{transformAt, massSums, massAddAt, addSums, rightSides, solvedOf, normAt, dynoOf, addAt, backAt, updatedOf};
+ghost use Rattle.blocks.specs.Reordered.{identityAddAt};
 ghost use Rattle.blocks.specs.Needs.{NewtonLong, FactorsLong};
 
 fn transform(n: usize, z1: &mut [f64], z2: &mut [f64], z3: &mut [f64])
@@ -76,7 +78,26 @@ fn mass_sums(
     Sums { sum1, sum2, sum3 }
 }
 
-fn mass_add(
+fn add_sums(
+    fac1: f64,
+    alphn: f64,
+    betan: f64,
+    s: Sums,
+    i: usize,
+    z1: &mut [f64],
+    z2: &mut [f64],
+    z3: &mut [f64],
+)
+    requires { ⌜ (i < 32) × (i < length (now z1)) × (i < length (now z2)) × (i < length (now z3)) ⌝ }
+    ensures { λ _. ⌜ three (now (z1 .exit)) (now (z2 .exit)) (now (z3 .exit)) ≡ addSums fac1 alphn betan s i (three (now (z1 .entry)) (now (z2 .entry)) (now (z3 .entry))) ⌝ }
+{
+    z1[i] = z1[i] + s.sum1 * fac1;
+    z2[i] = z2[i] + s.sum2 * alphn - s.sum3 * betan;
+    z3[i] = z3[i] + s.sum3 * alphn + s.sum2 * betan;
+}
+
+// Every sum of every row, term by term.
+fn literal_add(
     mode: Mass,
     n: usize,
     mass: &[f64],
@@ -95,10 +116,63 @@ fn mass_add(
 {
     for i in 0..n {
         let s = mass_sums(mode, n, mass, f1, f2, f3, i);
-        z1[i] = z1[i] + s.sum1 * fac1;
-        z2[i] = z2[i] + s.sum2 * alphn - s.sum3 * betan;
-        z3[i] = z3[i] + s.sum3 * alphn + s.sum2 * betan;
+        add_sums(fac1, alphn, betan, s, i, z1, z2, z3);
     }
+}
+
+// Each sum by its term on the diagonal: the others are zeros, where f1, f2, f3 are finite.
+fn identity_add(
+    n: usize,
+    fac1: f64,
+    alphn: f64,
+    betan: f64,
+    f1: &[f64],
+    f2: &[f64],
+    f3: &[f64],
+    z1: &mut [f64],
+    z2: &mut [f64],
+    z3: &mut [f64],
+)
+    requires { ⌜ (n ≤ 32) × NewtonLong n (newton (now z1) (now z2) (now z3) (now f1) (now f2) (now f3)) ⌝ }
+    ensures { λ _. ⌜ three (now (z1 .exit)) (now (z2 .exit)) (now (z3 .exit)) ≡ loop (identityAddAt (three (now (f1 .entry)) (now (f2 .entry)) (now (f3 .entry))) fac1 alphn betan) 0 n (three (now (z1 .entry)) (now (z2 .entry)) (now (z3 .entry))) ⌝ }
+{
+    for i in 0..n {
+        let s = Sums {
+            sum1: 0.0 - 1.0 * f1[i],
+            sum2: 0.0 - 1.0 * f2[i],
+            sum3: 0.0 - 1.0 * f3[i],
+        };
+        add_sums(fac1, alphn, betan, s, i, z1, z2, z3);
+    }
+}
+
+fn mass_add(
+    mode: Mass,
+    n: usize,
+    mass: &[f64],
+    fac1: f64,
+    alphn: f64,
+    betan: f64,
+    f1: &[f64],
+    f2: &[f64],
+    f3: &[f64],
+    z1: &mut [f64],
+    z2: &mut [f64],
+    z3: &mut [f64],
+)
+    requires { ⌜ Square n (now mass) × NewtonLong n (newton (now z1) (now z2) (now z3) (now f1) (now f2) (now f3)) ⌝ }
+    ensures { λ _. ⌜ three (now (z1 .exit)) (now (z2 .exit)) (now (z3 .exit)) ≡ loop (massAddAt mode n (now (mass .entry)) (three (now (f1 .entry)) (now (f2 .entry)) (now (f3 .entry))) fac1 alphn betan) 0 n (three (now (z1 .entry)) (now (z2 .entry)) (now (z3 .entry))) ⌝ }
+{
+    match mode {
+        Mass::Identity => {
+            if all_finite(n, f1) & all_finite(n, f2) & all_finite(n, f3) {
+                identity_add(n, fac1, alphn, betan, f1, f2, f3, z1, z2, z3);
+                return;
+            }
+        }
+        Mass::Full => {}
+    }
+    literal_add(mode, n, mass, fac1, alphn, betan, f1, f2, f3, z1, z2, z3);
 }
 
 // The right sides of both systems.

@@ -1,38 +1,23 @@
--- `error_sides` meets its contract: its loop is the definition's, over both lists at once.
-use Prim.Native.Nat.{_-_}
-use mathlib.Core.Path.{refl}
+-- `error_sides` meets its contract: the short way, where f1 is finite under Identity, leaves what the sums leave.
+use mathlib.Core.Path.{sym, _∙_}
 use native.Mathlib.Omega.{arith}
-use lib.ListN.{length-set}
 use borrow.Author.Needs.{needs}
-use Rattle.words.proofs.Loops.{Ran, begun, turned, ended}
-use Rattle.blocks.specs.Estimate.{Sides, sides, sideAt, sidesOf}
-use Rattle.blocks.proofs.JudgeLaws.{Both}
+use Rattle.blocks.proofs.ReorderedLaws.{identity-sides}
 use Rattle.radau.proofs.estimate.error_sides.Statement.{statement}
 use Rattle.radau.proofs.estimate.error_sides.Tie as tie
 
-abbrev Inv-loop : tie.InvT-loop
-Inv-loop mode n mass f0 f1 f2₀ cont₀ i₀ f2 cont i = Ran (sideAt mode n mass f0 f1) (λ (s : Sides). Both (s .f2) (s .cont) f2₀ cont₀) 0 n i (sides f2₀ cont₀) (sides f2 cont)
+returns : tie.Need-returns
+returns c =
+    rw (c .before .before .before .before .before .before .before .before .before .enum-told .given .1)
+    (c .before .before .before .before .identity-sides .ensures
+    ∙ identity-sides _ _ _ _ (sym (c .before .before .before .before .before .before .before .before .all-finite .ensures) ∙ c .before .before .before .before .before .before .before .if1 .taken) _)
 
-abbrev μ-loop : tie.MeasureT-loop
-μ-loop mode n mass f0 f1 f2₀ cont₀ i₀ f2 cont i = n - i
-
-loop-holds : tie.Need-loop-holds Inv-loop μ-loop
-loop-holds c = begun (omega arith) (record { first = refl; second = refl }) refl
-
-loop-again : tie.Need-loop-again Inv-loop μ-loop
-unfolding sideAt
-loop-again c = turned (c .before .before .before .loop .inv) (omega arith) (record { first = simp length-set (omega arith); second = simp length-set (omega arith) }) (rw (c .before .row-sum .ensures))
-
-returns : tie.Need-returns Inv-loop μ-loop
-unfolding sidesOf
-returns c = ended (c .before .loop .inv) (c .loop-test .left)
+returns-2 : tie.Need-returns-2
+returns-2 c = c .before .before .before .before .literal-sides .ensures
 
 pub error-sides-spec : {M : Type 1} → statement M
 error-sides-spec =
     tie.close
-    (tie.spec
-    Inv-loop
-    μ-loop
-    loop-holds (λ c κs. search needs) (λ c. omega arith) (λ c. omega arith) (λ c. omega arith) (λ c. omega arith) (λ c. omega arith) (λ c. omega arith) (λ c. omega arith) (λ c. omega arith)
-    loop-again (λ c. omega arith) (λ c. omega arith)
-    returns)
+    (tie.spec (λ c. search needs) (λ c κs. search needs) (λ c κs. search needs) (λ c. omega arith) (λ c. omega arith)
+    returns (λ c. search needs) (λ c κs. search needs) (λ c. omega arith) (λ c. omega arith)
+    returns-2)

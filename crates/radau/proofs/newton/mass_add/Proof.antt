@@ -1,37 +1,26 @@
--- `mass_add` meets its contract: its loop is the definition's.
-use Prim.Native.Nat.{_-_}
-use mathlib.Core.Path.{refl}
+-- `mass_add` meets its contract: the short way, where f1, f2, f3 are finite under Identity, leaves what the sums leave.
+use mathlib.Core.Path.{_∙_}
 use native.Mathlib.Omega.{arith}
 use borrow.Author.Needs.{needs}
-use Rattle.words.proofs.Loops.{Ran, begun, turned, ended}
-use Rattle.blocks.specs.Entries.{three}
-use Rattle.blocks.specs.Newton.{massAddAt, addSums}
-use Rattle.blocks.proofs.ThreeLaws.{ThreeLong, three-set}
+use Rattle.blocks.proofs.ReorderedLaws.{identity-adds}
 use Rattle.radau.proofs.newton.mass_add.Statement.{statement}
 use Rattle.radau.proofs.newton.mass_add.Tie as tie
 
-abbrev Inv-loop : tie.InvT-loop
-Inv-loop mode n mass fac1 alphn betan f1 f2 f3 z1₀ z2₀ z3₀ i₀ z1 z2 z3 i = Ran (massAddAt mode n mass (three f1 f2 f3) fac1 alphn betan) (ThreeLong n) 0 n i (three z1₀ z2₀ z3₀) (three z1 z2 z3)
+returns : tie.Need-returns
+returns c =
+    rw (c .before .before .before .before .before .before .before .before .before .before .before .before .before .before .enum-told .given .1)
+    (c .before .before .before .before .before .before .identity-add .ensures
+    ∙ identity-adds _ _ _
+    (rw (← c .before .before .before .before .before .before .before .before .before .before .before .before .before .all-finite .ensures, ← c .before .before .before .before .before .before .before .before .before .before .before .before .all-finite2 .ensures, ← c .before .before .before .before .before .before .before .before .before .before .before .all-finite3 .ensures)
+    (c .before .before .before .before .before .before .before .before .before .before .if1 .taken))
+    _ _ _ _)
 
-abbrev μ-loop : tie.MeasureT-loop
-μ-loop mode n mass fac1 alphn betan f1 f2 f3 z1₀ z2₀ z3₀ i₀ z1 z2 z3 i = n - i
-
-loop-holds : tie.Need-loop-holds Inv-loop μ-loop
-loop-holds c = begun (omega arith) (record { one = c .before .before .before .before .before .before .before .pre .1 .z1; two = c .before .before .before .before .before .before .before .pre .1 .z2; three = c .before .before .before .before .before .before .before .pre .1 .z3 }) refl
-
-loop-again : tie.Need-loop-again Inv-loop μ-loop
-unfolding massAddAt addSums
-loop-again c = turned (c .before .before .before .before .before .before .before .before .before .before .loop .inv) (omega arith) (three-set _ _ _ _ (c .before .before .before .before .before .before .before .before .before .before .loop .inv .kept)) (rw (c .before .before .before .before .before .before .before .before .mass-sums .ensures))
-
-returns : tie.Need-returns Inv-loop μ-loop
-returns c = ended (c .before .loop .inv) (c .loop-test .left)
+returns-2 : tie.Need-returns-2
+returns-2 c = c .before .before .before .before .before .before .literal-add .ensures
 
 pub mass-add-spec : {M : Type 1} → statement M
 mass-add-spec =
     tie.close
-    (tie.spec
-    Inv-loop
-    μ-loop
-    loop-holds (λ c κs. search needs) (λ c. omega arith) (λ c. omega arith) (λ c. omega arith) (λ c. omega arith) (λ c. omega arith) (λ c. omega arith) (λ c. omega arith) (λ c. omega arith) (λ c. omega arith) (λ c. omega arith) (λ c. omega arith) (λ c. omega arith) (λ c. omega arith) (λ c. omega arith)
-    loop-again (λ c. omega arith) (λ c. omega arith) (λ c. omega arith)
-    returns)
+    (tie.spec (λ c. search needs) (λ c κs. search needs) (λ c κs. search needs) (λ c κs. search needs) (λ c κs. search needs) (λ c. omega arith) (λ c. omega arith) (λ c. omega arith)
+    returns (λ c. search needs) (λ c κs. search needs) (λ c. omega arith) (λ c. omega arith) (λ c. omega arith)
+    returns-2)

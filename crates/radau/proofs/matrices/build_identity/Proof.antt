@@ -1,0 +1,16 @@
+-- `build_identity` meets its contract.
+use native.Mathlib.Omega.{arith}
+use borrow.Author.Needs.{needs}
+use Rattle.blocks.specs.Reordered.{identityBuilt}
+use Rattle.radau.proofs.matrices.build_identity.Statement.{statement}
+use Rattle.radau.proofs.matrices.build_identity.Tie as tie
+
+returns : tie.Need-returns
+unfolding identityBuilt
+returns c = rw (c .before .before .before .before .before .before .make-diagonal .ensures, c .before .before .before .before .before .before .before .before .before .before .before .before .before .before .before .before .make-plain .ensures)
+
+pub build-identity-spec : {M : Type 1} → statement M
+build-identity-spec =
+    tie.close
+    (tie.spec (λ c κs. search needs) (λ c κs. search needs) (λ c. omega arith) (λ c. omega arith) (λ c. omega arith)
+    returns)
