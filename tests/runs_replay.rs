@@ -133,51 +133,7 @@ fn differ(mem: &Mem, asked: &Asked) -> Option<String> {
     None
 }
 fn advance(run: Run, reply: Reply, m: &mut Mem) -> Answer {
-    let mut it = m.f.iter_mut();
-    let mut g = || it.next().unwrap();
-    let (
-        y,
-        f0,
-        scal,
-        cont,
-        z1,
-        z2,
-        z3,
-        f1,
-        f2,
-        f3,
-        rtol,
-        atol,
-        mass,
-        jac,
-        e1,
-        e2r,
-        e2i,
-        yp,
-        fp,
-        fo,
-    ) = (
-        g(),
-        g(),
-        g(),
-        g(),
-        g(),
-        g(),
-        g(),
-        g(),
-        g(),
-        g(),
-        g(),
-        g(),
-        g(),
-        g(),
-        g(),
-        g(),
-        g(),
-        g(),
-        g(),
-        g(),
-    );
+    let [y, f0, scal, cont, z1, z2, z3, f1, f2, f3, rtol, atol, mass, jac, e1, e2r, e2i, yp, fp, fo] = &mut m.f[..] else { unreachable!() };
     radau::advance::Turn { run, reply }.advance(
         y, f0, scal, cont, z1, z2, z3, f1, f2, f3, rtol, atol, mass, jac, e1, e2r, e2i, &mut m.ip1,
         &mut m.ip2, yp, fp, fo,
@@ -297,51 +253,7 @@ fn replay(o: &Opening, asked: &[Asked]) -> std::result::Result<usize, String> {
         Tolerances::Scalars(o.float(14), o.float(15))
     };
     let opened = {
-        let mut it = m.f.iter_mut();
-        let mut g = || it.next().unwrap();
-        let (
-            y,
-            f0,
-            scal,
-            cont,
-            z1,
-            z2,
-            z3,
-            f1,
-            f2,
-            f3,
-            rtol,
-            atol,
-            mass,
-            jac,
-            e1,
-            e2r,
-            e2i,
-            yp,
-            fp,
-            fo,
-        ) = (
-            g(),
-            g(),
-            g(),
-            g(),
-            g(),
-            g(),
-            g(),
-            g(),
-            g(),
-            g(),
-            g(),
-            g(),
-            g(),
-            g(),
-            g(),
-            g(),
-            g(),
-            g(),
-            g(),
-            g(),
-        );
+        let [y, f0, scal, cont, z1, z2, z3, f1, f2, f3, rtol, atol, mass, jac, e1, e2r, e2i, yp, fp, fo] = &mut m.f[..] else { unreachable!() };
         opening::open(
             settings(o),
             n,
