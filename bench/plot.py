@@ -1,14 +1,14 @@
-"""bench/whole.svg: the time of a run, as a share of the Rust's, by n. For bench/whole.py."""
+"""bench/whole.svg: the time of a run as a share of the Rust's, model by model, on a logarithmic scale. For bench/whole.py."""
 
-WIDTH, HEIGHT, LEFT, TOP, RIGHT, BOTTOM = 760, 420, 70, 50, 190, 60
-SERIES = [("rust_with_our_powers", "the Rust, our powers", "#8a8a8a"), ("fortran", "published Fortran", "#c8641e"), ("ours", "ours", "#1f5fa8")]
-LINE = ("decay", "Robertson", "HIRES", "chain16", "chain32")
+import math
 
+import tables
 
-def shares(rows, name, what):
-    """Of each model in the line its place and the contestant's share of the Rust's."""
-    plain = {row["model"]: row for row in rows if row["way"] == ("host", "none")}
-    return [(k, what(plain[model], name) / what(plain[model], "rust")) for k, model in enumerate(LINE)]
+WIDTH, HEIGHT, LEFT, TOP, RIGHT, BOTTOM = 760, 440, 60, 50, 170, 60
+SERIES = [(tables.SAME, "the Rust, our powers", "#8a8a8a"), (tables.FORTRAN, "published Fortran", "#c8641e"), (tables.OURS, "ours", "#1f5fa8")]
+GOAL = "#3c8c3c"
+LINE = list(tables.OF_THE_RUST)
+MARKS = [0.05, 0.1, 0.2, 0.5, 1, 2, 5, 10, 20, 50]
 
 
 def label(x, y, words, more=""):
@@ -19,25 +19,52 @@ def across(k):
     return LEFT + (WIDTH - LEFT - RIGHT) * (k + 0.5) / len(LINE)
 
 
-def drawn(rows):
-    what = lambda row, name: row["ns"][name][0]  # noqa: E731
-    series = [(shares(rows, name, what), words, colour) for name, words, colour in SERIES if name in rows[0]["ns"]]
-    most = max([1.1] + [share for line, _, _ in series for _, share in line]) * 1.05
-    down = lambda share: HEIGHT - BOTTOM - (HEIGHT - TOP - BOTTOM) * share / most  # noqa: E731
-    parts = [f'<svg xmlns="http://www.w3.org/2000/svg" viewBox="0 0 {WIDTH} {HEIGHT}" font-family="sans-serif" font-size="13">',
-             f'<rect width="{WIDTH}" height="{HEIGHT}" fill="#ffffff"/>', label(LEFT, 28, "Time of a run, the Rust = 1 (host's Jacobian, no dense output)", 'font-size="15"')]
-    step = 0.2 if most < 2.4 else 0.5
-    for k in range(int(most / step) + 1):
-        y = down(k * step)
-        colour = "#333333" if abs(k * step - 1) < 1e-9 else "#dddddd"
-        parts += [f'<line x1="{LEFT}" y1="{y:.1f}" x2="{WIDTH - RIGHT}" y2="{y:.1f}" stroke="{colour}"/>', label(LEFT - 10, y + 4, f"{k * step:.1f}", 'text-anchor="end"')]
-    plain = {row["model"]: row["n"] for row in rows}
+class Scale:
+    """Where a share stands."""
+
+    def __init__(self, shares):
+        self.marks = [mark for mark in MARKS if min(shares) / 2 < mark < max(shares) * 2.5]
+        self.low, self.high = math.log(self.marks[0]), math.log(self.marks[-1])
+
+    def down(self, share):
+        return HEIGHT - BOTTOM - (HEIGHT - TOP - BOTTOM) * (math.log(share) - self.low) / (self.high - self.low)
+
+
+def frame(scale, sizes):
+    """The grid, the models below it, and the goals."""
+    for mark in scale.marks:
+        y, colour = scale.down(mark), "#333333" if mark == 1 else "#dddddd"
+        yield f'<line x1="{LEFT}" y1="{y:.1f}" x2="{WIDTH - RIGHT}" y2="{y:.1f}" stroke="{colour}"/>'
+        yield label(LEFT - 10, y + 4, f"{mark:g}", 'text-anchor="end"')
     for k, model in enumerate(LINE):
-        parts += [label(across(k), HEIGHT - BOTTOM + 22, model, 'text-anchor="middle"'), label(across(k), HEIGHT - BOTTOM + 40, f"n = {plain[model]}", 'text-anchor="middle"')]
-    for line, words, colour in series:
-        places = [(across(k), down(share)) for k, share in line]
-        parts.append(f'<polyline fill="none" stroke="{colour}" stroke-width="2" points="{" ".join(f"{x:.1f},{y:.1f}" for x, y in places)}"/>')
-        parts += [f'<circle cx="{x:.1f}" cy="{y:.1f}" r="4" fill="{colour}"/>' for x, y in places]
-        parts += [label(x, y - 9, f"{share:.2f}", f'text-anchor="middle" fill="{colour}"') for (x, y), (_, share) in zip(places, line)]
-        parts.append(label(WIDTH - RIGHT + 8, places[-1][1] + 4, words, f'fill="{colour}"'))
+        yield label(across(k), HEIGHT - BOTTOM + 24, model, 'text-anchor="middle"')
+        yield label(across(k), HEIGHT - BOTTOM + 42, f"n = {sizes[model]}", 'text-anchor="middle"')
+        y = scale.down(tables.OF_THE_RUST[model])
+        yield f'<line x1="{across(k) - 24:.1f}" y1="{y:.1f}" x2="{across(k) + 24:.1f}" y2="{y:.1f}" stroke="{GOAL}" stroke-width="3"/>'
+
+
+def curve(scale, shares, colour):
+    """A line through the shares, which are written beside it unless they are about 1."""
+    places = [(across(k), scale.down(share)) for k, share in enumerate(shares)]
+    points = " ".join(f"{x:.1f},{y:.1f}" for x, y in places)
+    yield f'<polyline fill="none" stroke="{colour}" stroke-width="2" points="{points}"/>'
+    for (x, y), share in zip(places, shares):
+        yield f'<circle cx="{x:.1f}" cy="{y:.1f}" r="4" fill="{colour}"/>'
+        if abs(share - 1) > 0.1:
+            yield label(x, y - 9 if share > 1 else y + 20, f"{share:.2f}", f'text-anchor="middle" fill="{colour}"')
+
+
+def drawn(rows):
+    plain = {row["model"]: row for row in rows if row["way"] == tables.PLAIN}
+    found = [tables.measured(plain[model], "ns") for model in LINE]
+    series = [([each[name] / each[tables.RUST] for each in found], words, colour) for name, words, colour in SERIES if name in found[0]]
+    scale = Scale([share for shares, _, _ in series for share in shares] + [1])
+    parts = [f'<svg xmlns="http://www.w3.org/2000/svg" viewBox="0 0 {WIDTH} {HEIGHT}" font-family="sans-serif" font-size="13">',
+             f'<rect width="{WIDTH}" height="{HEIGHT}" fill="#ffffff"/>',
+             label(LEFT, 26, "Time of a run, the Rust = 1 (host's Jacobian, no dense output)", 'font-size="15"')]
+    parts += frame(scale, {model: row["n"] for model, row in plain.items()})
+    for shares, _, colour in series:
+        parts += curve(scale, shares, colour)
+    names = [(words, colour) for _, words, colour in reversed(series)] + [("goal for ours", GOAL)]
+    parts += [label(WIDTH - RIGHT + 14, TOP + 14 + 22 * k, words, f'fill="{colour}"') for k, (words, colour) in enumerate(names)]
     return "\n".join(parts + ["</svg>"]) + "\n"
