@@ -2,6 +2,7 @@
 
 The branches of the solver are counted: each outcome of an `if` and each arm of a `match` of crates/radau, under the names that `build` gives."""
 
+import fcntl
 import hashlib
 import re
 import subprocess
@@ -131,8 +132,11 @@ def build():
     """Compiles the crates. Gives the folder of the libraries, and the names of the branches that are counted."""
     version = subprocess.run(["rustc", "--version"], capture_output=True, text=True).stdout
     names, keys = [], {}
-    for name, leans_on in CRATES.items():
-        texts = texts_of(name, names)
-        keys[name] = hashlib.sha256(repr((version, texts, [keys[lower] for lower in leans_on])).encode()).hexdigest()
-        compile_crate(name, texts, keys[name])
+    TARGET.mkdir(parents=True, exist_ok=True)
+    with open(TARGET / "lock", "w") as lock:
+        fcntl.flock(lock, fcntl.LOCK_EX)  # tests/run asks for them from two sides: one compiles, the other waits
+        for name, leans_on in CRATES.items():
+            texts = texts_of(name, names)
+            keys[name] = hashlib.sha256(repr((version, texts, [keys[lower] for lower in leans_on])).encode()).hexdigest()
+            compile_crate(name, texts, keys[name])
     return TARGET, names
