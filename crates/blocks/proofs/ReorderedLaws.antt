@@ -1,21 +1,21 @@
 -- What specs/Reordered.antt leaves is what the definitions leave: `full-built` and `identity-built` say so of the three matrices, `identity-adds` and `identity-sides` of the right sides,
--- for vectors that pass the code's test of being finite.
+-- for vectors that pass the code's test of being finite; without the test that would be wrong (`not-without-test`).
 use Prim.Native.Nat.{ℕ, zero, suc, _+_, _*_, _≤_, _<_}
 use mathlib.Core.Bool.{Bool, true, false, _&&_}
 use mathlib.Core.Logic.{_≢_}
 use mathlib.Core.Path.{_≡_, refl, sym, ap, _∙_}
-use mathlib.Core.List.{List}
+use mathlib.Core.List.{List, [], _∷_}
 use native.Mathlib.Nat.{zero-mul, suc-mul}
 use native.Mathlib.Decide.{decLt}
 use native.Mathlib.Omega.{arith}
 use lib.Dec.{T}
 use lib.Seq.{set-set, set-comm}
-use lib.Ieee.{Float, binary64, eq, sub, neg, fits}
+use lib.Ieee.{Float, inf, binary64, add, sub, mul, neg, eq, isNan, fits, ofBits, round, sum}
 use lib.Ieee.Fits.{neg-fits, mul-fits}
 use lib.Ieee.Scale.{finite}
 use borrow.Author.Tests.{eq-eqb, ne-eqb}
 use Rattle.words.specs.Words.{double, _⊕_, _⊖_, _⊗_, _⊘_, _!_}
-use Rattle.words.specs.Loop.{loop}
+use Rattle.words.specs.Loop.{loop, pick}
 use Rattle.words.specs.Grid.{at, put}
 use Rattle.words.proofs.Branch.{pick-yes, pick-no}
 use Rattle.words.proofs.Loops.{loop-none, loop-more, Any}
@@ -269,3 +269,14 @@ unfolding sidesOf sideAt rowSum rowAt identitySideAt
 identity-sides n mass f0 f1 test s =
     alike Any (identitySideAt f0 f1) (sideAt Identity n mass f0 f1) 0 n (omega arith) (λ i l₁ l₂ t q. tt)
     (λ i l₁ l₂ t q. rw (sum-added mass n i l₂ f1 (all-finite n f1 test))) s tt
+
+-- ---- the test is needed: an infinity in another row makes a NaN of the definition's sum
+
+pub not-without-test :
+    ((n : ℕ) (mass : List Float) (f : Three) (fac1 alphn betan : Float) (z : Three) → loop (identityAddAt f fac1 alphn betan) 0 n z ≡ loop (massAddAt Identity n mass f fac1 alphn betan) 0 n z)
+    → ⊥
+unfolding loop pick identityAddAt massAddAt massSums massSumAt massAt addSums add sub mul neg sum round ofBits isNan
+not-without-test wrong =
+    let one = double 0x3ff0_0000_0000_0000 in
+    let ones = one ∷ one ∷ [] in
+    never (ap (λ (t : Three). isNan (t .one ! 1)) (sym (wrong 2 [] (three (inf false ∷ one ∷ []) ones ones) one one one (three ones ones ones))))
