@@ -2,6 +2,7 @@
 pub mod Words
 pub mod StateLaws
 pub mod StateTheorems
+pub mod CanonicalLaws
 pub mod PackLaws
 pub mod RunLaws
 pub mod SettingsTheorem

@@ -50,14 +50,11 @@ module _ (r : Run) where
 
 -- ---- the two answers of `unpack`
 
-module _ (w p : List ℕ) (r : Run) (t : Bool) (is : r ≡ runRead w) (again : p ≡ packOf r) (found : t ≡ sameWords w p) where
-  tested : sameWords w (packOf (runRead w)) ≡ t
-  tested = ap (sameWords w) (ap packOf (sym is) ∙ sym again) ∙ sym found
-
-  pub unpacked-yes : t ≡ true → unpacked.Run r ≡ unpackOf w
+module _ (w : List ℕ) (t : Bool) (found : t ≡ sameWords w (packOf (runRead w))) where
+  pub unpacked-yes : (r : Run) → r ≡ runRead w → t ≡ true → unpacked.Run r ≡ unpackOf w
   unfolding unpackOf
-  unpacked-yes h = ap unpacked.Run is ∙ sym (pick-yes _ _ (tested ∙ h))
+  unpacked-yes r is h = ap unpacked.Run is ∙ sym (pick-yes _ _ (sym found ∙ h))
 
   pub unpacked-no : t ≡ false → unpacked.Not ≡ unpackOf w
   unfolding unpackOf
-  unpacked-no h = sym (pick-no _ _ (tested ∙ h))
+  unpacked-no h = sym (pick-no _ _ (sym found ∙ h))

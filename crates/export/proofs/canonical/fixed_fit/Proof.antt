@@ -1,0 +1,19 @@
+-- `fixed_fit` meets its contract: word by word.
+use Rattle.export.proofs.CanonicalLaws.{fixed-are}
+use borrow.Author.Needs.{needs}
+use Rattle.export.proofs.canonical.fixed_fit.Statement.{statement}
+use Rattle.export.proofs.canonical.fixed_fit.Tie as tie
+
+returns : tie.Need-returns
+returns c =
+    let s = c .before .before .before .before .before .before .before .before .before .before .before .before .before .before in
+    fixed-are (s .args .w .now) (s .pre)
+    (c .before .before .before .before .before .before .before .before .before .before .tolerances-fit .ensures)
+    (c .before .before .before .before .before .before .before .before .float-fits .ensures)
+    (c .before .before .before .before .before .before .float-fits2 .ensures)
+    (c .before .before .before .before .float-fits3 .ensures)
+    (c .before .before .float-fits4 .ensures)
+    (c .float-fits5 .ensures)
+
+pub fixed-fit-spec : {M : Type 1} → statement M
+fixed-fit-spec = tie.close (tie.spec (λ c. search needs) (λ c. search needs) (λ c. search needs) (λ c κs. search needs) (λ c. search needs) (λ c κs. search needs) (λ c. search needs) (λ c κs. search needs) (λ c. search needs) (λ c κs. search needs) (λ c. search needs) (λ c κs. search needs) (λ c. search needs) (λ c κs. search needs) returns)
