@@ -1,11 +1,11 @@
 -- The entries of a matrix as places: what a store leaves alone, and that stores at two places may change turns. `Lawful` is what proofs/Rows.antt asks of
 -- a kind of matrix; real matrices obey it (`real-lawful`).
-use Prim.Native.Nat.{ℕ, _+_, _*_, _≤_, _<_, _%_}
+use Prim.Native.Nat.{ℕ, _+_, _*_, _-_, _≤_, _<_, _%_}
 use mathlib.Core.Bool.{Bool, true, false}
-use mathlib.Core.Logic.{_≢_}
+use mathlib.Core.Logic.{_≢_, ⊎-elim}
 use mathlib.Core.Path.{_≡_, refl, sym, ap, _∙_}
 use mathlib.Core.List.{List}
-use native.Mathlib.Nat.{mul-le-mul-right, suc-mul, mul-add-mod-self-right, mod-eq-of-lt}
+use native.Mathlib.Nat.{mul-le-mul-right, suc-mul, mul-add-mod-self-right, mod-eq-of-lt, eq-or-lt-of-le}
 use native.Mathlib.Omega.{arith}
 use lib.ListN.{length, length-set}
 use lib.Seq.{getD-set-same, getD-set-other, set-getD, set-comm}
@@ -13,11 +13,12 @@ use lib.Ieee.{Float, nan, ne}
 use Rattle.words.specs.Words.{double}
 use Rattle.words.specs.Loop.{loop, pick}
 use Rattle.words.specs.Grid.{Square, at, put}
+use Rattle.words.proofs.Branch.{pick-no}
 use Rattle.words.proofs.Loops.{Any}
 use Rattle.words.proofs.Grid.{cell}
 use Rattle.matrix.specs.Elimination.{Kind}
 use Rattle.matrix.specs.Lu.{real, updateAt, updated}
-use Rattle.matrix.specs.Reordered.{addedOf}
+use Rattle.matrix.specs.Reordered.{IdleFrom, addedOf}
 use Rattle.matrix.proofs.Interchange.{alike, idle, hoisted}
 
 -- ---- places
@@ -39,6 +40,8 @@ pub record Lawful {A E : Type 0} (kind : Kind A E) (P : ℕ → A → Type 0) (e
       → kind .put (kind .put a n i k x) n p q y ≡ kind .put (kind .put a n p q y) n i k x
   pub same : (a : A) (n i k : ℕ) (x : E) → P n a → i < n → k < n → kind .at (kind .put a n i k x) n i k ≡ x
   pub kept : (a : A) (n i k : ℕ) (x : E) → P n a → P n (kind .put a n i k x)
+  -- an entry put back where it stands
+  pub back : (a : A) (n i k : ℕ) → kind .put a n i k (kind .at a n i k) ≡ a
   -- a column's update is one entry after the other, its multiplier t fixed
   pub fixed : (a : A) (n k j : ℕ) (t : E) → k < n
       → kind .updated n k j t a ≡ loop (λ (i : ℕ) (s : A). kind .put s n i j (entry (kind .at s n i k) t (kind .at s n i j))) (k + 1) n a
@@ -61,11 +64,15 @@ commute-real : (a : List Float) (n i k p q : ℕ) (x y : Float) → i * n + k �
 unfolding put
 commute-real a n i k p q x y h = set-comm a (i * n + k) (p * n + q) x y h
 
+back-real : (a : List Float) (n i k : ℕ) → put a n i k (at a n i k) ≡ a
+unfolding at put
+back-real a n i k = set-getD a (i * n + k) nan
+
 -- a branch around a store is a store of a branch
 stored-real : (b : Bool) (a : List Float) (n i k : ℕ) (x : Float) → pick b (put a n i k x) a ≡ put a n i k (pick b x (at a n i k))
-unfolding pick at put
+unfolding pick
 stored-real true a n i k x = refl
-stored-real false a n i k x = sym (set-getD a (i * n + k) nan)
+stored-real false a n i k x = sym (back-real a n i k)
 
 fixed-real : (a : List Float) (n k j : ℕ) (t : Float) → k < n
     → updated n k j t a ≡ loop (λ (i : ℕ) (s : List Float). put s n i j (addedOf (at s n i k) t (at s n i j))) (k + 1) n a
@@ -80,4 +87,25 @@ fixed-real a n k j t h =
     (λ i l₁ l₂ s q. stored-real (ne t (double 0)) s n i j _) a tt
 
 pub real-lawful : Lawful real Square addedOf
-real-lawful = record { other = other-real; commute = commute-real; same = same-real; kept = kept-real; fixed = fixed-real }
+real-lawful = record { other = other-real; commute = commute-real; same = same-real; kept = kept-real; back = back-real; fixed = fixed-real }
+
+-- ---- zero multipliers of a real matrix, from the right
+
+-- past the last column there is none
+pub none-idle : (a : List Float) (n k : ℕ) → k < n → IdleFrom real addedOf n k n a
+none-idle a n k h = record { low = omega arith; high = omega arith; still = λ j l u x y. absurd (omega arith) }
+
+-- one column more
+pub more-idle : (a : List Float) (n k end : ℕ) → IdleFrom real addedOf n k end a → k + 1 < end → ne (at a n k (end - 1)) (double 0) ≡ false
+    → IdleFrom real addedOf n k (end - 1) a
+unfolding addedOf
+more-idle a n k end q h e =
+    record {
+      low = omega arith;
+      high = omega (arith, q .high);
+      still =
+          λ j l u x y.
+          ⊎-elim
+          (λ (s : end - 1 ≡ j). pick-no _ _ (ap (λ (c : ℕ). ne (at a n k c) (double 0)) (sym s) ∙ e))
+          (λ (s : end - 1 < j). q .still j (omega arith) u x y) (eq-or-lt-of-le l);
+    }

@@ -3,6 +3,7 @@
 --     whole          what holds at every number of turns up to the loop's, at its end
 --     past           one more act, before the loop or after it
 --     through        what every turn keeps, the loop keeps
+--     early          a loop whose last turns change nothing, ended before them
 --     split          a loop of two acts is two loops
 --     across         a loop around a loop, in the other order
 --     alike          two loops whose turns agree where Q holds
@@ -53,6 +54,18 @@ module _ {A : Type 0} (P : A → Type 0) (f : ℕ → A → A) (lo hi : ℕ) (lo
 
   pub through : (a : A) → P a → P (loop f lo hi a)
   through a p = whole (λ (e : ℕ). P (loop f lo e a)) lo hi low (λ d l. through-part d l a p)
+
+module _ {A : Type 0} (f : ℕ → A → A) (lo end hi : ℕ) (low : lo ≤ end) (high : end ≤ hi) (a : A)
+    (still : (j : ℕ) → end ≤ j → j < hi → f j (loop f lo end a) ≡ loop f lo end a) where
+  early-part : (d : ℕ) → end + d ≤ hi → loop f lo end a ≡ loop f lo (end + d) a
+  early-part zero l = let e : end ≡ end + 0 = omega arith in ap (λ (h : ℕ). loop f lo h a) e
+  early-part (suc d) l =
+      let e : end + d + 1 ≡ end + suc d = omega arith in
+      sym (still (end + d) (omega arith) (omega arith)) ∙ ap (f (end + d)) (early-part d (omega arith))
+      ∙ sym (loop-more f lo (end + d) a (omega arith)) ∙ ap (λ (h : ℕ). loop f lo h a) e
+
+  pub early : loop f lo end a ≡ loop f lo hi a
+  early = whole (λ (h : ℕ). loop f lo end a ≡ loop f lo h a) end hi high early-part
 
 module _ {A : Type 0} (P : A → Type 0) (h f g : ℕ → A → A) (lo hi : ℕ) (low : lo ≤ hi)
     (kept : (j : ℕ) → lo ≤ j → j < hi → (a : A) → P a → P (h j a))

@@ -1,5 +1,5 @@
 -- Column by column, as lu.rs goes, or row by row, as the code does: for any lawful kind of matrix a pass leaves the same (`rows-first`);
--- `by-rows` says so of a whole pass.
+-- `by-rows` says so of a whole pass. Nor does it matter that a row ends where only idle multipliers follow (`row-early`).
 -- A turn at row i, column j writes that entry alone and reads, besides it, column k and row k, which no turn writes. So turns in two columns may
 -- change places, and so may a turn and the exchange of two entries in another column: first all exchanges, then all turns, in either order.
 use Prim.Native.Nat.{ℕ, _+_, _*_, _≤_, _<_}
@@ -12,8 +12,8 @@ use borrow.Author.Tests.{eqb-true}
 use Rattle.words.specs.Loop.{loop, pick}
 use Rattle.words.proofs.Branch.{pick-all}
 use Rattle.matrix.specs.Elimination.{Kind, swapped, scaledAt, columnAt, eliminated}
-use Rattle.matrix.specs.Reordered.{cellAt, rowAt}
-use Rattle.matrix.proofs.Interchange.{past, split, across, alike, through}
+use Rattle.matrix.specs.Reordered.{cellAt, rowAt, IdleFrom}
+use Rattle.matrix.proofs.Interchange.{past, split, across, alike, through, early}
 use Rattle.matrix.proofs.Cells.{Lawful, columns-apart, rows-apart}
 
 -- an act on a branch's state, where it may change places with the branch's other side
@@ -54,6 +54,34 @@ module _ {A E : Type 0} (kind : Kind A E) (P : ℕ → A → Type 0) (entry : E 
         (ev ∙ ap (λ (x : E). entry x t y) (sym ex) ∙ ap (λ (t : E). entry (kind .at s n i k) t y) et
         ∙ ap (entry (kind .at s n i k) (kind .at s n k j)) ey),
   )
+
+  -- ---- a row that ends early
+
+  module _ (end i : ℕ) (ki : k < i) where
+    -- no turn writes row k
+    turns-idle : (hi : ℕ) → k + 1 ≤ hi → (a : A) → IdleFrom kind entry n k end a → IdleFrom kind entry n k end (loop (cellAt kind entry n k i) (k + 1) hi a)
+    unfolding cellAt
+    turns-idle hi low =
+        through (IdleFrom kind entry n k end) (cellAt kind entry n k i) (k + 1) hi low
+        (λ j l₁ l₂ s q. record {
+          low = q .low;
+          high = q .high;
+          still = λ c l u x y. ap (λ (t : E). entry x t y) (law .other s n i j k c (value i j s) (rows-apart n k c i j u ki)) ∙ q .still c l u x y;
+        })
+
+    pub row-idle : (a : A) → IdleFrom kind entry n k end a → IdleFrom kind entry n k end (rowAt kind entry n k i a)
+    unfolding rowAt
+    row-idle = turns-idle n (omega arith)
+
+    idle-turn : (j : ℕ) → end ≤ j → j < n → (a : A) → IdleFrom kind entry n k end a → cellAt kind entry n k i j a ≡ a
+    unfolding cellAt
+    idle-turn j l u a q = ap (kind .put a n i j) (q .still j l u (kind .at a n i k) (kind .at a n i j)) ∙ law .back a n i j
+
+    pub row-early : (a : A) → IdleFrom kind entry n k end a → loop (cellAt kind entry n k i) (k + 1) end a ≡ rowAt kind entry n k i a
+    unfolding rowAt
+    row-early a q =
+        early (cellAt kind entry n k i) (k + 1) end n (q .low) (q .high) a
+        (λ j l u. idle-turn j l u (loop (cellAt kind entry n k i) (k + 1) end a) (turns-idle end (q .low) a q))
 
   -- ---- two turns, in two columns
 

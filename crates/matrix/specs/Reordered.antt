@@ -1,8 +1,10 @@
 -- Where this port's code goes another way than lu.rs and linear.rs, which no offered contract speaks of:
---     a real update goes row by row, along contiguous memory, where lu.rs goes column by column (proofs/Rows.antt: the matrix is the same)
+--     a real update goes row by row, along contiguous memory, where lu.rs goes column by column, and past the last multiplier that is not zero it
+--     doesn't go at all (proofs/Rows.antt: the matrix is the same)
 --     a complex update is one loop that asks for the multiplier's case in each turn, where lu.rs has three loops (proofs/Cases.antt: the same)
 --     a real back phase goes row by row, where linear.rs goes column by column (proofs/Backward.antt: the right side is the same)
-use Prim.Native.Nat.{ℕ, _+_, _-_}
+use Prim.Native.Nat.{ℕ, _+_, _-_, _≤_, _<_}
+use mathlib.Core.Path.{_≡_}
 use mathlib.Core.List.{List}
 use lib.ListN.{set}
 use lib.Ieee.{Float, neg, eq, ne}
@@ -21,6 +23,12 @@ module _ {A E : Type 0} (kind : Kind A E) (entry : E → E → E → E) (n k : �
 
   unfoldable pub rowAt : ℕ → A → A
   rowAt i a = loop (cellAt i) (k + 1) n a
+
+-- from column `end` on, row k's entries as multipliers change nothing
+pub record IdleFrom {A E : Type 0} (kind : Kind A E) (entry : E → E → E → E) (n k end : ℕ) (a : A) : Type 0 where
+  pub low : k + 1 ≤ end
+  pub high : end ≤ n
+  pub still : (j : ℕ) → end ≤ j → j < n → (x y : E) → entry x (kind .at a n k j) y ≡ y
 
 -- a real entry (lu.rs:113-115)
 unfoldable pub addedOf : Float → Float → Float → Float

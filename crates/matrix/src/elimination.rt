@@ -1,5 +1,6 @@
 // The elimination of `lu_decomp` (lu.rs:55-126), on a matrix and pivots whose lengths were tested. Loop by loop as in lu.rs, but for the update of the
-// rest of the matrix: it goes along the rows, which lie in one piece, and leaves what lu.rs leaves (proofs/Rows.antt).
+// rest of the matrix: it goes along the rows, which lie in one piece, up to the last multiplier that is not zero, and leaves what lu.rs leaves
+// (proofs/Rows.antt).
 use crate::answers::Decomposed;
 use crate::entry::at;
 use crate::entry::put;
@@ -14,7 +15,7 @@ ghost use Rattle.matrix.specs.Answers.{nowhere, decomposition};
 ghost use Rattle.matrix.specs.Answers as answers;
 ghost use Rattle.matrix.specs.Elimination.{work, pivotRow, swapped, scaledAt, eliminated, passed, passAt, lastTested, worked, answered};
 ghost use Rattle.matrix.specs.Lu.{real};
-ghost use Rattle.matrix.specs.Reordered.{addedOf, rowAt};
+ghost use Rattle.matrix.specs.Reordered.{IdleFrom, addedOf, rowAt};
 
 // The row, from k on, of the largest entry of column k: the first of them.
 pub fn find_pivot(n: usize, a: &[f64], k: usize) -> usize
@@ -82,14 +83,31 @@ pub fn added(x: f64, t: f64, y: f64) -> f64
     y
 }
 
-// From column k + 1 on, row i gains row k times its own entry in column k.
-pub fn update_row(n: usize, a: &mut [f64], k: usize, i: usize)
+// One more than the last column past k whose multiplier is not zero; k + 1 where there is none. From the right: without zeros it is found at once.
+fn multipliers_end(n: usize, a: &[f64], k: usize) -> usize
     requires { ⌜ Square n (now a) ⌝ }
-    requires { ⌜ (k < n) × (i < n) ⌝ }
+    requires { ⌜ k < n ⌝ }
+    ensures { λ r. ⌜ IdleFrom real addedOf n k r (now (a .entry)) ⌝ }
+{
+    let mut end = n;
+    while k + 1 < end {
+        if at(n, a, k, end - 1) != 0.0 {
+            return end;
+        }
+        end -= 1;
+    }
+    end
+}
+
+// From column k + 1 on, up to `end`, row i gains row k times its own entry in column k. Past `end` it would gain nothing.
+fn update_row(n: usize, a: &mut [f64], k: usize, i: usize, end: usize)
+    requires { ⌜ Square n (now a) ⌝ }
+    requires { ⌜ (k < i) × (i < n) ⌝ }
+    requires { ⌜ IdleFrom real addedOf n k end (now a) ⌝ }
     ensures { λ _. ⌜ now (a .exit) ≡ rowAt real addedOf n k i (now (a .entry)) ⌝ }
 {
     let x = at(n, a, i, k);
-    for j in k + 1..n {
+    for j in k + 1..end {
         let y = added(x, at(n, a, k, j), at(n, a, i, j));
         put(n, a, i, j, y);
     }
@@ -100,8 +118,9 @@ pub fn update_rows(n: usize, a: &mut [f64], k: usize)
     requires { ⌜ k < n ⌝ }
     ensures { λ _. ⌜ now (a .exit) ≡ loop (rowAt real addedOf n k) (k + 1) n (now (a .entry)) ⌝ }
 {
+    let end = multipliers_end(n, a, k);
     for i in k + 1..n {
-        update_row(n, a, k, i);
+        update_row(n, a, k, i, end);
     }
 }
 
