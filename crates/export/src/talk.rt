@@ -1,6 +1,7 @@
 // What a run and its host say to each other, as numbers.
 use crate::choices::flag_word;
 use crate::pack::packed;
+use opening::admission::asking_at;
 use state::refusal_number;
 use state::run::Stage;
 use state::status_number;
@@ -87,21 +88,8 @@ fn tell_points(request: Request, at: &mut [f64; 2])
 fn report_is_open(stage: Stage) -> bool
     ensures { λ r. ⌜ r ≡ askingAt stage .report ⌝ }
 {
-    match stage {
-        Stage::FirstDerivative => false,
-        Stage::FirstReport => true,
-        Stage::FirstDerivativeAgain => false,
-        Stage::Jacobian => false,
-        Stage::Column(_) => false,
-        Stage::Newton1 => false,
-        Stage::Newton2 => false,
-        Stage::Newton3 => false,
-        Stage::Refinement => false,
-        Stage::Accepted => false,
-        Stage::Report => true,
-        Stage::DerivativeAgain => false,
-        Stage::Ended(_) => false,
-    }
+    let asked = asking_at(stage);
+    asked.report
 }
 
 pub fn reply_of(stage: Stage, reply: u64, value: f64) -> Reply

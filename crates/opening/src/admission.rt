@@ -37,7 +37,8 @@ fn entry(ended: bool, report: bool, column: usize) -> Asking
     }
 }
 
-fn asking_at(stage: Stage) -> Asking
+// What is asked at each stage, for whoever holds a run.
+pub fn asking_at(stage: Stage) -> Asking
     ensures { λ r. ⌜ r ≡ askingAt stage ⌝ }
 {
     match stage {
