@@ -2,13 +2,13 @@
 use mathlib.Core.Path.{_≡_, refl, sym, ap, subst, _∙_}
 use mathlib.Core.Bool.{Bool, true, false, not, _&&_, _||_, and-assoc, and-true, or-false}
 use mathlib.Core.List.{List, [], _∷_, _++_}
-use Prim.Native.Nat.{ℕ, zero, suc, _+_, _%_, _^_, _<_, _≤_, zero-le}
+use Prim.Native.Nat.{ℕ, suc, _+_, _%_, _^_, _<_, _≤_, zero-le}
 use native.Mathlib.Omega.{arith}
 use lib.Dec.{T, eqb, ltb, leb}
 use lib.Ieee.{Float, nan, inf, fin, binary64, isNan, ne, toBits}
 use lib.Ieee.Bits.{is-false, nanBits-is, nanBits-above, toBits-ofBits}
 use lib.Ieee.Compare.{differs-from-itself}
-use lib.ListN.{length, take, drop, getD}
+use lib.ListN.{length, take, drop}
 use borrow.Author.Tests.{ltb-true, ltb-false, lt-ltb, le-ltb, le-leb, lt-leb, eqb-true, eqb-false, eq-eqb, ne-eqb}
 use Rattle.words.specs.Words.{double}
 use Rattle.words.specs.Loop.{pick}
@@ -26,7 +26,7 @@ use Rattle.state.specs.Numbers.{statusNumber}
 use Rattle.state.specs.Settings.{orNone}
 use Rattle.export.specs.Choices.{flagOf, flagWord, numberOf, numberTag, numberWord, wholeOf, wholeTag, massOf, massWord, sourceOf, sourceWord, ruleOf, ruleWord, tolerancesOf, tolerancesTag, rtolWord, atolWord}
 use Rattle.export.specs.State.{settingsWords, shapeWords, fixedWords, countsWords, controlWords, numbersWords, stageTag, stageWord, stageWords, packOf, wordAt, settingsRead, shapeRead, fixedRead, countsRead, controlRead, numbersRead, statusRead, stageRead, runRead, sameWords}
-use Rattle.export.proofs.Words.{is-same}
+use Rattle.export.proofs.Words.{is-same, part, is-all}
 
 -- ---- floats
 
@@ -215,18 +215,6 @@ module _ {b c : Bool} (h : b ≡ c) where
 
 -- ---- the groups
 
-abbrev listed : (ℕ → ℕ) → ℕ → List ℕ
-listed f zero = []
-listed f (suc n) = f 0 ∷ listed (λ k. f (suc k)) n
-
-is-listed : (w : List ℕ) → listed (λ k. getD w k 0) (length w) ≡ w
-is-listed [] = refl
-is-listed (x ∷ w) = ap (λ (v : List ℕ). x ∷ v) (is-listed w)
-
--- n words from k on, each named
-abbrev part : List ℕ → ℕ → ℕ → List ℕ
-part w k n = listed (λ (j : ℕ). wordAt w (k + j)) n
-
 joined : (a b c d : List ℕ) → length a ≡ length c → sameWords (a ++ b) (c ++ d) ≡ (sameWords a c && sameWords b d)
 unfolding sameWords
 joined [] b [] d e = refl
@@ -243,12 +231,9 @@ grouped : (a b c d : List ℕ) {p q : Bool} → length a ≡ length c → p ≡ 
 grouped a b c d e hp hq = (λ i. hp i && hq i) ∙ sym (joined a b c d e)
 
 module _ (w : List ℕ) (many : length w ≡ 67) where
-  is-all : part w 0 67 ≡ w
-  is-all = ap (listed (wordAt w)) (sym many) ∙ is-listed w
-
   -- a group is compared word by word
   named : {b : Bool} (cut : List ℕ → List ℕ) (group : List ℕ) → b ≡ sameWords (cut (part w 0 67)) group → b ≡ sameWords (cut w) group
-  named cut group h = h ∙ ap (λ (v : List ℕ). sameWords (cut v) group) is-all
+  named cut group h = h ∙ ap (λ (v : List ℕ). sameWords (cut v) group) (is-all w many)
 
   pub settings-are :
       {a b c d e f g p q r t : Bool}
@@ -343,4 +328,4 @@ module _ (w : List ℕ) (many : length w ≡ 67) where
         → e ≡ sameWords (wordAt w 65 ∷ wordAt w 66 ∷ []) (stageWords (stageRead (wordAt w 65) (wordAt w 66)))
         → (a && b && c && d && e) ≡ sameWords w (packOf (runRead w))
     unfolding Whole
-    canonical-is = subst Whole is-all all-whole
+    canonical-is = subst Whole (is-all w many) all-whole

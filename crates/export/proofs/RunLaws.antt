@@ -1,13 +1,15 @@
 -- What the exported calls answer, from what the calls within them ensure.
-use mathlib.Core.Path.{_≡_, sym, ap, _∙_}
-use mathlib.Core.List.{List}
+use mathlib.Core.Path.{_≡_, refl, sym, ap, _∙_}
+use mathlib.Core.List.{List, _++_}
 use Prim.Native.Nat.{ℕ}
 use lib.Ieee.{Float}
+use lib.ListN.{length}
 use Rattle.state.specs.declared.settings.Settings.{Settings}
 use Rattle.state.specs.declared.run.Run.{Run}
 use Rattle.state.specs.declared.run.Tolerances.{Tolerances}
 use Rattle.state.specs.declared.talk.Opened.{Opened}
 use Rattle.state.specs.declared.talk.Answer.{Answer}
+use Rattle.state.specs.declared.talk.Answer.the-variants as answer
 use Rattle.state.specs.declared.talk.Reply.{Reply}
 use Rattle.state.specs.declared.talk.Result.{Result}
 use Rattle.state.specs.Memory.{Memory}
@@ -17,8 +19,35 @@ use Rattle.opening.specs.Opening as opened
 use Rattle.blocks.specs.Advance as advanced
 use Rattle.export.specs.declared.unpack.Unpacked.{Unpacked}
 use Rattle.export.specs.declared.unpack.Unpacked.the-variants as unpacked
-use Rattle.export.specs.State.{unpackOf}
-use Rattle.export.specs.Talk.{replyOf, Crossed, crossed, ofOpened, ofAnswer, left, openLeft, advanceBy, advanceLeft, Ended, ended, ofResult, resultBy, resultLeft}
+use Rattle.export.specs.State.{settingsWords, shapeWords, fixedWords, movingWords, packOf, movedTo, unpackOf}
+use Rattle.export.specs.Talk.{toldOf, atOf, replyOf, Crossed, crossed, ofOpened, ofAnswer, writtenOf, left, openLeft, advanceBy, advanceLeft, Ended, ended, ofResult, resultBy, resultLeft}
+use Rattle.export.proofs.StateTheorems.{unpacked-exactly}
+use Rattle.export.proofs.Kept.{Kept, advance-kept}
+
+-- ---- an advance writes no more than what it moves
+
+kept-moves : (r q : Run) → Kept r q → movedTo q (packOf r) ≡ packOf q
+unfolding packOf
+kept-moves r q k = sym (λ i. settingsWords (k .0 i) ++ (shapeWords (k .1 .0 i) ++ (fixedWords (k .1 .1 i) ++ movingWords q)))
+
+-- words that are taken for a run are what it packs to
+module _ (state : List ℕ) (r : Run) (u : Unpacked) (is : u ≡ unpackOf state) (h : u ≡ unpacked.Run r) where
+  are-packed : state ≡ packOf r
+  are-packed = unpacked-exactly state r .0 (sym is ∙ h) .0
+
+  pub are-many : length state ≡ 67
+  unfolding packOf
+  are-many = ap length are-packed
+
+  -- so what is written over them is what is answered
+  written-is : (p : Reply) (m : Memory) (a : Answer) (told : List ℕ) (at : List Float) → a ≡ advanced.advanceOf r p m .core .answer → writtenOf a state told at ≡ ofAnswer a state told at
+  unfolding writtenOf ofAnswer
+  written-is p m (answer.Asked q x place) told at e =
+      let whole = ap (movedTo q) are-packed ∙ kept-moves r q (advance-kept r p m q x place (sym e)) in
+      λ i. crossed 0 (whole i) (toldOf x place) (atOf x)
+  written-is p m (answer.Refused q x) told at e = refl
+
+-- ---- the calls
 
 module _ (state told : List ℕ) (at : List Float) where
   pub open-left :
@@ -44,12 +73,12 @@ module _ (state told : List ℕ) (at : List Float) where
         → u ≡ unpacked.Run r
         → p ≡ replyOf (r .stage) k value
         → advanced.outcome a m′ ≡ advanced.advanceOf r p m .core
-        → z ≡ ofAnswer a state told at
+        → z ≡ writtenOf a state told at
         → left z m′ ≡ advanceLeft k value state told at m
     unfolding advanceBy
-    advance-run r m m′ h hp ho hz =
+    advance-run {p} {a} r m m′ h hp ho hz =
         let o = ho ∙ (λ i. advanced.advanceOf r (hp i) m .core) in
-        let q = hz ∙ ap (λ (v : advanced.Outcome). ofAnswer (v .answer) state told at) o in
+        let q = hz ∙ written-is state r u is h p m a told at (ap (λ (v : advanced.Outcome). v .answer) ho) ∙ ap (λ (v : advanced.Outcome). ofAnswer (v .answer) state told at) o in
         (λ i. left (q i) (o i .memory)) ∙ ap (λ (v : Unpacked). advanceBy v k value state told at m) (sym h ∙ is)
 
 module _ (state numbers : List ℕ) (floats : List Float) (u : Unpacked) (is : u ≡ unpackOf state) where

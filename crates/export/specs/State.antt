@@ -4,7 +4,7 @@ use Prim.Native.Nat.{ℕ}
 use mathlib.Core.Bool.{Bool, true, false, _&&_}
 use mathlib.Core.List.{List, [], _∷_, _++_}
 use lib.Dec.{eqb, T}
-use lib.ListN.{getD}
+use lib.ListN.{getD, take}
 use lib.Ieee.{Float, binary64, fits}
 use Rattle.words.specs.Words.{double}
 use Rattle.words.specs.Loop.{pick}
@@ -144,15 +144,20 @@ stageWord (stage.Ended s) = statusNumber s
 abbrev pub stageWords : Stage → List ℕ
 stageWords s = stageTag s ∷ stageWord s ∷ []
 
+-- what a run is opened with, and an advance keeps: 37 words
+abbrev pub keptWords : Run → List ℕ
+keptWords r = settingsWords (r .settings) ++ (shapeWords (r .shape) ++ fixedWords (r .fixed))
+
+-- what an advance moves: 30 words
+abbrev pub movingWords : Run → List ℕ
+movingWords r = countsWords (r .counts) ++ (controlWords (r .control) ++ (numbersWords (r .numbers) ++ stageWords (r .stage)))
+
 unfoldable pub packOf : Run → List ℕ
-packOf r =
-    settingsWords (r .settings)
-    ++ (shapeWords (r .shape)
-    ++ (fixedWords (r .fixed)
-    ++ (countsWords (r .counts)
-    ++ (controlWords (r .control)
-    ++ (numbersWords (r .numbers)
-    ++ stageWords (r .stage))))))
+packOf r = keptWords r ++ movingWords r
+
+-- words of which the first 37 stand as they are, and the others are those of the run
+abbrev pub movedTo : Run → List ℕ → List ℕ
+movedTo r w = take 37 w ++ movingWords r
 
 -- ---- read, whatever the words hold
 

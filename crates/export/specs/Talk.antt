@@ -34,7 +34,7 @@ use Rattle.blocks.specs.Advance.{advanceOf}
 use Rattle.export.specs.declared.unpack.Unpacked.{Unpacked}
 use Rattle.export.specs.declared.unpack.Unpacked.the-variants as unpacked
 use Rattle.export.specs.Choices.{flagOf, flagWord, numberOf, wholeOf, massOf, sourceOf, ruleOf, tolerancesOf}
-use Rattle.export.specs.State.{wordAt, packOf, unpackOf}
+use Rattle.export.specs.State.{wordAt, packOf, movedTo, unpackOf}
 
 -- ---- the settings, as 17 numbers and 8 floats
 
@@ -129,6 +129,11 @@ ofOpened (opened.Refused x) state told at = crossed (refusalNumber x) state told
 unfoldable pub ofAnswer : Answer → List ℕ → List ℕ → List Float → Crossed
 ofAnswer (answer.Asked r q p) state told at = askedOf r q p
 ofAnswer (answer.Refused r x) state told at = crossed (refusalNumber x) state told at
+
+-- the same as it is written: the words that an advance keeps stand as they are. Over those of the run that was advanced it is `ofAnswer` (RunLaws.antt)
+unfoldable pub writtenOf : Answer → List ℕ → List ℕ → List Float → Crossed
+writtenOf (answer.Asked r q p) state told at = crossed 0 (movedTo r state) (toldOf q p) (atOf q)
+writtenOf (answer.Refused r x) state told at = crossed (refusalNumber x) state told at
 
 -- all that, with the lent memory
 pub record Left : Type 0 where

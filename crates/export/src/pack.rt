@@ -1,4 +1,4 @@
-// A run is written as 67 words, group by group.
+// A run is written as 67 words, group by group. An advance keeps three groups of the seven, so after it the other four are written alone.
 use crate::choices::atol_word;
 use crate::choices::flag_word;
 use crate::choices::mass_word;
@@ -24,7 +24,7 @@ ghost use mathlib.Core.Path.{_≡_};
 ghost use Prim.Native.Nat.{_+_, _≤_};
 ghost use lib.ListN.{length};
 ghost use lib.Seq.{paste};
-ghost use Rattle.export.specs.State.{settingsWords, shapeWords, fixedWords, countsWords, controlWords, numbersWords, stageTag, stageWord, stageWords, packOf};
+ghost use Rattle.export.specs.State.{settingsWords, shapeWords, fixedWords, countsWords, controlWords, numbersWords, stageTag, stageWord, stageWords, packOf, movedTo};
 
 fn settings_words(s: Settings) -> [u64; 25]
     ensures { λ r. ⌜ r ≡ settingsWords s ⌝ }
@@ -196,6 +196,21 @@ fn put(words: &mut [u64], at: usize, part: &[u64])
     }
 }
 
+// Writes the groups that an advance moves, and leaves the other words as they are.
+pub fn put_moving(run: Run, words: &mut [u64; 67])
+    requires { ⌜ length (now words) ≡ 67 ⌝ }
+    ensures { λ _. ⌜ now (words .exit) ≡ movedTo run (now (words .entry)) ⌝ }
+{
+    let counts = run.counts;
+    let control = run.control;
+    let numbers = run.numbers;
+    let stage = run.stage;
+    put(words, 37, &counts_words(counts));
+    put(words, 43, &control_words(control));
+    put(words, 50, &numbers_words(numbers));
+    put(words, 65, &stage_words(stage));
+}
+
 // The words of a run.
 pub fn packed(run: Run) -> [u64; 67]
     ensures { λ r. ⌜ r ≡ packOf run ⌝ }
@@ -203,17 +218,10 @@ pub fn packed(run: Run) -> [u64; 67]
     let settings = run.settings;
     let shape = run.shape;
     let fixed = run.fixed;
-    let counts = run.counts;
-    let control = run.control;
-    let numbers = run.numbers;
-    let stage = run.stage;
     let mut words = [0u64; 67];
     put(&mut words, 0, &settings_words(settings));
     put(&mut words, 25, &shape_words(shape));
     put(&mut words, 29, &fixed_words(fixed));
-    put(&mut words, 37, &counts_words(counts));
-    put(&mut words, 43, &control_words(control));
-    put(&mut words, 50, &numbers_words(numbers));
-    put(&mut words, 65, &stage_words(stage));
+    put_moving(run, &mut words);
     words
 }

@@ -1,6 +1,7 @@
 // What a run and its host say to each other, as numbers.
 use crate::choices::flag_word;
 use crate::pack::packed;
+use crate::pack::put_moving;
 use opening::admission::asking_at;
 use state::refusal_number;
 use state::run::Stage;
@@ -13,8 +14,9 @@ use state::talk::Reply;
 use state::talk::Request;
 use state::talk::Result;
 ghost use mathlib.Core.Path.{_≡_};
+ghost use lib.ListN.{length};
 ghost use Rattle.opening.specs.Admission.{askingAt};
-ghost use Rattle.export.specs.Talk.{kindNumber, placeNumber, requestFlag, toldOf, atOf, replyOf, crossed, ofOpened, ofAnswer, ended, endNumbers, ofResult};
+ghost use Rattle.export.specs.Talk.{kindNumber, placeNumber, requestFlag, toldOf, atOf, replyOf, crossed, ofOpened, writtenOf, ended, endNumbers, ofResult};
 
 fn kind_number(request: Request) -> u64
     ensures { λ r. ⌜ r ≡ kindNumber request ⌝ }
@@ -130,20 +132,20 @@ pub fn tell_opened(
     }
 }
 
-// Writes what an advance answers.
+// Writes what an advance answers, over the words of the run that was advanced: those that it keeps are not written again.
 pub fn tell_answer(
     answer: Answer,
     state: &mut [u64; 67],
     told: &mut [u64; 3],
     at: &mut [f64; 2],
 ) -> u64
-    ensures { λ r. ⌜ crossed r (now (state .exit)) (now (told .exit)) (now (at .exit)) ≡ ofAnswer answer (now (state .entry)) (now (told .entry)) (now (at .entry)) ⌝ }
+    requires { ⌜ length (now state) ≡ 67 ⌝ }
+    ensures { λ r. ⌜ crossed r (now (state .exit)) (now (told .exit)) (now (at .exit)) ≡ writtenOf answer (now (state .entry)) (now (told .entry)) (now (at .entry)) ⌝ }
 {
     match answer {
         Answer::Refused(_, refusal) => refusal_number(refusal),
         Answer::Asked(run, request, place) => {
-            let words = packed(run);
-            *state = words;
+            put_moving(run, state);
             tell(request, place, told);
             tell_points(request, at);
             0

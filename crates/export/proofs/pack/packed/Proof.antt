@@ -1,4 +1,4 @@
--- `packed` meets its contract.
+-- `packed` meets its contract: three groups are put, and the others over them.
 use Rattle.export.proofs.PackLaws.{packed}
 use borrow.Author.Needs.{needs}
 use Rattle.export.proofs.pack.packed.Statement.{statement}
@@ -6,21 +6,14 @@ use Rattle.export.proofs.pack.packed.Tie as tie
 
 returns : tie.Need-returns
 returns c =
-    packed (c .before .before .before .before .before .before .before .before .before .before .before .before .before .before .before .before .before .before .before .before .before .before .before .before .before .before .before .before .before .before .before .before .before .before .before .before .before .before .before .before .before .args .run) _ _ _ _ _ _ _ _ _ _ _ _ _ _
-    (c .before .before .before .before .before .before .before .before .before .before .before .before .before .before .before .before .before .before .before .before .before .before .before .before .before .before .before .before .before .before .before .before .before .settings-words .ensures)
-    (c .before .before .before .before .before .before .before .before .before .before .before .before .before .before .before .before .before .before .before .before .before .before .before .before .before .before .before .before .shape-words .ensures)
-    (c .before .before .before .before .before .before .before .before .before .before .before .before .before .before .before .before .before .before .before .before .before .before .before .fixed-words .ensures)
-    (c .before .before .before .before .before .before .before .before .before .before .before .before .before .before .before .before .before .before .counts-words .ensures)
-    (c .before .before .before .before .before .before .before .before .before .before .before .before .before .control-words .ensures)
-    (c .before .before .before .before .before .before .before .before .numbers-words .ensures)
-    (c .before .before .before .stage-words .ensures)
-    (c .before .before .before .before .before .before .before .before .before .before .before .before .before .before .before .before .before .before .before .before .before .before .before .before .before .before .before .before .before .before .before .put .ensures)
-    (c .before .before .before .before .before .before .before .before .before .before .before .before .before .before .before .before .before .before .before .before .before .before .before .before .before .before .put2 .ensures)
-    (c .before .before .before .before .before .before .before .before .before .before .before .before .before .before .before .before .before .before .before .before .before .put3 .ensures)
-    (c .before .before .before .before .before .before .before .before .before .before .before .before .before .before .before .before .put4 .ensures)
-    (c .before .before .before .before .before .before .before .before .before .before .before .put5 .ensures)
-    (c .before .before .before .before .before .before .put6 .ensures)
-    (c .before .put7 .ensures)
+    packed (c .before .before .before .before .before .before .before .before .before .before .before .before .before .before .before .before .before .before .before .before .args .run) _ _ _ _ _ _ _
+    (c .before .before .before .before .before .before .before .before .before .before .before .before .before .before .before .settings-words .ensures)
+    (c .before .before .before .before .before .before .before .before .before .before .shape-words .ensures)
+    (c .before .before .before .before .before .fixed-words .ensures)
+    (c .before .before .before .before .before .before .before .before .before .before .before .before .before .put .ensures)
+    (c .before .before .before .before .before .before .before .before .put2 .ensures)
+    (c .before .before .before .put3 .ensures)
+    (c .put-moving .ensures)
 
 pub packed-spec : {M : Type 1} → statement M
-packed-spec = tie.close (tie.spec (λ c. search needs) (λ c κs. search needs) (λ c. search needs) (λ c κs. search needs) (λ c. search needs) (λ c κs. search needs) (λ c. search needs) (λ c κs. search needs) (λ c. search needs) (λ c κs. search needs) (λ c. search needs) (λ c κs. search needs) (λ c. search needs) (λ c κs. search needs) (λ c. search needs) (λ c κs. search needs) (λ c. search needs) (λ c κs. search needs) (λ c. search needs) (λ c κs. search needs) (λ c. search needs) (λ c κs. search needs) (λ c. search needs) (λ c κs. search needs) (λ c. search needs) (λ c κs. search needs) (λ c. search needs) (λ c κs. search needs) returns)
+packed-spec = tie.close (tie.spec (λ c. search needs) (λ c κs. search needs) (λ c. search needs) (λ c κs. search needs) (λ c. search needs) (λ c κs. search needs) (λ c. search needs) (λ c κs. search needs) (λ c. search needs) (λ c κs. search needs) (λ c. search needs) (λ c κs. search needs) (λ c κs. search needs) returns)

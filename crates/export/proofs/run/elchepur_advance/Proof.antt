@@ -1,6 +1,6 @@
--- `elchepur_advance` meets its contract: words that are no state are refused, else the advance is told.
+-- `elchepur_advance` meets its contract: words that are no state are refused, else the advance is told over them.
 use Rattle.state.specs.Memory.{Memory, memory, amounts, newton, given, factors, differences}
-use Rattle.export.proofs.RunLaws.{advance-not, advance-run}
+use Rattle.export.proofs.RunLaws.{are-many, advance-not, advance-run}
 use borrow.Author.Needs.{needs}
 use Rattle.export.proofs.run.elchepur_advance.Statement.{statement}
 use Rattle.export.proofs.run.elchepur_advance.Tie as tie
@@ -13,14 +13,24 @@ abbrev memory-left : (c : tie.After-advance) → Memory
 memory-left c = let l = c .advance .last in let a = c .before .before .before .before .before .before .before .before .before .before .before .before .before .before .before .before .before .before .before .before .before .before .before .before .before .before .before .before .before .before .before .before .before .before .before .before .before .before .before .before .before .before .before .before .before .before .before .args in memory (amounts (l .1 .0) (a .f0 .now) (l .1 .1 .1 .0) (l .1 .1 .1 .1 .0)) (newton (l .1 .1 .1 .1 .1 .0) (l .1 .1 .1 .1 .1 .1 .0) (l .1 .1 .1 .1 .1 .1 .1 .0) (l .1 .1 .1 .1 .1 .1 .1 .1 .0) (l .1 .1 .1 .1 .1 .1 .1 .1 .1 .0) (l .1 .1 .1 .1 .1 .1 .1 .1 .1 .1 .0)) (given (a .rtol .now) (a .atol .now) (a .mass .now) (l .1 .1 .1 .1 .1 .1 .1 .1 .1 .1 .1 .1 .1 .1 .0)) (factors (l .1 .1 .1 .1 .1 .1 .1 .1 .1 .1 .1 .1 .1 .1 .1 .0) (l .1 .1 .1 .1 .1 .1 .1 .1 .1 .1 .1 .1 .1 .1 .1 .1 .0) (l .1 .1 .1 .1 .1 .1 .1 .1 .1 .1 .1 .1 .1 .1 .1 .1 .1 .0) (l .1 .1 .1 .1 .1 .1 .1 .1 .1 .1 .1 .1 .1 .1 .1 .1 .1 .1 .0) (l .1 .1 .1 .1 .1 .1 .1 .1 .1 .1 .1 .1 .1 .1 .1 .1 .1 .1 .1 .0)) (differences (l .1 .1 .1 .1 .1 .1 .1 .1 .1 .1 .1 .1 .1 .1 .1 .1 .1 .1 .1 .1 .0) (l .1 .1 .1 .1 .1 .1 .1 .1 .1 .1 .1 .1 .1 .1 .1 .1 .1 .1 .1 .1 .1 .0) (l .1 .1 .1 .1 .1 .1 .1 .1 .1 .1 .1 .1 .1 .1 .1 .1 .1 .1 .1 .1 .1 .1 .0))
 
 -- the places on the way
+abbrev ready : (c : tie.After-tell-answer-arg3) → tie.After-advance
+ready c = c .before .before .before .before .before .before .before .before .before .before .before .before .before .before .before .before .before .before .before .before .before .before .before .before .before .before .before .before .before .before .before .before .before .before .before .before .before .before .before
+
 abbrev advanced : (c : tie.After-tell-answer) → tie.After-advance
-advanced c = c .before .before .before .before .before .before .before .before .before .before .before .before .before .before .before .before .before .before .before .before .before .before .before .before .before .before .before .before .before .before .before .before .before .before .before .before .before .before .before .before
+advanced c = ready (c .before)
 
 abbrev taken : (c : tie.After-advance) → tie.After-run
 taken c = c .before .before .before .before .before .before .before .before .before .before .before .before .before .before .before .before .before .before .before .before .before
 
 abbrev start : (c : tie.After-unpack) → tie.Start
 start c = c .before .before .before .before .before .before .before .before .before .before .before .before .before .before .before .before .before .before .before .before .before .before .before .before
+
+-- words that were taken for a run are 67
+tell-answer-requires : tie.Need-tell-answer-requires
+tell-answer-requires c κs =
+    let t = taken (ready c) in
+    let u = t .before .before in
+    are-many (start u .args .state .now) (t .run .given .0 .0) (u .unpack .result) (u .unpack .ensures) (t .run .given .1)
 
 returns : tie.Need-returns
 returns c =
@@ -95,4 +105,4 @@ returns-2 c =
     (c .tell-answer .ensures)
 
 pub elchepur-advance-spec : {M : Type 1} → statement M
-elchepur-advance-spec = tie.close (tie.spec (λ c κs. search needs) (λ c. search needs) (λ c. search needs) (λ c κs. search needs) (λ c κs. search needs) (λ c κs. search needs) returns same-length same-length-2 same-length-3 same-length-4 same-length-5 same-length-6 same-length-7 same-length-8 same-length-9 same-length-10 same-length-11 same-length-12 same-length-13 same-length-14 same-length-15 same-length-16 same-length-17 same-length-18 returns-2)
+elchepur-advance-spec = tie.close (tie.spec (λ c κs. search needs) (λ c. search needs) (λ c. search needs) (λ c κs. search needs) (λ c κs. search needs) tell-answer-requires returns same-length same-length-2 same-length-3 same-length-4 same-length-5 same-length-6 same-length-7 same-length-8 same-length-9 same-length-10 same-length-11 same-length-12 same-length-13 same-length-14 same-length-15 same-length-16 same-length-17 same-length-18 returns-2)
