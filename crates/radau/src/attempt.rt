@@ -1,9 +1,11 @@
 // An attempt begins (radau.rs:421-502).
 use crate::entries::combined;
+use crate::moving::Call;
+use crate::moving::Kept;
+use crate::moving::Moving;
 use crate::passes::at_stage;
 use crate::passes::ended;
 use crate::scale::weighted;
-use blocks::step::Call;
 use scalar::abs;
 use scalar::coefficients::C1;
 use scalar::coefficients::C1M1;
@@ -21,7 +23,6 @@ use scalar::coefficients::TI22;
 use scalar::four_fifths;
 use scalar::max;
 use state::parts::zero;
-use state::run::Run;
 use state::run::Stage;
 use state::run::Status;
 use state::talk::Place;
@@ -35,6 +36,7 @@ ghost use Rattle.words.specs.Loop.{loop};
 ghost use Rattle.state.specs.Memory.{newton, zeros};
 ghost use Rattle.blocks.specs.Attempt.{stageSumAt, staged, askStageOf, askFirstOf, guessed, guessAt, guessOf, begunAs, started, beganOf, attemptOf};
 ghost use Rattle.blocks.specs.Needs.{Fit, NewtonLong};
+ghost use Rattle.radau.specs.Moving.{whole, wholeCall};
 
 // cont[i] = y[i] + z[i]
 fn stage_sum(n: usize, y: &[f64], z: &[f64], cont: &mut [f64])
@@ -48,7 +50,8 @@ fn stage_sum(n: usize, y: &[f64], z: &[f64], cont: &mut [f64])
 
 // A stage's derivative is asked at x, of the amounts y + z.
 pub fn ask_stage(
-    run: Run,
+    kept: Kept,
+    moving: Moving,
     stage: Stage,
     x: f64,
     place: Place,
@@ -56,29 +59,38 @@ pub fn ask_stage(
     z: &[f64],
     cont: &mut [f64],
 ) -> Call
-    requires { ⌜ Fit 1 (run .shape .n) run ⌝ }
-    requires { ⌜ (length (now y) ≡ run .shape .n) × (length (now z) ≡ run .shape .n) × (length (now cont) ≡ 4 * run .shape .n) ⌝ }
-    ensures { λ r. ⌜ staged r (now (cont .exit)) ≡ askStageOf run stage x place (now (y .entry)) (now (z .entry)) (now (cont .entry)) ⌝ }
+    requires { ⌜ Fit 1 (kept .shape .n) (whole kept moving) ⌝ }
+    requires { ⌜ (length (now y) ≡ kept .shape .n) × (length (now z) ≡ kept .shape .n) × (length (now cont) ≡ 4 * kept .shape .n) ⌝ }
+    ensures { λ r. ⌜ staged (wholeCall kept r) (now (cont .exit)) ≡ askStageOf (whole kept moving) stage x place (now (y .entry)) (now (z .entry)) (now (cont .entry)) ⌝ }
 {
-    let shape = run.shape;
+    let shape = kept.shape;
     stage_sum(shape.n, y, z, cont);
-    let mut s = run;
-    let ode = run.counts.ode + 1;
+    let mut s = moving;
+    let ode = moving.counts.ode + 1;
     s.counts.ode = ode;
     Call {
-        run: at_stage(s, stage),
+        moving: at_stage(s, stage),
         request: Request::Derivative(x),
         place,
     }
 }
 
-pub fn ask_first(run: Run, y: &[f64], z1: &[f64], cont: &mut [f64]) -> Call
-    requires { ⌜ Fit 1 (run .shape .n) run ⌝ }
-    requires { ⌜ (length (now y) ≡ run .shape .n) × (length (now z1) ≡ run .shape .n) × (length (now cont) ≡ 4 * run .shape .n) ⌝ }
-    ensures { λ r. ⌜ staged r (now (cont .exit)) ≡ askFirstOf run (now (y .entry)) (now (z1 .entry)) (now (cont .entry)) ⌝ }
+pub fn ask_first(kept: Kept, moving: Moving, y: &[f64], z1: &[f64], cont: &mut [f64]) -> Call
+    requires { ⌜ Fit 1 (kept .shape .n) (whole kept moving) ⌝ }
+    requires { ⌜ (length (now y) ≡ kept .shape .n) × (length (now z1) ≡ kept .shape .n) × (length (now cont) ≡ 4 * kept .shape .n) ⌝ }
+    ensures { λ r. ⌜ staged (wholeCall kept r) (now (cont .exit)) ≡ askFirstOf (whole kept moving) (now (y .entry)) (now (z1 .entry)) (now (cont .entry)) ⌝ }
 {
-    let x = run.numbers.x + C1 * run.numbers.h;
-    ask_stage(run, Stage::Newton1, x, Place::ContToZ1, y, z1, cont)
+    let x = moving.numbers.x + C1 * moving.numbers.h;
+    ask_stage(
+        kept,
+        moving,
+        Stage::Newton1,
+        x,
+        Place::ContToZ1,
+        y,
+        z1,
+        cont,
+    )
 }
 
 // One stage's increment from the last step's coefficients.
@@ -151,13 +163,13 @@ fn guess(
 }
 
 // The Newton iteration's numbers at its start.
-fn started(run: Run) -> Run
-    ensures { λ r. ⌜ r ≡ started run ⌝ }
+fn started(kept: Kept, moving: Moving) -> Moving
+    ensures { λ r. ⌜ whole kept r ≡ started (whole kept moving) ⌝ }
 {
-    let mut s = run;
-    let xph = run.numbers.x + run.numbers.h;
+    let mut s = moving;
+    let xph = moving.numbers.x + moving.numbers.h;
     s.numbers.xph = xph;
-    let faccon = four_fifths(max(run.numbers.faccon, run.settings.uround));
+    let faccon = four_fifths(max(moving.numbers.faccon, kept.settings.uround));
     s.numbers.faccon = faccon;
     let theta = abs(0.001);
     s.numbers.theta = theta;
@@ -167,7 +179,8 @@ fn started(run: Run) -> Run
 
 // Past the guards.
 fn began(
-    run: Run,
+    kept: Kept,
+    moving: Moving,
     y: &[f64],
     scal: &mut [f64],
     cont: &mut [f64],
@@ -178,13 +191,13 @@ fn began(
     f2: &mut [f64],
     f3: &mut [f64],
 ) -> Call
-    requires { ⌜ Fit 1 (run .shape .n) run ⌝ }
-    requires { ⌜ (length (now y) ≡ run .shape .n) × (length (now scal) ≡ run .shape .n) × (length (now cont) ≡ 4 * run .shape .n) × NewtonLong (run .shape .n) (newton (now z1) (now z2) (now z3) (now f1) (now f2) (now f3)) ⌝ }
-    ensures { λ r. ⌜ begunAs r (now (scal .exit)) (now (cont .exit)) (newton (now (z1 .exit)) (now (z2 .exit)) (now (z3 .exit)) (now (f1 .exit)) (now (f2 .exit)) (now (f3 .exit))) ≡ beganOf run (now (y .entry)) (now (scal .entry)) (now (cont .entry)) (newton (now (z1 .entry)) (now (z2 .entry)) (now (z3 .entry)) (now (f1 .entry)) (now (f2 .entry)) (now (f3 .entry))) ⌝ }
+    requires { ⌜ Fit 1 (kept .shape .n) (whole kept moving) ⌝ }
+    requires { ⌜ (length (now y) ≡ kept .shape .n) × (length (now scal) ≡ kept .shape .n) × (length (now cont) ≡ 4 * kept .shape .n) × NewtonLong (kept .shape .n) (newton (now z1) (now z2) (now z3) (now f1) (now f2) (now f3)) ⌝ }
+    ensures { λ r. ⌜ begunAs (wholeCall kept r) (now (scal .exit)) (now (cont .exit)) (newton (now (z1 .exit)) (now (z2 .exit)) (now (z3 .exit)) (now (f1 .exit)) (now (f2 .exit)) (now (f3 .exit))) ≡ beganOf (whole kept moving) (now (y .entry)) (now (scal .entry)) (now (cont .entry)) (newton (now (z1 .entry)) (now (z2 .entry)) (now (z3 .entry)) (now (f1 .entry)) (now (f2 .entry)) (now (f3 .entry))) ⌝ }
 {
-    let shape = run.shape;
-    let numbers = run.numbers;
-    let first = run.control.first;
+    let shape = kept.shape;
+    let numbers = moving.numbers;
+    let first = moving.control.first;
     weighted(shape, numbers.hhfac, scal);
     guess(
         first,
@@ -199,11 +212,12 @@ fn began(
         f2,
         f3,
     );
-    ask_first(started(run), y, z1, cont)
+    ask_first(kept, started(kept, moving), y, z1, cont)
 }
 
 pub fn attempt(
-    run: Run,
+    kept: Kept,
+    moving: Moving,
     y: &[f64],
     scal: &mut [f64],
     cont: &mut [f64],
@@ -214,18 +228,18 @@ pub fn attempt(
     f2: &mut [f64],
     f3: &mut [f64],
 ) -> Call
-    requires { ⌜ Fit 2 (run .shape .n) run ⌝ }
-    requires { ⌜ (length (now y) ≡ run .shape .n) × (length (now scal) ≡ run .shape .n) × (length (now cont) ≡ 4 * run .shape .n) × NewtonLong (run .shape .n) (newton (now z1) (now z2) (now z3) (now f1) (now f2) (now f3)) ⌝ }
-    ensures { λ r. ⌜ begunAs r (now (scal .exit)) (now (cont .exit)) (newton (now (z1 .exit)) (now (z2 .exit)) (now (z3 .exit)) (now (f1 .exit)) (now (f2 .exit)) (now (f3 .exit))) ≡ attemptOf run (now (y .entry)) (now (scal .entry)) (now (cont .entry)) (newton (now (z1 .entry)) (now (z2 .entry)) (now (z3 .entry)) (now (f1 .entry)) (now (f2 .entry)) (now (f3 .entry))) .core ⌝ }
+    requires { ⌜ Fit 2 (kept .shape .n) (whole kept moving) ⌝ }
+    requires { ⌜ (length (now y) ≡ kept .shape .n) × (length (now scal) ≡ kept .shape .n) × (length (now cont) ≡ 4 * kept .shape .n) × NewtonLong (kept .shape .n) (newton (now z1) (now z2) (now z3) (now f1) (now f2) (now f3)) ⌝ }
+    ensures { λ r. ⌜ begunAs (wholeCall kept r) (now (scal .exit)) (now (cont .exit)) (newton (now (z1 .exit)) (now (z2 .exit)) (now (z3 .exit)) (now (f1 .exit)) (now (f2 .exit)) (now (f3 .exit))) ≡ attemptOf (whole kept moving) (now (y .entry)) (now (scal .entry)) (now (cont .entry)) (newton (now (z1 .entry)) (now (z2 .entry)) (now (z3 .entry)) (now (f1 .entry)) (now (f2 .entry)) (now (f3 .entry))) .core ⌝ }
 {
-    let mut s = run;
-    let total = run.counts.total + 1;
+    let mut s = moving;
+    let total = moving.counts.total + 1;
     s.counts.total = total;
-    if run.settings.max_steps < total {
+    if kept.settings.max_steps < total {
         return ended(s, Status::NeedLargerNMax);
     }
-    if 0.1 * abs(run.numbers.h) <= abs(run.numbers.x) * run.settings.uround {
+    if 0.1 * abs(moving.numbers.h) <= abs(moving.numbers.x) * kept.settings.uround {
         return ended(s, Status::StepSizeTooSmall);
     }
-    began(s, y, scal, cont, z1, z2, z3, f1, f2, f3)
+    began(kept, s, y, scal, cont, z1, z2, z3, f1, f2, f3)
 }

@@ -1,14 +1,17 @@
 // The step that the error asks for, and what an acceptance or a rejection leaves in the run (radau.rs:671-697, 780-795).
 use crate::entries::as_float;
+use crate::moving::Kept;
+use crate::moving::Moving;
 use crate::passes::missed;
 use scalar::max;
 use scalar::min;
 use scalar::quarter;
-use state::run::Run;
 use state::settings::Settings;
 ghost use mathlib.Core.Path.{_≡_};
 ghost use Prim.Native.Nat.{_+_, _≤_, _<_, _^_};
 ghost use Rattle.blocks.specs.Judge.{facOf, between, quotOf, predictiveQuot, remembered, acceptedOf, rejectedOf};
+ghost use Rattle.radau.specs.declared.moving.Kept.{Kept};
+ghost use Rattle.radau.specs.Moving.{whole};
 
 // The safety factor, lessened by the rounds that were needed.
 fn fac(s: Settings, newt_iter: usize) -> f64
@@ -35,13 +38,13 @@ pub fn quot(s: Settings, newt_iter: usize, err: f64) -> f64
 }
 
 // The predictive controller, from the second acceptance on.
-fn predictive_quot(run: Run, err: f64, quot: f64) -> f64
-    requires { ⌜ run .counts .accepted + 1 < 2 ^ 64 ⌝ }
-    ensures { λ r. ⌜ r ≡ predictiveQuot run err quot ⌝ }
+fn predictive_quot(kept: Kept, moving: Moving, err: f64, quot: f64) -> f64
+    requires { ⌜ moving .counts .accepted + 1 < 2 ^ 64 ⌝ }
+    ensures { λ r. ⌜ r ≡ predictiveQuot (whole kept moving) err quot ⌝ }
 {
-    let s = run.settings;
-    let n = run.numbers;
-    if s.predictive & (1 < run.counts.accepted + 1) {
+    let s = kept.settings;
+    let n = moving.numbers;
+    if s.predictive & (1 < moving.counts.accepted + 1) {
         let facgus = (n.h_acc / n.h) * quarter(err * err / n.err_acc) / s.safety_factor;
         return max(quot, between(s, facgus));
     }
@@ -49,53 +52,53 @@ fn predictive_quot(run: Run, err: f64, quot: f64) -> f64
 }
 
 // What the predictive controller remembers.
-fn remembered(run: Run, err: f64) -> Run
-    ensures { λ r. ⌜ r ≡ remembered err run ⌝ }
+fn remembered(kept: Kept, moving: Moving, err: f64) -> Moving
+    ensures { λ r. ⌜ whole kept r ≡ remembered err (whole kept moving) ⌝ }
 {
-    if run.settings.predictive {
-        let mut s = run;
+    if kept.settings.predictive {
+        let mut s = moving;
         let err_acc = max(err, 1e-2);
-        s.numbers.h_acc = run.numbers.h;
+        s.numbers.h_acc = moving.numbers.h;
         s.numbers.err_acc = err_acc;
         return s;
     }
-    run
+    moving
 }
 
-pub fn accepted(run: Run, err: f64, quot: f64) -> Run
-    requires { ⌜ run .counts .accepted + 1 < 2 ^ 64 ⌝ }
-    ensures { λ r. ⌜ r ≡ acceptedOf run err quot ⌝ }
+pub fn accepted(kept: Kept, moving: Moving, err: f64, quot: f64) -> Moving
+    requires { ⌜ moving .counts .accepted + 1 < 2 ^ 64 ⌝ }
+    ensures { λ r. ⌜ whole kept r ≡ acceptedOf (whole kept moving) err quot ⌝ }
 {
-    let mut s = run;
-    let hnew = run.numbers.h / predictive_quot(run, err, quot);
+    let mut s = moving;
+    let hnew = moving.numbers.h / predictive_quot(kept, moving, err, quot);
     s.numbers.hnew = hnew;
-    let mut t = remembered(s, err);
-    let accepted = run.counts.accepted + 1;
+    let mut t = remembered(kept, s, err);
+    let accepted = moving.counts.accepted + 1;
     t.counts.accepted = accepted;
     t.control.first = false;
-    t.numbers.xold = run.numbers.x;
-    t.numbers.hold = run.numbers.h;
-    t.numbers.x = run.numbers.xph;
+    t.numbers.xold = moving.numbers.x;
+    t.numbers.hold = moving.numbers.h;
+    t.numbers.x = moving.numbers.xph;
     t
 }
 
-pub fn rejected(run: Run, hnew: f64) -> Run
-    requires { ⌜ run .counts .rejected + 1 < 2 ^ 64 ⌝ }
-    ensures { λ r. ⌜ r ≡ rejectedOf run hnew ⌝ }
+pub fn rejected(moving: Moving, hnew: f64) -> Moving
+    requires { ⌜ moving .counts .rejected + 1 < 2 ^ 64 ⌝ }
+    ensures { λ r. ⌜ ((kept : Kept) → whole kept r ≡ rejectedOf (whole kept moving) hnew) ⌝ }
 {
-    let mut s = run;
-    let control = run.control;
+    let mut s = moving;
+    let control = moving.control;
     s.control = missed(control);
-    if run.control.first {
-        let h = run.numbers.h * 0.1;
+    if moving.control.first {
+        let h = moving.numbers.h * 0.1;
         s.numbers.h = h;
         s.numbers.hhfac = 0.1;
         return s;
     }
-    let hhfac = hnew / run.numbers.h;
+    let hhfac = hnew / moving.numbers.h;
     s.numbers.hhfac = hhfac;
     s.numbers.h = hnew;
-    let rejected = run.counts.rejected + 1;
+    let rejected = moving.counts.rejected + 1;
     s.counts.rejected = rejected;
     s
 }

@@ -1,12 +1,13 @@
 // The Jacobian: asked of the host, or made by differences (radau.rs:370-374; ivp.rs:67-107).
 use crate::entries::store;
+use crate::moving::Call;
+use crate::moving::Kept;
+use crate::moving::Moving;
+use crate::moving::Step;
 use crate::passes::at_stage;
-use blocks::step::Call;
-use blocks::step::Step;
 use scalar::abs;
 use scalar::max;
 use state::parts::zero;
-use state::run::Run;
 use state::run::Stage;
 use state::settings::Source;
 use state::talk::Place;
@@ -22,6 +23,8 @@ ghost use Rattle.state.specs.Memory.{differences};
 ghost use Rattle.blocks.specs.Setters.{inCounts, oneJac};
 ghost use Rattle.blocks.specs.Jacobian.{asking, askJacobianOf, perturbation, columned, askColumnOf, columnAt, columnOf};
 ghost use Rattle.blocks.specs.Needs.{Fit};
+ghost use Rattle.radau.specs.declared.moving.Kept.{Kept};
+ghost use Rattle.radau.specs.Moving.{whole, wholeCall, wholeStep};
 
 // Copies one part into another of the same length.
 fn copy(from: &[f64], to: &mut [f64])
@@ -36,33 +39,34 @@ fn copy(from: &[f64], to: &mut [f64])
 }
 
 // A Jacobian is counted with its first request.
-fn wanted(run: Run) -> Run
-    requires { ⌜ run .counts .jac + 1 < 2 ^ 64 ⌝ }
-    ensures { λ r. ⌜ r ≡ inCounts oneJac run ⌝ }
+fn wanted(moving: Moving) -> Moving
+    requires { ⌜ moving .counts .jac + 1 < 2 ^ 64 ⌝ }
+    ensures { λ r. ⌜ ((kept : Kept) → whole kept r ≡ inCounts oneJac (whole kept moving)) ⌝ }
 {
-    let mut s = run;
-    let jac = run.counts.jac + 1;
+    let mut s = moving;
+    let jac = moving.counts.jac + 1;
     s.counts.jac = jac;
     s
 }
 
 pub fn ask_jacobian(
-    run: Run,
+    kept: Kept,
+    moving: Moving,
     y: &[f64],
     y_perturbed: &mut [f64],
     f_perturbed: &mut [f64],
     f_origin: &mut [f64],
 ) -> Call
-    requires { ⌜ (run .counts .jac + 1 < 2 ^ 64) × (length (now y) ≡ run .shape .n) × (length (now «y_perturbed») ≡ run .shape .n) × (length (now «f_perturbed») ≡ run .shape .n) × (length (now «f_origin») ≡ run .shape .n) ⌝ }
-    ensures { λ r. ⌜ asking r (differences (now («y_perturbed» .exit)) (now («f_perturbed» .exit)) (now («f_origin» .exit))) ≡ askJacobianOf run (now (y .entry)) (differences (now («y_perturbed» .entry)) (now («f_perturbed» .entry)) (now («f_origin» .entry))) ⌝ }
+    requires { ⌜ (moving .counts .jac + 1 < 2 ^ 64) × (length (now y) ≡ kept .shape .n) × (length (now «y_perturbed») ≡ kept .shape .n) × (length (now «f_perturbed») ≡ kept .shape .n) × (length (now «f_origin») ≡ kept .shape .n) ⌝ }
+    ensures { λ r. ⌜ asking (wholeCall kept r) (differences (now («y_perturbed» .exit)) (now («f_perturbed» .exit)) (now («f_origin» .exit))) ≡ askJacobianOf (whole kept moving) (now (y .entry)) (differences (now («y_perturbed» .entry)) (now («f_perturbed» .entry)) (now («f_origin» .entry))) ⌝ }
 {
-    let settings = run.settings;
+    let settings = kept.settings;
     let source = settings.source;
-    let x = run.numbers.x;
-    let s = wanted(run);
+    let x = moving.numbers.x;
+    let s = wanted(moving);
     match source {
         Source::Host => Call {
-            run: at_stage(s, Stage::Jacobian),
+            moving: at_stage(s, Stage::Jacobian),
             request: Request::Jacobian(x),
             place: Place::Nowhere,
         },
@@ -71,7 +75,7 @@ pub fn ask_jacobian(
             zero(f_perturbed);
             zero(f_origin);
             Call {
-                run: at_stage(s, Stage::Column(0)),
+                moving: at_stage(s, Stage::Column(0)),
                 request: Request::Derivative(x),
                 place: Place::YToFOrigin,
             }
@@ -87,14 +91,14 @@ fn perturbation(y: f64) -> f64
 }
 
 // An amount is moved, and the derivative there asked.
-fn ask_column(run: Run, col: usize, y: &[f64], y_perturbed: &mut [f64]) -> Step
+fn ask_column(moving: Moving, col: usize, y: &[f64], y_perturbed: &mut [f64]) -> Step
     requires { ⌜ (col < 32) × (col < length (now y)) × (col < length (now «y_perturbed»)) ⌝ }
-    ensures { λ r. ⌜ ((jac : List Float) → columned r (now («y_perturbed» .exit)) jac ≡ askColumnOf run col (now (y .entry)) (now («y_perturbed» .entry)) jac) ⌝ }
+    ensures { λ r. ⌜ ((kept : Kept) (jac : List Float) → columned (wholeStep kept r) (now («y_perturbed» .exit)) jac ≡ askColumnOf (whole kept moving) col (now (y .entry)) (now («y_perturbed» .entry)) jac) ⌝ }
 {
     y_perturbed[col] = y[col] + perturbation(y[col]);
-    let x = run.numbers.x;
+    let x = moving.numbers.x;
     Step::Asked(Call {
-        run: at_stage(run, Stage::Column(col + 1)),
+        moving: at_stage(moving, Stage::Column(col + 1)),
         request: Request::Derivative(x),
         place: Place::YPerturbedToFPerturbed,
     })
@@ -111,7 +115,8 @@ fn fill_column(n: usize, col: usize, p: f64, f_perturbed: &[f64], f_origin: &[f6
 
 // The derivative at the point (0) or of a column (1 to n) is there: the next is asked, or the Jacobian is made.
 pub fn column(
-    run: Run,
+    kept: Kept,
+    moving: Moving,
     c: usize,
     y: &[f64],
     y_perturbed: &mut [f64],
@@ -119,19 +124,19 @@ pub fn column(
     f_origin: &[f64],
     jac: &mut [f64],
 ) -> Step
-    requires { ⌜ (1 ≤ run .shape .n) × (c ≤ run .shape .n) × (length (now y) ≡ run .shape .n) × (length (now «y_perturbed») ≡ run .shape .n) × (length (now «f_perturbed») ≡ run .shape .n) × (length (now «f_origin») ≡ run .shape .n) × Square (run .shape .n) (now jac) ⌝ }
-    ensures { λ r. ⌜ columned r (now («y_perturbed» .exit)) (now (jac .exit)) ≡ columnOf c run (now (y .entry)) (now («y_perturbed» .entry)) (now («f_perturbed» .entry)) (now («f_origin» .entry)) (now (jac .entry)) ⌝ }
+    requires { ⌜ (1 ≤ kept .shape .n) × (c ≤ kept .shape .n) × (length (now y) ≡ kept .shape .n) × (length (now «y_perturbed») ≡ kept .shape .n) × (length (now «f_perturbed») ≡ kept .shape .n) × (length (now «f_origin») ≡ kept .shape .n) × Square (kept .shape .n) (now jac) ⌝ }
+    ensures { λ r. ⌜ columned (wholeStep kept r) (now («y_perturbed» .exit)) (now (jac .exit)) ≡ columnOf c (whole kept moving) (now (y .entry)) (now («y_perturbed» .entry)) (now («f_perturbed» .entry)) (now («f_origin» .entry)) (now (jac .entry)) ⌝ }
 {
-    let shape = run.shape;
+    let shape = kept.shape;
     let n = shape.n;
     if c == 0 {
-        return ask_column(run, 0, y, y_perturbed);
+        return ask_column(moving, 0, y, y_perturbed);
     }
     let col = c - 1;
     y_perturbed[col] = y[col];
     fill_column(n, col, perturbation(y[col]), f_perturbed, f_origin, jac);
     if c < n {
-        return ask_column(run, c, y, y_perturbed);
+        return ask_column(moving, c, y, y_perturbed);
     }
-    Step::Matrices(run)
+    Step::Matrices(moving)
 }

@@ -8,16 +8,17 @@ use crate::estimate::error_sides;
 use crate::estimate::plus;
 use crate::estimate::solve_first;
 use crate::estimate::sum;
+use crate::moving::Call;
+use crate::moving::Kept;
+use crate::moving::Moving;
+use crate::moving::Step;
 use crate::passes::at_stage;
 use crate::passes::counted;
-use blocks::step::Call;
-use blocks::step::Step;
 use scalar::coefficients::C1;
 use scalar::coefficients::C1M1;
 use scalar::coefficients::C1MC2;
 use scalar::coefficients::C2;
 use scalar::coefficients::C2M1;
-use state::run::Run;
 use state::run::Stage;
 use state::talk::Place;
 use state::talk::Request;
@@ -33,6 +34,8 @@ ghost use Rattle.blocks.specs.Judge.{moved, movedOf, askAccepted, judged, judge
 ghost use Rattle.blocks.specs.Setters.{inCounts, oneOde, atStage};
 ghost use Rattle.blocks.specs.Matrices.{call};
 ghost use Rattle.blocks.specs.Needs.{Fit, NewtonLong};
+ghost use Rattle.radau.specs.declared.moving.Kept.{Kept};
+ghost use Rattle.radau.specs.Moving.{whole, wholeCall, wholeStep};
 
 // The new amounts, and the coefficients of the dense output.
 fn moved(n: usize, z1: &[f64], z2: &[f64], z3: &[f64], y: &mut [f64], cont: &mut [f64])
@@ -54,16 +57,16 @@ fn moved(n: usize, z1: &[f64], z2: &[f64], z3: &[f64], y: &mut [f64], cont: &mut
 }
 
 // A derivative is asked at the run's x.
-pub fn ask_derivative(run: Run, stage: Stage, place: Place) -> Call
-    requires { ⌜ run .counts .ode + 1 < 2 ^ 64 ⌝ }
-    ensures { λ r. ⌜ r ≡ call (atStage stage (inCounts oneOde run)) (Request.Derivative (run .numbers .x)) place ⌝ }
+pub fn ask_derivative(moving: Moving, stage: Stage, place: Place) -> Call
+    requires { ⌜ moving .counts .ode + 1 < 2 ^ 64 ⌝ }
+    ensures { λ r. ⌜ ((kept : Kept) → wholeCall kept r ≡ call (atStage stage (inCounts oneOde (whole kept moving))) (Request.Derivative (moving .numbers .x)) place) ⌝ }
 {
-    let mut s = run;
-    let ode = run.counts.ode + 1;
+    let mut s = moving;
+    let ode = moving.counts.ode + 1;
     s.counts.ode = ode;
-    let x = run.numbers.x;
+    let x = moving.numbers.x;
     Call {
-        run: at_stage(s, stage),
+        moving: at_stage(s, stage),
         request: Request::Derivative(x),
         place,
     }
@@ -71,7 +74,8 @@ pub fn ask_derivative(run: Run, stage: Stage, place: Place) -> Call
 
 // An acceptance asks for the derivative at the new point, a rejection leads to the next pass.
 fn judge(
-    run: Run,
+    kept: Kept,
+    moving: Moving,
     err: f64,
     z1: &[f64],
     z2: &[f64],
@@ -79,27 +83,28 @@ fn judge(
     y: &mut [f64],
     cont: &mut [f64],
 ) -> Step
-    requires { ⌜ Fit 1 (run .shape .n) run ⌝ }
-    requires { ⌜ (length (now z1) ≡ run .shape .n) × (length (now z2) ≡ run .shape .n) × (length (now z3) ≡ run .shape .n) × (length (now y) ≡ run .shape .n) × (length (now cont) ≡ 4 * run .shape .n) ⌝ }
-    ensures { λ r. ⌜ judged r (now (y .exit)) (now (cont .exit)) ≡ judgedOf run err (three (now (z1 .entry)) (now (z2 .entry)) (now (z3 .entry))) (now (y .entry)) (now (cont .entry)) .core ⌝ }
+    requires { ⌜ Fit 1 (kept .shape .n) (whole kept moving) ⌝ }
+    requires { ⌜ (length (now z1) ≡ kept .shape .n) × (length (now z2) ≡ kept .shape .n) × (length (now z3) ≡ kept .shape .n) × (length (now y) ≡ kept .shape .n) × (length (now cont) ≡ 4 * kept .shape .n) ⌝ }
+    ensures { λ r. ⌜ judged (wholeStep kept r) (now (y .exit)) (now (cont .exit)) ≡ judgedOf (whole kept moving) err (three (now (z1 .entry)) (now (z2 .entry)) (now (z3 .entry))) (now (y .entry)) (now (cont .entry)) .core ⌝ }
 {
-    let shape = run.shape;
-    let settings = run.settings;
-    let q = quot(settings, run.control.newt_iter, err);
+    let shape = kept.shape;
+    let settings = kept.settings;
+    let q = quot(settings, moving.control.newt_iter, err);
     if err <= 1.0 {
         moved(shape.n, z1, z2, z3, y, cont);
-        let s = accepted(run, err, q);
+        let s = accepted(kept, moving, err, q);
         return Step::Asked(ask_derivative(s, Stage::Accepted, Place::YToF0));
     }
-    let hnew = run.numbers.h / q;
-    let mut s = run;
+    let hnew = moving.numbers.h / q;
+    let mut s = moving;
     s.numbers.hnew = hnew;
     Step::Main(rejected(s, hnew))
 }
 
 // Before the first acceptance and after a rejection an error that is too large is refined by one derivative, at the old x.
 fn tested(
-    run: Run,
+    kept: Kept,
+    moving: Moving,
     err: f64,
     z1: &[f64],
     z2: &[f64],
@@ -107,21 +112,22 @@ fn tested(
     y: &mut [f64],
     cont: &mut [f64],
 ) -> Step
-    requires { ⌜ Fit 1 (run .shape .n) run ⌝ }
-    requires { ⌜ (length (now z1) ≡ run .shape .n) × (length (now z2) ≡ run .shape .n) × (length (now z3) ≡ run .shape .n) × (length (now y) ≡ run .shape .n) × (length (now cont) ≡ 4 * run .shape .n) ⌝ }
-    ensures { λ r. ⌜ judged r (now (y .exit)) (now (cont .exit)) ≡ testedOf run err (three (now (z1 .entry)) (now (z2 .entry)) (now (z3 .entry))) (now (y .entry)) (now (cont .entry)) .core ⌝ }
+    requires { ⌜ Fit 1 (kept .shape .n) (whole kept moving) ⌝ }
+    requires { ⌜ (length (now z1) ≡ kept .shape .n) × (length (now z2) ≡ kept .shape .n) × (length (now z3) ≡ kept .shape .n) × (length (now y) ≡ kept .shape .n) × (length (now cont) ≡ 4 * kept .shape .n) ⌝ }
+    ensures { λ r. ⌜ judged (wholeStep kept r) (now (y .exit)) (now (cont .exit)) ≡ testedOf (whole kept moving) err (three (now (z1 .entry)) (now (z2 .entry)) (now (z3 .entry))) (now (y .entry)) (now (cont .entry)) .core ⌝ }
 {
-    let shape = run.shape;
-    if (err >= 1.0) & (run.control.first | run.control.reject) {
+    let shape = kept.shape;
+    if (err >= 1.0) & (moving.control.first | moving.control.reject) {
         plus(shape.n, y, cont);
-        return Step::Asked(ask_derivative(run, Stage::Refinement, Place::ContToF1));
+        return Step::Asked(ask_derivative(moving, Stage::Refinement, Place::ContToF1));
     }
-    judge(run, err, z1, z2, z3, y, cont)
+    judge(kept, moving, err, z1, z2, z3, y, cont)
 }
 
 // The first estimate.
 pub fn estimate(
-    run: Run,
+    kept: Kept,
+    moving: Moving,
     mass: &[f64],
     e1: &[f64],
     ip1: &[usize],
@@ -135,24 +141,25 @@ pub fn estimate(
     f1: &mut [f64],
     f2: &mut [f64],
 ) -> Step
-    requires { ⌜ Fit 2 (run .shape .n) run × Square (run .shape .n) (now mass) × (length (now f0) ≡ run .shape .n) × (length (now scal) ≡ run .shape .n) × (length (now y) ≡ run .shape .n) × (length (now cont) ≡ 4 * run .shape .n) ⌝ }
-    requires { ⌜ (length (now z1) ≡ run .shape .n) × (length (now z2) ≡ run .shape .n) × (length (now z3) ≡ run .shape .n) × (length (now f1) ≡ run .shape .n) × (length (now f2) ≡ run .shape .n) ⌝ }
-    ensures { λ r. ⌜ ((f3 : List Float) → estimated r (now (y .exit)) (now (cont .exit)) (now (f1 .exit)) (now (f2 .exit)) ≡ estimateOf run (now (mass .entry)) (now (e1 .entry)) (now (ip1 .entry)) (now (f0 .entry)) (now (scal .entry)) (now (y .entry)) (now (cont .entry)) (newton (now (z1 .entry)) (now (z2 .entry)) (now (z3 .entry)) (now (f1 .entry)) (now (f2 .entry)) f3) .core) ⌝ }
+    requires { ⌜ Fit 2 (kept .shape .n) (whole kept moving) × Square (kept .shape .n) (now mass) × (length (now f0) ≡ kept .shape .n) × (length (now scal) ≡ kept .shape .n) × (length (now y) ≡ kept .shape .n) × (length (now cont) ≡ 4 * kept .shape .n) ⌝ }
+    requires { ⌜ (length (now z1) ≡ kept .shape .n) × (length (now z2) ≡ kept .shape .n) × (length (now z3) ≡ kept .shape .n) × (length (now f1) ≡ kept .shape .n) × (length (now f2) ≡ kept .shape .n) ⌝ }
+    ensures { λ r. ⌜ ((f3 : List Float) → estimated (wholeStep kept r) (now (y .exit)) (now (cont .exit)) (now (f1 .exit)) (now (f2 .exit)) ≡ estimateOf (whole kept moving) (now (mass .entry)) (now (e1 .entry)) (now (ip1 .entry)) (now (f0 .entry)) (now (scal .entry)) (now (y .entry)) (now (cont .entry)) (newton (now (z1 .entry)) (now (z2 .entry)) (now (z3 .entry)) (now (f1 .entry)) (now (f2 .entry)) f3) .core) ⌝ }
 {
-    let settings = run.settings;
+    let settings = kept.settings;
     let mode = settings.mass;
-    let shape = run.shape;
+    let shape = kept.shape;
     let n = shape.n;
-    defect(n, run.numbers.h, z1, z2, z3, f1);
+    defect(n, moving.numbers.h, z1, z2, z3, f1);
     error_sides(mode, n, mass, f0, f1, f2, cont);
     solve_first(n, e1, ip1, cont);
     let err = error(n, scal, cont);
-    tested(counted(run), err, z1, z2, z3, y, cont)
+    tested(kept, counted(moving), err, z1, z2, z3, y, cont)
 }
 
 // The second, from the derivative that was asked.
 pub fn refined(
-    run: Run,
+    kept: Kept,
+    moving: Moving,
     e1: &[f64],
     ip1: &[usize],
     scal: &[f64],
@@ -164,14 +171,14 @@ pub fn refined(
     f1: &[f64],
     f2: &[f64],
 ) -> Step
-    requires { ⌜ Fit 1 (run .shape .n) run × (length (now scal) ≡ run .shape .n) × (length (now y) ≡ run .shape .n) × (length (now cont) ≡ 4 * run .shape .n) ⌝ }
-    requires { ⌜ (length (now z1) ≡ run .shape .n) × (length (now z2) ≡ run .shape .n) × (length (now z3) ≡ run .shape .n) × (length (now f1) ≡ run .shape .n) × (length (now f2) ≡ run .shape .n) ⌝ }
-    ensures { λ r. ⌜ ((f3 : List Float) → judged r (now (y .exit)) (now (cont .exit)) ≡ refinedOf run (now (e1 .entry)) (now (ip1 .entry)) (now (scal .entry)) (now (y .entry)) (now (cont .entry)) (newton (now (z1 .entry)) (now (z2 .entry)) (now (z3 .entry)) (now (f1 .entry)) (now (f2 .entry)) f3) .core) ⌝ }
+    requires { ⌜ Fit 1 (kept .shape .n) (whole kept moving) × (length (now scal) ≡ kept .shape .n) × (length (now y) ≡ kept .shape .n) × (length (now cont) ≡ 4 * kept .shape .n) ⌝ }
+    requires { ⌜ (length (now z1) ≡ kept .shape .n) × (length (now z2) ≡ kept .shape .n) × (length (now z3) ≡ kept .shape .n) × (length (now f1) ≡ kept .shape .n) × (length (now f2) ≡ kept .shape .n) ⌝ }
+    ensures { λ r. ⌜ ((f3 : List Float) → judged (wholeStep kept r) (now (y .exit)) (now (cont .exit)) ≡ refinedOf (whole kept moving) (now (e1 .entry)) (now (ip1 .entry)) (now (scal .entry)) (now (y .entry)) (now (cont .entry)) (newton (now (z1 .entry)) (now (z2 .entry)) (now (z3 .entry)) (now (f1 .entry)) (now (f2 .entry)) f3) .core) ⌝ }
 {
-    let shape = run.shape;
+    let shape = kept.shape;
     let n = shape.n;
     sum(n, f1, f2, cont);
     solve_first(n, e1, ip1, cont);
     let err = error(n, scal, cont);
-    judge(run, err, z1, z2, z3, y, cont)
+    judge(kept, moving, err, z1, z2, z3, y, cont)
 }

@@ -9,6 +9,7 @@ pub mod held;
 mod jacobian;
 mod judge;
 mod matrices;
+mod moving;
 mod newton;
 mod passes;
 mod report;

@@ -1,12 +1,13 @@
 // The decompositions of a pass, and what a failure leads to (radau.rs:390-419).
 use crate::matrices::built;
-use blocks::step::Call;
-use blocks::step::Step;
+use crate::moving::Call;
+use crate::moving::Kept;
+use crate::moving::Moving;
+use crate::moving::Step;
 use matrix::Decomposed;
 use matrix::lu_decomp;
 use matrix::lu_decomp_complex;
 use state::run::Control;
-use state::run::Run;
 use state::run::Stage;
 use state::run::Status;
 use state::talk::Place;
@@ -21,21 +22,17 @@ ghost use Rattle.state.specs.Memory.{factors};
 ghost use Rattle.blocks.specs.Setters.{inCounts, oneLu, atStage};
 ghost use Rattle.blocks.specs.Matrices.{call, endedOf, missed, failedOf, isErr, tried, complexTriedOf, realTriedOf, triedOf, passesOn, runOf, passesOf};
 ghost use Rattle.blocks.specs.Needs.{Fit, StepFit, FactorsLong};
+ghost use Rattle.radau.specs.declared.moving.Kept.{Kept};
+ghost use Rattle.radau.specs.Moving.{whole, wholeCall, wholeStep};
 
 // The same run at another stage.
-pub fn at_stage(run: Run, stage: Stage) -> Run
-    ensures { λ r. ⌜ r ≡ atStage stage run ⌝ }
+pub fn at_stage(moving: Moving, stage: Stage) -> Moving
+    ensures { λ r. ⌜ ((kept : Kept) → whole kept r ≡ atStage stage (whole kept moving)) ⌝ }
 {
-    let settings = run.settings;
-    let shape = run.shape;
-    let fixed = run.fixed;
-    let counts = run.counts;
-    let control = run.control;
-    let numbers = run.numbers;
-    Run {
-        settings,
-        shape,
-        fixed,
+    let counts = moving.counts;
+    let control = moving.control;
+    let numbers = moving.numbers;
+    Moving {
         counts,
         control,
         numbers,
@@ -43,11 +40,11 @@ pub fn at_stage(run: Run, stage: Stage) -> Run
     }
 }
 
-pub fn ended(run: Run, status: Status) -> Call
-    ensures { λ r. ⌜ r ≡ endedOf status run ⌝ }
+pub fn ended(moving: Moving, status: Status) -> Call
+    ensures { λ r. ⌜ ((kept : Kept) → wholeCall kept r ≡ endedOf status (whole kept moving)) ⌝ }
 {
     Call {
-        run: at_stage(run, Stage::Ended(status)),
+        moving: at_stage(moving, Stage::Ended(status)),
         request: Request::Ended(status),
         place: Place::Nowhere,
     }
@@ -65,17 +62,17 @@ pub fn missed(control: Control) -> Control
 }
 
 // A failure: the sixth since the last acceptance ends the run, another halves the step.
-pub fn failed(run: Run) -> Step
-    requires { ⌜ run .control .«singular_count» ≤ 5 ⌝ }
-    ensures { λ r. ⌜ r ≡ failedOf run ⌝ }
+pub fn failed(moving: Moving) -> Step
+    requires { ⌜ moving .control .«singular_count» ≤ 5 ⌝ }
+    ensures { λ r. ⌜ ((kept : Kept) → wholeStep kept r ≡ failedOf (whole kept moving)) ⌝ }
 {
-    let mut s = run;
-    let singular_count = run.control.singular_count + 1;
+    let mut s = moving;
+    let singular_count = moving.control.singular_count + 1;
     s.control.singular_count = singular_count;
     if 5 < singular_count {
         return Step::Asked(ended(s, Status::SingularMatrix));
     }
-    let h = run.numbers.h * 0.5;
+    let h = moving.numbers.h * 0.5;
     s.numbers.h = h;
     s.numbers.hhfac = 0.5;
     let control = s.control;
@@ -95,24 +92,30 @@ fn is_err(answer: Decomposed) -> bool
 }
 
 // One more decomposition is counted.
-pub fn counted(run: Run) -> Run
-    requires { ⌜ run .counts .lu + 1 < 2 ^ 64 ⌝ }
-    ensures { λ r. ⌜ r ≡ inCounts oneLu run ⌝ }
+pub fn counted(moving: Moving) -> Moving
+    requires { ⌜ moving .counts .lu + 1 < 2 ^ 64 ⌝ }
+    ensures { λ r. ⌜ ((kept : Kept) → whole kept r ≡ inCounts oneLu (whole kept moving)) ⌝ }
 {
-    let mut s = run;
-    let lu = run.counts.lu + 1;
+    let mut s = moving;
+    let lu = moving.counts.lu + 1;
     s.counts.lu = lu;
     s
 }
 
 // E2, where E1 is decomposed.
-fn complex_tried(run: Run, e2r: &mut [f64], e2i: &mut [f64], ip2: &mut [usize]) -> Step
-    requires { ⌜ Fit 1 (run .shape .n) run ⌝ }
-    ensures { λ r. ⌜ ((e1 : List Float) (ip1 : List ℕ) → tried r (factors e1 (now (e2r .exit)) (now (e2i .exit)) ip1 (now (ip2 .exit))) ≡ complexTriedOf run (factors e1 (now (e2r .entry)) (now (e2i .entry)) ip1 (now (ip2 .entry))) .core) ⌝ }
+fn complex_tried(
+    kept: Kept,
+    moving: Moving,
+    e2r: &mut [f64],
+    e2i: &mut [f64],
+    ip2: &mut [usize],
+) -> Step
+    requires { ⌜ Fit 1 (kept .shape .n) (whole kept moving) ⌝ }
+    ensures { λ r. ⌜ ((e1 : List Float) (ip1 : List ℕ) → tried (wholeStep kept r) (factors e1 (now (e2r .exit)) (now (e2i .exit)) ip1 (now (ip2 .exit))) ≡ complexTriedOf (whole kept moving) (factors e1 (now (e2r .entry)) (now (e2i .entry)) ip1 (now (ip2 .entry))) .core) ⌝ }
 {
-    let shape = run.shape;
+    let shape = kept.shape;
     let answer = lu_decomp_complex(shape.n, e2r, e2i, ip2);
-    let s = counted(run);
+    let s = counted(moving);
     if is_err(answer) {
         return failed(s);
     }
@@ -120,28 +123,30 @@ fn complex_tried(run: Run, e2r: &mut [f64], e2i: &mut [f64], ip2: &mut [usize]) 
 }
 
 fn real_tried(
-    run: Run,
+    kept: Kept,
+    moving: Moving,
     e1: &mut [f64],
     e2r: &mut [f64],
     e2i: &mut [f64],
     ip1: &mut [usize],
     ip2: &mut [usize],
 ) -> Step
-    requires { ⌜ Fit 2 (run .shape .n) run ⌝ }
-    ensures { λ r. ⌜ tried r (factors (now (e1 .exit)) (now (e2r .exit)) (now (e2i .exit)) (now (ip1 .exit)) (now (ip2 .exit))) ≡ realTriedOf run (factors (now (e1 .entry)) (now (e2r .entry)) (now (e2i .entry)) (now (ip1 .entry)) (now (ip2 .entry))) .core ⌝ }
+    requires { ⌜ Fit 2 (kept .shape .n) (whole kept moving) ⌝ }
+    ensures { λ r. ⌜ tried (wholeStep kept r) (factors (now (e1 .exit)) (now (e2r .exit)) (now (e2i .exit)) (now (ip1 .exit)) (now (ip2 .exit))) ≡ realTriedOf (whole kept moving) (factors (now (e1 .entry)) (now (e2r .entry)) (now (e2i .entry)) (now (ip1 .entry)) (now (ip2 .entry))) .core ⌝ }
 {
-    let shape = run.shape;
+    let shape = kept.shape;
     let answer = lu_decomp(shape.n, e1, ip1);
-    let s = counted(run);
+    let s = counted(moving);
     if is_err(answer) {
         return failed(s);
     }
-    complex_tried(s, e2r, e2i, ip2)
+    complex_tried(kept, s, e2r, e2i, ip2)
 }
 
 // One pass through the matrices, where they are wanted.
 fn tried(
-    run: Run,
+    kept: Kept,
+    moving: Moving,
     mass: &[f64],
     jac: &[f64],
     e1: &mut [f64],
@@ -150,48 +155,49 @@ fn tried(
     ip1: &mut [usize],
     ip2: &mut [usize],
 ) -> Step
-    requires { ⌜ Fit 2 (run .shape .n) run ⌝ }
-    requires { ⌜ Square (run .shape .n) (now mass) × Square (run .shape .n) (now jac) × FactorsLong (run .shape .n) (factors (now e1) (now e2r) (now e2i) (now ip1) (now ip2)) ⌝ }
-    ensures { λ r. ⌜ tried r (factors (now (e1 .exit)) (now (e2r .exit)) (now (e2i .exit)) (now (ip1 .exit)) (now (ip2 .exit))) ≡ triedOf run (now (mass .entry)) (now (jac .entry)) (factors (now (e1 .entry)) (now (e2r .entry)) (now (e2i .entry)) (now (ip1 .entry)) (now (ip2 .entry))) .core ⌝ }
+    requires { ⌜ Fit 2 (kept .shape .n) (whole kept moving) ⌝ }
+    requires { ⌜ Square (kept .shape .n) (now mass) × Square (kept .shape .n) (now jac) × FactorsLong (kept .shape .n) (factors (now e1) (now e2r) (now e2i) (now ip1) (now ip2)) ⌝ }
+    ensures { λ r. ⌜ tried (wholeStep kept r) (factors (now (e1 .exit)) (now (e2r .exit)) (now (e2i .exit)) (now (ip1 .exit)) (now (ip2 .exit))) ≡ triedOf (whole kept moving) (now (mass .entry)) (now (jac .entry)) (factors (now (e1 .entry)) (now (e2r .entry)) (now (e2i .entry)) (now (ip1 .entry)) (now (ip2 .entry))) .core ⌝ }
 {
-    if run.control.call_decomp {
-        let settings = run.settings;
+    if moving.control.call_decomp {
+        let settings = kept.settings;
         let mode = settings.mass;
-        let shape = run.shape;
-        let h = run.numbers.h;
+        let shape = kept.shape;
+        let h = moving.numbers.h;
         built(mode, shape.n, mass, jac, h, e1, e2r, e2i);
-        return real_tried(run, e1, e2r, e2i, ip1, ip2);
+        return real_tried(kept, moving, e1, e2r, e2i, ip1, ip2);
     }
-    Step::Attempt(run)
+    Step::Attempt(moving)
 }
 
 fn passes_on(step: Step) -> bool
-    ensures { λ r. ⌜ r ≡ passesOn step ⌝ }
+    ensures { λ r. ⌜ ((kept : Kept) → r ≡ passesOn (wholeStep kept step)) ⌝ }
 {
     match step {
         Step::Asked(_) => false,
-        Step::Main(run) => !run.control.call_jac,
+        Step::Main(moving) => !moving.control.call_jac,
         Step::Matrices(_) => true,
         Step::Attempt(_) => false,
     }
 }
 
-fn run_of(step: Step) -> Run
-    ensures { λ r. ⌜ r ≡ runOf step ⌝ }
+fn moving_in(step: Step) -> Moving
+    ensures { λ r. ⌜ ((kept : Kept) → whole kept r ≡ runOf (wholeStep kept step)) ⌝ }
 {
     match step {
         Step::Asked(call) => {
-            let run = call.run;
-            run
+            let moving = call.moving;
+            moving
         }
-        Step::Main(run) => run,
-        Step::Matrices(run) => run,
-        Step::Attempt(run) => run,
+        Step::Main(moving) => moving,
+        Step::Matrices(moving) => moving,
+        Step::Attempt(moving) => moving,
     }
 }
 
 // Passes through the matrices until one stands, a Jacobian is wanted or the run has ended: the sixth failure ends it, so six are enough.
 pub fn passes(
+    kept: Kept,
     n: usize,
     step: Step,
     mass: &[f64],
@@ -202,16 +208,16 @@ pub fn passes(
     ip1: &mut [usize],
     ip2: &mut [usize],
 ) -> Step
-    requires { ⌜ StepFit 12 n step ⌝ }
+    requires { ⌜ StepFit 12 n (wholeStep kept step) ⌝ }
     requires { ⌜ Square n (now mass) × Square n (now jac) × FactorsLong n (factors (now e1) (now e2r) (now e2i) (now ip1) (now ip2)) ⌝ }
-    ensures { λ r. ⌜ tried r (factors (now (e1 .exit)) (now (e2r .exit)) (now (e2i .exit)) (now (ip1 .exit)) (now (ip2 .exit))) ≡ passesOf step (now (mass .entry)) (now (jac .entry)) (factors (now (e1 .entry)) (now (e2r .entry)) (now (e2i .entry)) (now (ip1 .entry)) (now (ip2 .entry))) .core ⌝ }
+    ensures { λ r. ⌜ tried (wholeStep kept r) (factors (now (e1 .exit)) (now (e2r .exit)) (now (e2i .exit)) (now (ip1 .exit)) (now (ip2 .exit))) ≡ passesOf (wholeStep kept step) (now (mass .entry)) (now (jac .entry)) (factors (now (e1 .entry)) (now (e2r .entry)) (now (e2i .entry)) (now (ip1 .entry)) (now (ip2 .entry))) .core ⌝ }
 {
     let mut s = step;
     for _ in 0..6usize {
         if !passes_on(s) {
             return s;
         }
-        s = tried(run_of(s), mass, jac, e1, e2r, e2i, ip1, ip2);
+        s = tried(kept, moving_in(s), mass, jac, e1, e2r, e2i, ip1, ip2);
     }
     s
 }

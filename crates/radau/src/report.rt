@@ -1,15 +1,16 @@
 // Reports, and what follows them (radau.rs:337-358, 719-779).
 use crate::judge::ask_derivative;
+use crate::moving::Call;
+use crate::moving::Kept;
+use crate::moving::Moving;
+use crate::moving::Step;
+use crate::moving::Told;
 use crate::passes::at_stage;
 use crate::passes::ended;
-use blocks::step::Call;
-use blocks::step::Step;
-use blocks::step::Told;
 use scalar::abs;
 use scalar::clamp;
 use scalar::min;
 use state::run::Numbers;
-use state::run::Run;
 use state::run::Stage;
 use state::run::Status;
 use state::settings::Number;
@@ -20,13 +21,15 @@ ghost use mathlib.Core.Path.{_≡_};
 ghost use Prim.Native.Nat.{_+_, _<_, _^_};
 ghost use Rattle.blocks.specs.Setters.{inNumbers, setXout};
 ghost use Rattle.blocks.specs.Report.{askFirstReport, isDue, askReport, reportedOf, hnewOf, freshOf, grownOf, renewedOf, arrivedOf};
+ghost use Rattle.radau.specs.declared.moving.Kept.{Kept};
+ghost use Rattle.radau.specs.Moving.{whole, wholeCall, wholeStep, wholeTold};
 
-pub fn ask_first_report(run: Run) -> Call
-    ensures { λ r. ⌜ r ≡ askFirstReport run ⌝ }
+pub fn ask_first_report(moving: Moving) -> Call
+    ensures { λ r. ⌜ ((kept : Kept) → wholeCall kept r ≡ askFirstReport (whole kept moving)) ⌝ }
 {
-    let numbers = run.numbers;
+    let numbers = moving.numbers;
     Call {
-        run: at_stage(run, Stage::FirstReport),
+        moving: at_stage(moving, Stage::FirstReport),
         request: Request::Report(numbers.xold, numbers.x, false),
         place: Place::Nowhere,
     }
@@ -42,24 +45,24 @@ fn is_due(xout: Number, x: f64) -> bool
     }
 }
 
-pub fn ask_report(run: Run) -> Call
-    ensures { λ r. ⌜ r ≡ askReport run ⌝ }
+pub fn ask_report(kept: Kept, moving: Moving) -> Call
+    ensures { λ r. ⌜ wholeCall kept r ≡ askReport (whole kept moving) ⌝ }
 {
-    let numbers = run.numbers;
+    let numbers = moving.numbers;
     let xout = numbers.xout;
-    let offered = run.settings.dense_output | is_due(xout, numbers.x);
+    let offered = kept.settings.dense_output | is_due(xout, numbers.x);
     Call {
-        run: at_stage(run, Stage::Report),
+        moving: at_stage(moving, Stage::Report),
         request: Request::Report(numbers.xold, numbers.x, offered),
         place: Place::Nowhere,
     }
 }
 
 // The run with another mark.
-fn marked(run: Run, xo: f64) -> Run
-    ensures { λ r. ⌜ r ≡ inNumbers (setXout (Number.Given xo)) run ⌝ }
+fn marked(moving: Moving, xo: f64) -> Moving
+    ensures { λ r. ⌜ ((kept : Kept) → whole kept r ≡ inNumbers (setXout (Number.Given xo)) (whole kept moving)) ⌝ }
 {
-    let n = run.numbers;
+    let n = moving.numbers;
     let numbers = Numbers {
         x: n.x,
         xold: n.xold,
@@ -76,95 +79,95 @@ fn marked(run: Run, xo: f64) -> Run
         thqold: n.thqold,
         xout: Number::Given(xo),
     };
-    let mut s = run;
+    let mut s = moving;
     s.numbers = numbers;
     s
 }
 
 // The reply to a report; `again` is the stage of the derivative that a modified point asks for.
-pub fn reported(run: Run, again: Stage, reply: Reply) -> Told
-    requires { ⌜ run .counts .ode + 1 < 2 ^ 64 ⌝ }
-    ensures { λ r. ⌜ r ≡ reportedOf again reply run ⌝ }
+pub fn reported(moving: Moving, again: Stage, reply: Reply) -> Told
+    requires { ⌜ moving .counts .ode + 1 < 2 ^ 64 ⌝ }
+    ensures { λ r. ⌜ ((kept : Kept) → wholeTold kept r ≡ reportedOf again reply (whole kept moving)) ⌝ }
 {
     match reply {
-        Reply::Filled => Told::Reported(run),
-        Reply::Continue => Told::Reported(run),
-        Reply::Interrupt => Told::Asked(ended(run, Status::UserInterrupt)),
+        Reply::Filled => Told::Reported(moving),
+        Reply::Continue => Told::Reported(moving),
+        Reply::Interrupt => Told::Asked(ended(moving, Status::UserInterrupt)),
         Reply::Modified(x) => {
-            let mut s = run;
+            let mut s = moving;
             s.numbers.x = x;
             Told::Asked(ask_derivative(s, again, Place::YToF0))
         }
-        Reply::Mark(xo) => Told::Reported(marked(run, xo)),
+        Reply::Mark(xo) => Told::Reported(marked(moving, xo)),
     }
 }
 
 // The new step, within its bounds, and after a rejection no longer than the last.
-fn hnew(run: Run) -> f64
-    ensures { λ r. ⌜ r ≡ hnewOf run ⌝ }
+fn hnew(kept: Kept, moving: Moving) -> f64
+    ensures { λ r. ⌜ r ≡ hnewOf (whole kept moving) ⌝ }
 {
-    let fixed = run.fixed;
-    let hnew = clamp(abs(run.numbers.hnew), fixed.hmin, fixed.hmax) * fixed.posneg;
-    if run.control.reject {
-        return fixed.posneg * min(abs(hnew), abs(run.numbers.h));
+    let fixed = kept.fixed;
+    let hnew = clamp(abs(moving.numbers.hnew), fixed.hmin, fixed.hmax) * fixed.posneg;
+    if moving.control.reject {
+        return fixed.posneg * min(abs(hnew), abs(moving.numbers.h));
     }
     hnew
 }
 
 // The next attempt has the step h and new matrices.
-fn fresh(run: Run, h: f64) -> Run
-    ensures { λ r. ⌜ r ≡ freshOf h run ⌝ }
+fn fresh(moving: Moving, h: f64) -> Moving
+    ensures { λ r. ⌜ ((kept : Kept) → whole kept r ≡ freshOf h (whole kept moving)) ⌝ }
 {
-    let mut s = run;
+    let mut s = moving;
     s.numbers.h = h;
     s.numbers.hhfac = h;
     s.control.call_decomp = true;
-    let call_jac = run.numbers.theta >= 0.001;
+    let call_jac = moving.numbers.theta >= 0.001;
     s.control.call_jac = call_jac;
     s
 }
 
 // A step that hardly grows is dropped, and everything kept as it is.
-fn grown(run: Run, hnew: f64) -> Run
-    ensures { λ r. ⌜ r ≡ grownOf run hnew ⌝ }
+fn grown(moving: Moving, hnew: f64) -> Moving
+    ensures { λ r. ⌜ ((kept : Kept) → whole kept r ≡ grownOf (whole kept moving) hnew) ⌝ }
 {
-    let qt = hnew / run.numbers.h;
-    if (run.numbers.theta < 0.001) & (qt > 1.0) & (qt < 1.2) {
-        let mut s = run;
-        s.numbers.hhfac = run.numbers.h;
+    let qt = hnew / moving.numbers.h;
+    if (moving.numbers.theta < 0.001) & (qt > 1.0) & (qt < 1.2) {
+        let mut s = moving;
+        s.numbers.hhfac = moving.numbers.h;
         s.control.call_decomp = false;
         s.control.call_jac = false;
         return s;
     }
-    fresh(run, hnew)
+    fresh(moving, hnew)
 }
 
 // A step that reaches the end point is aimed at it.
-fn renewed(run: Run, hnew: f64) -> Step
-    ensures { λ r. ⌜ r ≡ renewedOf run hnew .core ⌝ }
+fn renewed(kept: Kept, moving: Moving, hnew: f64) -> Step
+    ensures { λ r. ⌜ wholeStep kept r ≡ renewedOf (whole kept moving) hnew .core ⌝ }
 {
-    let xend = run.fixed.xend;
-    let x = run.numbers.x;
-    if (x + hnew / 1.0 - xend) * run.fixed.posneg >= 0.0 {
-        let mut s = run;
+    let xend = kept.fixed.xend;
+    let x = moving.numbers.x;
+    if (x + hnew / 1.0 - xend) * kept.fixed.posneg >= 0.0 {
+        let mut s = moving;
         s.control.last = true;
         return Step::Main(fresh(s, xend - x));
     }
-    Step::Main(grown(run, hnew))
+    Step::Main(grown(moving, hnew))
 }
 
 // Past a report: an aimed attempt that was accepted ends the run.
-pub fn arrived(run: Run) -> Step
-    ensures { λ r. ⌜ r ≡ arrivedOf run .core ⌝ }
+pub fn arrived(kept: Kept, moving: Moving) -> Step
+    ensures { λ r. ⌜ wholeStep kept r ≡ arrivedOf (whole kept moving) .core ⌝ }
 {
-    let mut s = run;
-    if run.control.last {
-        s.numbers.h = run.numbers.hnew;
+    let mut s = moving;
+    if moving.control.last {
+        s.numbers.h = moving.numbers.hnew;
         return Step::Asked(ended(s, Status::Success));
     }
-    let h = hnew(run);
+    let h = hnew(kept, moving);
     s.control.singular_count = 0;
     s.numbers.hnew = h;
     s.control.reject = false;
-    renewed(s, h)
+    renewed(kept, s, h)
 }

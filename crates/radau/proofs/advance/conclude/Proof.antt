@@ -1,8 +1,9 @@
 -- `conclude` meets its contract, by the three ways out of a round.
-use mathlib.Core.Path.{refl}
+use mathlib.Core.Path.{refl, ap}
 use borrow.Author.Needs.{needs}
 use Rattle.state.specs.Memory.{memory, amounts, newton, given, factors}
 use Rattle.blocks.proofs.AdvanceLaws.{conclude-again, conclude-estimates, conclude-over, newton-fits, estimate-fits, again-asks, estimate-asks}
+use Rattle.radau.specs.Moving.{wholeRound}
 use Rattle.radau.proofs.advance.conclude.Statement.{statement}
 use Rattle.radau.proofs.advance.conclude.Tie as tie
 
@@ -10,13 +11,13 @@ enum-known-verdict : tie.Need-enum-known-verdict
 enum-known-verdict c = search needs
 
 again-requires : tie.Need-again-requires
-again-requires c κs = again-asks (newton-fits (c .before .before .before .verdict .given .1) (c .before .before .before .before .before .before .before .before .before .before .before .before .before .before .before .before .before .pre .0 .0)) (c .before .before .before .before .before .before .before .before .before .before .before .before .before .before .before .before .before .pre .1 .0) (c .before .before .before .before .before .before .before .before .before .before .before .before .before .before .before .before .before .pre .0 .4)
+again-requires c κs = again-asks (newton-fits (ap (wholeRound (c .before .before .before .before .before .before .before .before .before .before .before .before .before .before .before .before .before .args .kept)) (c .before .before .before .verdict .given .1)) (c .before .before .before .before .before .before .before .before .before .before .before .before .before .before .before .before .before .pre .0 .0)) (c .before .before .before .before .before .before .before .before .before .before .before .before .before .before .before .before .before .pre .1 .0) (c .before .before .before .before .before .before .before .before .before .before .before .before .before .before .before .before .before .pre .0 .4)
 
 enum-known-verdict-2 : tie.Need-enum-known-verdict-2
 enum-known-verdict-2 c = search needs
 
 estimate-requires : tie.Need-estimate-requires
-estimate-requires c κs = estimate-asks (estimate-fits (c .before .before .before .before .before .verdict2 .given .1) (c .before .before .before .before .before .before .before .before .before .before .before .before .before .before .before .before .before .before .before .pre .0 .0)) (c .before .before .before .before .before .before .before .before .before .before .before .before .before .before .before .before .before .before .before .pre .0 .1) (c .before .before .before .before .before .before .before .before .before .before .before .before .before .before .before .before .before .before .before .pre .0 .2) (c .before .before .before .before .before .before .before .before .before .before .before .before .before .before .before .before .before .before .before .pre .0 .3) (c .before .before .before .before .before .before .before .before .before .before .before .before .before .before .before .before .before .before .before .pre .0 .4) (c .before .before .before .before .before .before .before .before .before .before .before .before .before .before .before .before .before .before .before .pre .1)
+estimate-requires c κs = estimate-asks (estimate-fits (ap (wholeRound (c .before .before .before .before .before .before .before .before .before .before .before .before .before .before .before .before .before .before .before .args .kept)) (c .before .before .before .before .before .verdict2 .given .1)) (c .before .before .before .before .before .before .before .before .before .before .before .before .before .before .before .before .before .before .before .pre .0 .0)) (c .before .before .before .before .before .before .before .before .before .before .before .before .before .before .before .before .before .before .before .pre .0 .1) (c .before .before .before .before .before .before .before .before .before .before .before .before .before .before .before .before .before .before .before .pre .0 .2) (c .before .before .before .before .before .before .before .before .before .before .before .before .before .before .before .before .before .before .before .pre .0 .3) (c .before .before .before .before .before .before .before .before .before .before .before .before .before .before .before .before .before .before .before .pre .0 .4) (c .before .before .before .before .before .before .before .before .before .before .before .before .before .before .before .before .before .before .before .pre .1)
 
 enum-known-verdict-3 : tie.Need-enum-known-verdict-3
 enum-known-verdict-3 c = search needs
@@ -25,28 +26,28 @@ same-length : tie.Need-same-length
 same-length c = refl
 
 same-length-2 : tie.Need-same-length-2
-same-length-2 c = c .before .before .again .kept .1 .1 .1 .0
+same-length-2 c = c .before .before .again .kept .1 .1 .1 .1 .0
 
 returns : tie.Need-returns
-returns c = λ f3 rtol atol jac e2r e2i ip2 d. let a = c .before .before .before .before .before .before .before .before .before .before .before .before .before .before .before .before .before .before .before .before .args in conclude-again (a .verdict) (memory (amounts (a .y .now) (a .f0 .now) (a .scal .now) (a .cont .now)) (newton (a .z1 .now) (a .z2 .now) (a .z3 .now) (a .f1 .now) (a .f2 .now) f3) (given rtol atol (a .mass .now) jac) (factors (a .e1 .now) e2r e2i (a .ip1 .now) ip2) d) _ _ _ (c .before .before .before .before .before .before .verdict .given .1) (c .before .before .again .ensures)
+returns c = λ f3 rtol atol jac e2r e2i ip2 d. let a = c .before .before .before .before .before .before .before .before .before .before .before .before .before .before .before .before .before .before .before .before .args in conclude-again (wholeRound (a .kept) (a .verdict)) (memory (amounts (a .y .now) (a .f0 .now) (a .scal .now) (a .cont .now)) (newton (a .z1 .now) (a .z2 .now) (a .z3 .now) (a .f1 .now) (a .f2 .now) f3) (given rtol atol (a .mass .now) jac) (factors (a .e1 .now) e2r e2i (a .ip1 .now) ip2) d) _ _ _ (ap (wholeRound (c .before .before .before .before .before .before .before .before .before .before .before .before .before .before .before .before .before .before .before .before .args .kept)) (c .before .before .before .before .before .before .verdict .given .1)) (c .before .before .again .ensures)
 
 same-length-3 : tie.Need-same-length-3
-same-length-3 c = c .before .before .before .before .before .before .before .before .estimate .kept .1 .1 .1 .1 .1 .1 .0
+same-length-3 c = c .before .before .before .before .before .before .before .before .estimate .kept .1 .1 .1 .1 .1 .1 .1 .0
 
 same-length-4 : tie.Need-same-length-4
-same-length-4 c = c .before .before .before .before .before .before .before .before .estimate .kept .1 .1 .1 .1 .1 .1 .1 .0
+same-length-4 c = c .before .before .before .before .before .before .before .before .estimate .kept .1 .1 .1 .1 .1 .1 .1 .1 .0
 
 same-length-5 : tie.Need-same-length-5
-same-length-5 c = c .before .before .before .before .before .before .before .before .estimate .kept .1 .1 .1 .1 .1 .1 .1 .1 .1 .1 .1 .0
+same-length-5 c = c .before .before .before .before .before .before .before .before .estimate .kept .1 .1 .1 .1 .1 .1 .1 .1 .1 .1 .1 .1 .0
 
 same-length-6 : tie.Need-same-length-6
-same-length-6 c = c .before .before .before .before .before .before .before .before .estimate .kept .1 .1 .1 .1 .1 .1 .1 .1 .1 .1 .1 .1 .0
+same-length-6 c = c .before .before .before .before .before .before .before .before .estimate .kept .1 .1 .1 .1 .1 .1 .1 .1 .1 .1 .1 .1 .1 .0
 
 returns-2 : tie.Need-returns-2
-returns-2 c = λ f3 rtol atol jac e2r e2i ip2 d. let a = c .before .before .before .before .before .before .before .before .before .before .before .before .before .before .before .before .before .before .before .before .before .before .before .before .before .before .before .before .args in conclude-estimates (a .verdict) (memory (amounts (a .y .now) (a .f0 .now) (a .scal .now) (a .cont .now)) (newton (a .z1 .now) (a .z2 .now) (a .z3 .now) (a .f1 .now) (a .f2 .now) f3) (given rtol atol (a .mass .now) jac) (factors (a .e1 .now) e2r e2i (a .ip1 .now) ip2) d) _ _ _ _ _ _ (c .before .before .before .before .before .before .before .before .before .before .before .before .before .before .verdict2 .given .1) (c .before .before .before .before .before .before .before .before .estimate .ensures f3)
+returns-2 c = λ f3 rtol atol jac e2r e2i ip2 d. let a = c .before .before .before .before .before .before .before .before .before .before .before .before .before .before .before .before .before .before .before .before .before .before .before .before .before .before .before .before .args in conclude-estimates (wholeRound (a .kept) (a .verdict)) (memory (amounts (a .y .now) (a .f0 .now) (a .scal .now) (a .cont .now)) (newton (a .z1 .now) (a .z2 .now) (a .z3 .now) (a .f1 .now) (a .f2 .now) f3) (given rtol atol (a .mass .now) jac) (factors (a .e1 .now) e2r e2i (a .ip1 .now) ip2) d) _ _ _ _ _ _ (ap (wholeRound (c .before .before .before .before .before .before .before .before .before .before .before .before .before .before .before .before .before .before .before .before .before .before .before .before .before .before .before .before .args .kept)) (c .before .before .before .before .before .before .before .before .before .before .before .before .before .before .verdict2 .given .1)) (c .before .before .before .before .before .before .before .before .estimate .ensures f3)
 
 returns-3 : tie.Need-returns-3
-returns-3 c = λ f3 rtol atol jac e2r e2i ip2 d. let a = c .before .before .before .before .before .before .before .before .before .before .before .before .before .before .before .args in conclude-over (a .verdict) (memory (amounts (a .y .now) (a .f0 .now) (a .scal .now) (a .cont .now)) (newton (a .z1 .now) (a .z2 .now) (a .z3 .now) (a .f1 .now) (a .f2 .now) f3) (given rtol atol (a .mass .now) jac) (factors (a .e1 .now) e2r e2i (a .ip1 .now) ip2) d) _ (c .before .verdict3 .given .1)
+returns-3 c = λ f3 rtol atol jac e2r e2i ip2 d. let a = c .before .before .before .before .before .before .before .before .before .before .before .before .before .before .before .args in conclude-over (wholeRound (a .kept) (a .verdict)) (memory (amounts (a .y .now) (a .f0 .now) (a .scal .now) (a .cont .now)) (newton (a .z1 .now) (a .z2 .now) (a .z3 .now) (a .f1 .now) (a .f2 .now) f3) (given rtol atol (a .mass .now) jac) (factors (a .e1 .now) e2r e2i (a .ip1 .now) ip2) d) _ (ap (wholeRound (c .before .before .before .before .before .before .before .before .before .before .before .before .before .before .before .args .kept)) (c .before .verdict3 .given .1))
 
 pub conclude-spec : {M : Type 1} → statement M
 conclude-spec =

@@ -6,7 +6,7 @@ use Rattle.radau.proofs.attempt.ask_stage.Tie as tie
 
 returns : tie.Need-returns
 unfolding askStageOf
-returns c = rw (c .at-stage .ensures, c .before .before .before .before .before .stage-sum .ensures)
+returns c = rw (c .at-stage .ensures _, c .before .before .before .before .before .stage-sum .ensures)
 
 pub ask-stage-spec : {M : Type 1} → statement M
 ask-stage-spec =

@@ -6,7 +6,7 @@ use Rattle.radau.proofs.jacobian.ask_column.Tie as tie
 
 returns : tie.Need-returns
 unfolding askColumnOf
-returns c = λ jac. rw (c .at-stage .ensures, c .before .perturbation .ensures)
+returns c = λ kept jac. rw (c .at-stage .ensures, c .before .perturbation .ensures)
 
 pub ask-column-spec : {M : Type 1} → statement M
 ask-column-spec =

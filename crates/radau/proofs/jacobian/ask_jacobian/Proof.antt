@@ -1,17 +1,28 @@
 -- `ask_jacobian` meets its contract.
+use mathlib.Core.Path.{_≡_, ap, _∙_}
 use borrow.Author.Needs.{needs}
-use Rattle.blocks.specs.Jacobian.{askJacobianBy}
+use Rattle.state.specs.declared.run.Run.{Run}
+use Rattle.state.specs.declared.run.Stage.the-variants as stage
+use Rattle.state.specs.declared.talk.Place.{Place}
+use Rattle.state.specs.declared.talk.Request.{Request}
+use Rattle.state.specs.Memory.{Differences}
+use Rattle.blocks.specs.Setters.{atStage}
+use Rattle.blocks.specs.Matrices.{call}
+use Rattle.blocks.specs.Jacobian.{asking, askJacobianBy}
 use Rattle.blocks.proofs.JacobianLaws.{asked-by}
 use Rattle.radau.proofs.jacobian.ask_jacobian.Statement.{statement}
 use Rattle.radau.proofs.jacobian.ask_jacobian.Tie as tie
 
+same-but-run : {q : Request} {p : Place} {d : Differences} {r s : Run} → r ≡ s → asking (call r q p) d ≡ asking (call s q p) d
+same-but-run {q} {p} {d} e = ap (λ (r : Run). asking (call r q p) d) e
+
 returns : tie.Need-returns
 unfolding askJacobianBy
-returns c = asked-by _ _ _ (c .before .enum-told .given .1) (rw (c .at-stage .ensures, c .before .before .before .wanted .ensures))
+returns c = let k = c .before .before .before .before .before .before .before .before .before .args .kept in asked-by _ _ _ (c .before .enum-told .given .1) (same-but-run (c .at-stage .ensures k ∙ ap (atStage stage.Jacobian) (c .before .before .before .wanted .ensures k)))
 
 returns-2 : tie.Need-returns-2
 unfolding askJacobianBy
-returns-2 c = asked-by _ _ _ (c .before .before .before .before .before .before .before .before .before .before .before .before .before .enum-told2 .given .1) (rw (c .at-stage2 .ensures, c .before .before .before .before .before .before .before .before .before .before .before .before .before .before .before .wanted .ensures, c .before .before .before .zero2 .ensures, c .before .before .before .before .before .before .before .zero .ensures, c .before .before .before .before .before .before .before .before .before .before .before .copy .ensures, c .before .before .before .before .before .before .before .before .before .before .before .before .before .before .before .before .before .before .before .before .before .pre .3, c .before .before .before .before .before .before .before .before .before .before .before .before .before .before .before .before .before .before .before .before .before .pre .4))
+returns-2 c = let k = c .before .before .before .before .before .before .before .before .before .before .before .before .before .before .before .before .before .before .before .before .before .args .kept in asked-by _ _ _ (c .before .before .before .before .before .before .before .before .before .before .before .before .before .enum-told2 .given .1) (rw (c .before .before .before .zero2 .ensures, c .before .before .before .before .before .before .before .zero .ensures, c .before .before .before .before .before .before .before .before .before .before .before .copy .ensures, c .before .before .before .before .before .before .before .before .before .before .before .before .before .before .before .before .before .before .before .before .before .pre .3, c .before .before .before .before .before .before .before .before .before .before .before .before .before .before .before .before .before .before .before .before .before .pre .4) (same-but-run (c .at-stage2 .ensures k ∙ ap (atStage (stage.Column 0)) (c .before .before .before .before .before .before .before .before .before .before .before .before .before .before .before .wanted .ensures k))))
 
 pub ask-jacobian-spec : {M : Type 1} → statement M
 ask-jacobian-spec =

@@ -9,7 +9,7 @@ use Rattle.radau.proofs.jacobian.column.Statement.{statement}
 use Rattle.radau.proofs.jacobian.column.Tie as tie
 
 returns : tie.Need-returns
-returns c = column-first _ _ _ _ _ _ (c .before .before .before .before .if1 .taken) (c .before .before .ask-column .ensures _)
+returns c = column-first _ _ _ _ _ _ (c .before .before .before .before .if1 .taken) (c .before .before .ask-column .ensures _ _)
 
 ask-column-requires-2 : tie.Need-ask-column-requires-2
 ask-column-requires-2 c κs = simp length-set (omega arith)
@@ -18,7 +18,7 @@ same-length-2 : tie.Need-same-length-2
 same-length-2 c = simp length-set at (c .before .before .ask-column2 .kept .1 .1 .1 .0)
 
 returns-2 : tie.Need-returns-2
-returns-2 c = column-next _ _ _ _ _ _ (c .before .before .before .before .before .before .before .before .before .before .before .before .before .before .before .before .before .before .before .args .c - 1) (omega arith) (c .before .before .before .before .before .before .before .before .before .perturbation .ensures) (c .before .before .before .before .before .before .before .fill-column .ensures) (c .before .before .before .before .if2 .taken) (c .before .before .ask-column2 .ensures _)
+returns-2 c = column-next _ _ _ _ _ _ (c .before .before .before .before .before .before .before .before .before .before .before .before .before .before .before .before .before .before .before .args .c - 1) (omega arith) (c .before .before .before .before .before .before .before .before .before .perturbation .ensures) (c .before .before .before .before .before .before .before .fill-column .ensures) (c .before .before .before .before .if2 .taken) (c .before .before .ask-column2 .ensures _ _)
 
 returns-3 : tie.Need-returns-3
 returns-3 c = column-last _ _ _ _ _ _ (c .before .before .before .before .before .before .before .before .before .before .before .before .before .before .before .args .c - 1) (omega arith) (c .before .before .before .before .before .perturbation .ensures) (c .before .before .before .fill-column .ensures) (c .if2 .left) refl

@@ -1,10 +1,12 @@
 -- `estimate` meets its contract: the way is that of proofs/JudgeLaws.antt.
-use mathlib.Core.Path.{ap}
+use mathlib.Core.Path.{sym, subst}
 use native.Mathlib.Omega.{arith}
 use borrow.Author.Needs.{needs}
 use Rattle.state.specs.declared.run.Run.{Run}
+use Rattle.blocks.specs.Needs.{Fit}
 use Rattle.blocks.proofs.JudgeLaws.{estimate-by}
 use Rattle.blocks.proofs.FitLaws.{counted-fit}
+use Rattle.radau.specs.Moving.{whole}
 use Rattle.radau.proofs.judge.estimate.Statement.{statement}
 use Rattle.radau.proofs.judge.estimate.Tie as tie
 
@@ -15,7 +17,7 @@ counted-requires : tie.Need-counted-requires
 counted-requires c κs = omega (arith, c .before .before .before .before .before .before .before .before .before .before .before .before .before .before .before .before .before .before .before .before .before .before .before .before .before .before .before .before .before .before .before .before .pre .0 .0)
 
 tested-requires : tie.Need-tested-requires
-tested-requires c κs = let p = c .before .before .before .before .before .before .before .before .before .before .before .before .before .before .before .before .before .before .before .before .before .before .before .before .before .before .before .before .before .before .before .before .before .before .before .pre in let e = ap (λ (r : Run). r .shape .n) (c .before .before .counted .ensures) in (rw (c .before .before .counted .ensures) (counted-fit (p .0 .0)), (omega (arith, p), omega (arith, p), omega (arith, p), omega (arith, p), omega (arith, p, c .before .before .before .before .before .before .before .before .before .before .before .before .before .error-sides .kept, c .before .before .before .before .before .before .before .solve-first .kept)))
+tested-requires c κs = let p = c .before .before .before .before .before .before .before .before .before .before .before .before .before .before .before .before .before .before .before .before .before .before .before .before .before .before .before .before .before .before .before .before .before .before .before .pre in let k = c .before .before .before .before .before .before .before .before .before .before .before .before .before .before .before .before .before .before .before .before .before .before .before .before .before .before .before .before .before .before .before .before .before .before .before .args .kept in (subst (λ (r : Run). Fit 1 (k .shape .n) r) (sym (c .before .before .counted .ensures k)) (counted-fit (p .0 .0)), (omega (arith, p), omega (arith, p), omega (arith, p), omega (arith, p), omega (arith, p, c .before .before .before .before .before .before .before .before .before .before .before .before .before .error-sides .kept, c .before .before .before .before .before .before .before .solve-first .kept)))
 
 same-length : tie.Need-same-length
 same-length c = omega (arith, c .before .before .before .before .tested .kept)
@@ -30,7 +32,7 @@ same-length-4 : tie.Need-same-length-4
 same-length-4 c = omega (arith, c .before .before .before .before .before .before .before .before .before .before .before .before .before .before .before .before .before .before .error-sides .kept)
 
 returns : tie.Need-returns
-returns c = λ f3. let a = c .before .before .before .before .before .before .before .before .before .before .before .before .before .before .before .before .before .before .before .before .before .before .before .before .before .before .before .before .before .before .before .before .before .before .before .before .before .before .before .before .args in estimate-by (a .run) (a .e1 .now) (a .ip1 .now) (a .scal .now) (a .y .now) (a .cont .now) (a .z1 .now) (a .z2 .now) (a .z3 .now) (a .f1 .now) (a .f2 .now) f3 (a .mass .now) (a .f0 .now) _ _ _ _ _ _ _ _ _ (c .before .before .before .before .before .before .before .before .before .before .before .before .before .before .before .before .before .before .before .before .before .before .before .before .defect .ensures) (c .before .before .before .before .before .before .before .before .before .before .before .before .before .before .before .before .before .before .error-sides .ensures) (c .before .before .before .before .before .before .before .before .before .before .before .before .solve-first .ensures) (c .before .before .before .before .before .before .before .before .error .ensures) (c .before .before .before .before .before .before .before .counted .ensures) (c .before .before .before .before .tested .ensures)
+returns c = λ f3. let a = c .before .before .before .before .before .before .before .before .before .before .before .before .before .before .before .before .before .before .before .before .before .before .before .before .before .before .before .before .before .before .before .before .before .before .before .before .before .before .before .before .args in estimate-by (whole (a .kept) (a .moving)) (a .e1 .now) (a .ip1 .now) (a .scal .now) (a .y .now) (a .cont .now) (a .z1 .now) (a .z2 .now) (a .z3 .now) (a .f1 .now) (a .f2 .now) f3 (a .mass .now) (a .f0 .now) _ _ _ _ _ _ _ _ _ (c .before .before .before .before .before .before .before .before .before .before .before .before .before .before .before .before .before .before .before .before .before .before .before .before .defect .ensures) (c .before .before .before .before .before .before .before .before .before .before .before .before .before .before .before .before .before .before .error-sides .ensures) (c .before .before .before .before .before .before .before .before .before .before .before .before .solve-first .ensures) (c .before .before .before .before .before .before .before .before .error .ensures) (c .before .before .before .before .before .before .before .counted .ensures _) (c .before .before .before .before .tested .ensures)
 
 pub estimate-spec : {M : Type 1} → statement M
 estimate-spec =

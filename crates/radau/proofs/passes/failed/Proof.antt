@@ -10,11 +10,11 @@ use Rattle.radau.proofs.passes.failed.Tie as tie
 
 returns : tie.Need-returns
 unfolding failedOf
-returns c = yes _ _ _ (lt-ltb _ _ (c .before .if1 .taken)) (ap step.Asked (c .ended .ensures))
+returns c = λ kept. yes _ _ _ (lt-ltb _ _ (c .before .if1 .taken)) (ap step.Asked (c .ended .ensures kept))
 
 returns-2 : tie.Need-returns-2
 unfolding failedOf
-returns-2 c = no _ _ _ (le-ltb _ _ (c .before .before .before .before .before .if1 .left)) (rw (c .missed .ensures))
+returns-2 c = λ kept. no _ _ _ (le-ltb _ _ (c .before .before .before .before .before .if1 .left)) (rw (c .missed .ensures))
 
 pub failed-spec : {M : Type 1} → statement M
 failed-spec =

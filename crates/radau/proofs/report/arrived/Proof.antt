@@ -7,7 +7,7 @@ use Rattle.radau.proofs.report.arrived.Tie as tie
 
 returns : tie.Need-returns
 unfolding arrivedOf
-returns c = core-yes _ _ (c .before .before .if1 .taken) (rw (c .ended .ensures))
+returns c = core-yes _ _ (c .before .before .if1 .taken) (rw (c .ended .ensures _))
 
 returns-2 : tie.Need-returns-2
 unfolding arrivedOf

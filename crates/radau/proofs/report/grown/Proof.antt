@@ -8,11 +8,11 @@ use Rattle.radau.proofs.report.grown.Tie as tie
 
 returns : tie.Need-returns
 unfolding grownOf
-returns c = yes _ _ _ (c .before .before .before .if1 .taken) refl
+returns c = λ kept. yes _ _ _ (c .before .before .before .if1 .taken) refl
 
 returns-2 : tie.Need-returns-2
 unfolding grownOf
-returns-2 c = no _ _ _ (c .before .if1 .left) (rw (c .fresh .ensures))
+returns-2 c = λ kept. no _ _ _ (c .before .if1 .left) (rw (c .fresh .ensures kept))
 
 pub grown-spec : {M : Type 1} → statement M
 grown-spec = tie.close (tie.spec returns (λ c κs. search needs) returns-2)

@@ -7,11 +7,11 @@ use Rattle.radau.proofs.report.renewed.Tie as tie
 
 returns : tie.Need-returns
 unfolding renewedOf
-returns c = core-yes _ _ (c .before .before .if1 .taken) (rw (c .fresh .ensures))
+returns c = core-yes _ _ (c .before .before .if1 .taken) (rw (c .fresh .ensures _))
 
 returns-2 : tie.Need-returns-2
 unfolding renewedOf
-returns-2 c = core-no _ _ (c .before .if1 .left) (rw (c .grown .ensures))
+returns-2 c = core-no _ _ (c .before .if1 .left) (rw (c .grown .ensures _))
 
 pub renewed-spec : {M : Type 1} → statement M
 renewed-spec = tie.close (tie.spec (λ c κs. search needs) returns (λ c κs. search needs) returns-2)

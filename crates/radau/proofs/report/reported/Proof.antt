@@ -6,23 +6,23 @@ use Rattle.radau.proofs.report.reported.Tie as tie
 
 returns : tie.Need-returns
 unfolding reportedOf
-returns c = rw (c .enum-told .given .1)
+returns c = λ kept. rw (c .enum-told .given .1)
 
 returns-2 : tie.Need-returns-2
 unfolding reportedOf
-returns-2 c = rw (c .enum-told2 .given .1)
+returns-2 c = λ kept. rw (c .enum-told2 .given .1)
 
 returns-3 : tie.Need-returns-3
 unfolding reportedOf
-returns-3 c = rw (c .before .enum-told3 .given .1, c .ended .ensures)
+returns-3 c = λ kept. rw (c .before .enum-told3 .given .1, c .ended .ensures kept)
 
 returns-4 : tie.Need-returns-4
 unfolding reportedOf
-returns-4 c = rw (c .before .before .before .reply .given .1, c .ask-derivative .ensures)
+returns-4 c = λ kept. rw (c .before .before .before .reply .given .1, c .ask-derivative .ensures kept)
 
 returns-5 : tie.Need-returns-5
 unfolding reportedOf
-returns-5 c = rw (c .before .before .reply2 .given .1, c .marked .ensures)
+returns-5 c = λ kept. rw (c .before .before .reply2 .given .1, c .marked .ensures kept)
 
 pub reported-spec : {M : Type 1} → statement M
 reported-spec =

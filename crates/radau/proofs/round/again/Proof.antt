@@ -11,14 +11,14 @@ use Rattle.radau.proofs.round.again.Statement.{statement}
 use Rattle.radau.proofs.round.again.Tie as tie
 
 failed-requires : tie.Need-failed-requires
-failed-requires c κs = c .before .before .before .before .before .pre .0 .failures
+failed-requires c κs = c .before .before .before .before .before .before .pre .0 .failures
 
 returns : tie.Need-returns
 unfolding againOf
-returns c = core-yes _ _ (le-leb _ _ (c .before .if1 .taken)) (ap (λ (s : Step). resumed s (c .before .before .before .before .before .before .args .cont .now)) (c .failed .ensures))
+returns c = core-yes _ _ (le-leb _ _ (c .before .if1 .taken)) (ap (λ (s : Step). resumed s (c .before .before .before .before .before .before .before .args .cont .now)) (c .failed .ensures _))
 
 ask-first-requires : tie.Need-ask-first-requires
-ask-first-requires c κs = (c .before .before .before .before .before .before .pre .0, c .before .before .before .before .before .before .pre .1)
+ask-first-requires c κs = (c .before .before .before .before .before .before .before .pre .0, c .before .before .before .before .before .before .before .pre .1)
 
 returns-2 : tie.Need-returns-2
 unfolding againOf

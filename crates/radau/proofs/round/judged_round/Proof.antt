@@ -8,7 +8,7 @@ use Rattle.radau.proofs.round.judged_round.Statement.{statement}
 use Rattle.radau.proofs.round.judged_round.Tie as tie
 
 paced-requires : tie.Need-paced-requires
-paced-requires c κs = (c .before .before .pre, below-limit (c .before .before .args .run .control .«newt_iter») _ (c .if1 .taken))
+paced-requires c κs = (c .before .before .pre, below-limit (c .before .before .args .moving .control .«newt_iter») _ (c .if1 .taken))
 
 returns : tie.Need-returns
 unfolding judgedRound

@@ -12,11 +12,11 @@ enum-told-2 c = search needs
 
 returns : tie.Need-returns
 unfolding slowRound
-returns c = rw (c .before .enum-told .given .1)
+returns c = λ kept. rw (c .before .enum-told .given .1)
 
 returns-2 : tie.Need-returns-2
 unfolding slowRound
-returns-2 c = rw (c .before .before .enum-told2 .given .1, c .missed .ensures)
+returns-2 c = λ kept. rw (c .before .before .enum-told2 .given .1, c .missed .ensures)
 
 pub slow-round-spec : {M : Type 1} → statement M
 slow-round-spec =

@@ -2,6 +2,7 @@
 use native.Mathlib.Omega.{arith}
 use borrow.Author.Needs.{needs}
 use Rattle.blocks.proofs.RoundLaws.{slowed-by}
+use Rattle.radau.specs.Moving.{whole}
 use Rattle.radau.proofs.round.slowed.Statement.{statement}
 use Rattle.radau.proofs.round.slowed.Tie as tie
 
@@ -18,7 +19,7 @@ add-rejected : tie.Need-add-rejected
 add-rejected c = omega (arith, c .before .before .before .before .before .before .before .before .before .pre .0 .rejected)
 
 returns : tie.Need-returns
-returns c = slowed-by (c .before .before .before .before .before .before .before .before .before .before .before .before .args .run) (c .before .before .before .before .before .before .before .before .before .before .before .before .args .dyth) _ _ _ (c .before .before .before .before .before .before .before .before .before .before .before .min .ensures) (c .before .before .before .before .before .before .before .before .before .before .max .ensures) (c .before .before .before .before .before .before .before .inverse-root .ensures) _ (c .slow-round .ensures)
+returns c = slowed-by (whole (c .before .before .before .before .before .before .before .before .before .before .before .before .args .kept) (c .before .before .before .before .before .before .before .before .before .before .before .before .args .moving)) (c .before .before .before .before .before .before .before .before .before .before .before .before .args .dyth) _ _ _ (c .before .before .before .before .before .before .before .before .before .before .before .min .ensures) (c .before .before .before .before .before .before .before .before .before .before .max .ensures) (c .before .before .before .before .before .before .before .inverse-root .ensures) _ (c .slow-round .ensures _)
 
 pub slowed-spec : {M : Type 1} → statement M
 slowed-spec =

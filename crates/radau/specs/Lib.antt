@@ -1,0 +1,2 @@
+-- What the code's own types stand for. What an advance does is defined in `blocks`.
+pub mod Moving
