@@ -13,7 +13,7 @@ use Rattle.radau.specs.declared.moving.Call.{Call}
 use Rattle.radau.specs.declared.moving.Step.{Step}
 use Rattle.radau.specs.declared.moving.Step.the-variants.{Asked, Main, Matrices, Attempt}
 use Rattle.radau.specs.declared.moving.Round.{Round}
-use Rattle.radau.specs.declared.moving.Round.the-variants.{Newton, Estimate, Over}
+use Rattle.radau.specs.declared.moving.Round.the-variants as over
 use Rattle.radau.specs.declared.moving.Told.{Told}
 use Rattle.radau.specs.declared.moving.Told.the-variants as held
 
@@ -36,9 +36,12 @@ wholeStep k (Matrices m) = step.Matrices (whole k m)
 wholeStep k (Attempt m) = step.Attempt (whole k m)
 
 abbrev pub wholeRound : Kept → Round → theRound.Round
-wholeRound k (Newton m) = round.Newton (whole k m)
-wholeRound k (Estimate m) = round.Estimate (whole k m)
-wholeRound k (Over s) = round.Over (wholeStep k s)
+wholeRound k (over.Newton m) = round.Newton (whole k m)
+wholeRound k (over.Estimate m) = round.Estimate (whole k m)
+wholeRound k (over.Asked c) = round.Over (step.Asked (wholeCall k c))
+wholeRound k (over.Main m) = round.Over (step.Main (whole k m))
+wholeRound k (over.Matrices m) = round.Over (step.Matrices (whole k m))
+wholeRound k (over.Attempt m) = round.Over (step.Attempt (whole k m))
 
 abbrev pub wholeTold : Kept → Told → theTold.Told
 wholeTold k (held.Asked c) = told.Asked (wholeCall k c)

@@ -111,7 +111,10 @@ fn conclude(
                 f2,
             )
         }
-        Round::Over(step) => step,
+        Round::Asked(call) => Step::Asked(call),
+        Round::Main(moving) => Step::Main(moving),
+        Round::Matrices(moving) => Step::Matrices(moving),
+        Round::Attempt(moving) => Step::Attempt(moving),
     }
 }
 

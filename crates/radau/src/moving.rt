@@ -26,7 +26,8 @@ pub struct Moving {
     pub stage: Stage,
 }
 
-// `Call`, `Step`, `Round` and `Told` of blocks/src/step.rt, without what is kept.
+// `Call`, `Step`, `Round` and `Told` of blocks/src/step.rt, without what is kept. The moving part stands at the same place in every variant: `Over(Step)` would shift it,
+// and each field would be copied in pieces.
 pub struct Call {
     pub moving: Moving,
     pub request: Request,
@@ -43,7 +44,10 @@ pub enum Step {
 pub enum Round {
     Newton(Moving),
     Estimate(Moving),
-    Over(Step),
+    Asked(Call),
+    Main(Moving),
+    Matrices(Moving),
+    Attempt(Moving),
 }
 
 pub enum Told {

@@ -1,7 +1,13 @@
 -- `conclude` meets its contract, by the three ways out of a round.
-use mathlib.Core.Path.{refl, ap}
+use mathlib.Core.Path.{_≡_, refl, ap}
+use mathlib.Core.List.{List}
+use lib.Ieee.{Float}
+use Prim.Native.Nat.{ℕ}
 use borrow.Author.Needs.{needs}
-use Rattle.state.specs.Memory.{memory, amounts, newton, given, factors}
+use Rattle.state.specs.Memory.{memory, amounts, newton, given, factors, Differences}
+use Rattle.blocks.specs.declared.step.Step.{Step}
+use Rattle.blocks.specs.declared.step.Round.the-variants as round
+use Rattle.blocks.specs.Advance.{stepped, concludeOf}
 use Rattle.blocks.proofs.AdvanceLaws.{conclude-again, conclude-estimates, conclude-over, newton-fits, estimate-fits, again-asks, estimate-asks}
 use Rattle.radau.specs.Moving.{wholeRound}
 use Rattle.radau.proofs.advance.conclude.Statement.{statement}
@@ -46,8 +52,23 @@ same-length-6 c = c .before .before .before .before .before .before .before .bef
 returns-2 : tie.Need-returns-2
 returns-2 c = λ f3 rtol atol jac e2r e2i ip2 d. let a = c .before .before .before .before .before .before .before .before .before .before .before .before .before .before .before .before .before .before .before .before .before .before .before .before .before .before .before .before .args in conclude-estimates (wholeRound (a .kept) (a .verdict)) (memory (amounts (a .y .now) (a .f0 .now) (a .scal .now) (a .cont .now)) (newton (a .z1 .now) (a .z2 .now) (a .z3 .now) (a .f1 .now) (a .f2 .now) f3) (given rtol atol (a .mass .now) jac) (factors (a .e1 .now) e2r e2i (a .ip1 .now) ip2) d) _ _ _ _ _ _ (ap (wholeRound (c .before .before .before .before .before .before .before .before .before .before .before .before .before .before .before .before .before .before .before .before .before .before .before .before .before .before .before .before .args .kept)) (c .before .before .before .before .before .before .before .before .before .before .before .before .before .before .verdict2 .given .1)) (c .before .before .before .before .before .before .before .before .estimate .ensures f3)
 
+-- an attempt that is over, whatever its step
+over-at : (s : tie.Start) (t : Step) → wholeRound (s .args .kept) (s .args .verdict) ≡ round.Over t → (f3 rtol atol jac e2r e2i : List Float) (ip2 : List ℕ) (d : Differences)
+    → stepped t (memory (amounts (s .args .y .now) (s .args .f0 .now) (s .args .scal .now) (s .args .cont .now)) (newton (s .args .z1 .now) (s .args .z2 .now) (s .args .z3 .now) (s .args .f1 .now) (s .args .f2 .now) f3) (given rtol atol (s .args .mass .now) jac) (factors (s .args .e1 .now) e2r e2i (s .args .ip1 .now) ip2) d)
+    ≡ concludeOf (wholeRound (s .args .kept) (s .args .verdict)) (memory (amounts (s .args .y .now) (s .args .f0 .now) (s .args .scal .now) (s .args .cont .now)) (newton (s .args .z1 .now) (s .args .z2 .now) (s .args .z3 .now) (s .args .f1 .now) (s .args .f2 .now) f3) (given rtol atol (s .args .mass .now) jac) (factors (s .args .e1 .now) e2r e2i (s .args .ip1 .now) ip2) d) .core
+over-at s t e f3 rtol atol jac e2r e2i ip2 d = conclude-over _ _ _ e
+
 returns-3 : tie.Need-returns-3
-returns-3 c = λ f3 rtol atol jac e2r e2i ip2 d. let a = c .before .before .before .before .before .before .before .before .before .before .before .before .before .before .before .args in conclude-over (wholeRound (a .kept) (a .verdict)) (memory (amounts (a .y .now) (a .f0 .now) (a .scal .now) (a .cont .now)) (newton (a .z1 .now) (a .z2 .now) (a .z3 .now) (a .f1 .now) (a .f2 .now) f3) (given rtol atol (a .mass .now) jac) (factors (a .e1 .now) e2r e2i (a .ip1 .now) ip2) d) _ (ap (wholeRound (c .before .before .before .before .before .before .before .before .before .before .before .before .before .before .before .args .kept)) (c .before .verdict3 .given .1))
+returns-3 c = let s = c .before .before .before .before .before .before .before .before .before .before .before .before .before .before .before in over-at s _ (ap (wholeRound (s .args .kept)) (c .before .verdict3 .given .1))
+
+returns-4 : tie.Need-returns-4
+returns-4 c = let s = c .before .before .before .before .before .before .before .before .before .before .before .before .before .before .before in over-at s _ (ap (wholeRound (s .args .kept)) (c .before .verdict4 .given .1))
+
+returns-5 : tie.Need-returns-5
+returns-5 c = let s = c .before .before .before .before .before .before .before .before .before .before .before .before .before .before .before in over-at s _ (ap (wholeRound (s .args .kept)) (c .before .verdict5 .given .1))
+
+returns-6 : tie.Need-returns-6
+returns-6 c = let s = c .before .before .before .before .before .before .before .before .before .before .before .before .before .before .before in over-at s _ (ap (wholeRound (s .args .kept)) (c .before .verdict6 .given .1))
 
 pub conclude-spec : {M : Type 1} → statement M
 conclude-spec =
@@ -57,7 +78,7 @@ conclude-spec =
     again-requires
     enum-known-verdict-2
     estimate-requires
-    enum-known-verdict-3
+    enum-known-verdict-3 (λ c. search needs) (λ c. search needs) (λ c. search needs)
     same-length
     same-length-2
     returns
@@ -66,4 +87,7 @@ conclude-spec =
     same-length-5
     same-length-6
     returns-2
-    returns-3)
+    returns-3
+    returns-4
+    returns-5
+    returns-6)

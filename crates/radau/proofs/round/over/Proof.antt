@@ -1,0 +1,25 @@
+-- `over` meets its contract, by the step's four variants.
+use borrow.Author.Needs.{needs}
+use Rattle.radau.proofs.round.over.Statement.{statement}
+use Rattle.radau.proofs.round.over.Tie as tie
+
+returns : tie.Need-returns
+returns c = λ kept. rw (c .before .step .given .1)
+
+returns-2 : tie.Need-returns-2
+returns-2 c = λ kept. rw (c .before .step2 .given .1)
+
+returns-3 : tie.Need-returns-3
+returns-3 c = λ kept. rw (c .before .step3 .given .1)
+
+returns-4 : tie.Need-returns-4
+returns-4 c = λ kept. rw (c .before .step4 .given .1)
+
+pub over-spec : {M : Type 1} → statement M
+over-spec =
+    tie.close
+    (tie.spec (λ c. search needs) (λ c. search needs) (λ c. search needs) (λ c. search needs)
+    returns
+    returns-2
+    returns-3
+    returns-4)
