@@ -35,7 +35,7 @@ enum {
     ELCHEPUR_REFUSED_PARTITION = 10,      /* nind1 is given and the three don't sum to n, or only others are and exceed n */
     ELCHEPUR_REFUSED_FIRST_STEP = 11,     /* first_step is given as 0 */
     ELCHEPUR_REFUSED_STEP_LIMITS = 12,    /* max_step < 0, or min_step above the step ceiling */
-    ELCHEPUR_REFUSED_UNFIT = 13,          /* the state is unfit, or is none that these functions wrote */
+    ELCHEPUR_REFUSED_UNFIT = 13,          /* the state is unfit, or the words are no state's */
     ELCHEPUR_REFUSED_HAS_ENDED = 14,      /* the run has ended */
     ELCHEPUR_REFUSED_REPLY = 15,          /* the reply is not of the kind asked for */
     ELCHEPUR_REFUSED_LENGTH = 16,         /* matrix routine: a length is not n * n or n */
@@ -52,7 +52,7 @@ enum {
  * reply to elchepur_advance, whose answer is the next request, until one says that the run has ended. elchepur_result then has the counts.
  *
  * The state of a run is 67 words. They hold no address: they may be copied, stored, and taken up later, together with the 22 parts.
- * Words that no call wrote there are refused as unfit.
+ * Words that are no state's, and states that are unfit, are refused with 13.
  */
 
 enum {
