@@ -2,8 +2,8 @@
 """Holds the documents to the repository.
 
 In every document a name with its file, written `name` (crates/../File), must be declared there; every file or folder of ours
-that a document names or links to must exist. A run of `tools/decay` that a document shows must be the stored answer of that sheet. Nothing that is committed
-may name a folder of one machine."""
+that a document names or links to must exist. A run of `tools/decay` that a document shows must be the stored answer of that sheet. How many answers the replay
+programs compare, as their stored output has it, must stand in README.md and docs/PROMISES.md. Nothing that is committed may name a folder of one machine."""
 
 import pathlib
 import re
@@ -52,10 +52,35 @@ def about(document, stored):
             yield f"{path} has another answer than is shown"
 
 
+def compared(program, kinds=""):
+    """How many answers of the kinds that begin so a replay program compares, by its stored output."""
+    lines = (ROOT / "crates" / program / "stdout").read_text().splitlines()
+    return sum(int(line.split()[-4]) for line in lines if line.endswith(" differ") and line.startswith(tuple(kinds.split(","))))
+
+
+def figures():
+    """The numbers that a document must have, each with where it is from."""
+    readme = [(name, "") for name in ("scalar_vectors", "matrix_replay", "opening_cases", "admission_cases", "sheet_replay")]
+    readme += [("run_replay", "runs"), ("sheet_replay", "status"), ("sheet_replay", "refused")]
+    promises = [("scalar_vectors", kinds) for kinds in ("abs", "max,min", "clamp", "signum", "sqrt", "root", "inverse_root,two,four,quarter", "power", "coefficient")]
+    promises += [("matrix_replay", kinds) for kinds in ("lu_decomp ", "lu_decomp_complex", "lin_solve ", "interpolate", "bounds", "refusals")]
+    promises += [("opening_cases", "accepted"), ("run_replay", "derivative,Jacobian,report,ended"), *readme[2:]]
+    for document, wanted in (("README.md", readme), ("docs/PROMISES.md", promises)):
+        yield from ((document, f"{compared(*of):,}", " ".join(of).strip()) for of in wanted)
+
+
+def about_figures():
+    """The numbers that a document lacks."""
+    for document, number, of in figures():
+        if not re.search(rf"(?<![\d,]){number}(?![\d,]*\d)", (ROOT / document).read_text()):
+            yield f"{document}: it doesn't say {number}, which is the number of {of}"
+
+
 def complaints():
     stored = dict(sheet_answers.records_of(sheet_answers.STORED.read_bytes()))
     for document in DOCUMENTS:
         yield from (f"{document.relative_to(ROOT)}: {wrong}" for wrong in about(document, stored))
+    yield from about_figures()
     listed = subprocess.run(["git", "ls-files", "-z"], cwd=ROOT, capture_output=True, check=True).stdout.decode()
     for name in filter(None, listed.split("\0")):
         if (ROOT / name).is_file() and MACHINE.search((ROOT / name).read_text(errors="replace")) and name != "tests/documents.py":
@@ -63,5 +88,5 @@ def complaints():
 
 
 found = list(complaints())
-print("\n".join(found) if found else f"{len(DOCUMENTS)} documents name only what is here, and show runs as they are stored")
+print("\n".join(found) if found else f"{len(DOCUMENTS)} documents name only what is here, and show runs and their numbers as they are stored")
 sys.exit(1 if found else 0)
