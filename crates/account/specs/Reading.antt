@@ -1,4 +1,4 @@
--- How a journal is read: the counts that it gives, and what became of its attempts. Nothing here looks at the counters or flags of the run.
+-- How a journal is read: the counts that it gives, and what became of its attempts. Of the counters and flags of the run nothing is looked at but the round at which a question was asked.
 use Prim.Native.Nat.{ℕ, _+_, _*_}
 use mathlib.Core.Bool.{Bool, true, false, not, _&&_, _||_}
 use mathlib.Core.List.{List, [], _∷_}

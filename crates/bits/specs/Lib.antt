@@ -1,1 +1,2 @@
+-- What the 64 bits of a double are.
 pub mod Pattern

@@ -1,3 +1,4 @@
+-- In order of reading: examples and refuted claims, one outcome for an input, refusals, then the laws that the proofs cite.
 pub mod Examples
 pub mod Wrong
 pub mod Determinism

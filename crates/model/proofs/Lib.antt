@@ -1,3 +1,4 @@
+-- In order of reading: laws of a reaction and of the tests, then what the derivative is.
 pub mod ReactionLaws
 pub mod TestLaws
 pub mod DerivativeTheorems

@@ -1,1 +1,2 @@
+-- What the program lends, as memory.
 pub mod Lent

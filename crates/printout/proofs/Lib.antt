@@ -1,1 +1,2 @@
+-- What is told of a printed forecast.
 pub mod Theorem

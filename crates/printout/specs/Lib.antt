@@ -1,1 +1,2 @@
+-- What the exported forecast writes.
 pub mod Printout

@@ -1,1 +1,2 @@
+-- Laws of the settings that a case gives.
 pub mod SettingsLaws

@@ -1,3 +1,4 @@
+-- In order of reading: laws that the proofs cite, then the theorems of the square root and of the coefficients, and what is computed of them.
 pub mod Tests
 pub mod OrderLaws
 pub mod PatternLaws

@@ -1,3 +1,4 @@
+-- In order of reading: digits and numbers read and written, then lines, then that a sheet is read exactly as it is written.
 pub mod DigitsLaws
 pub mod NumbersLaws
 pub mod Inverse

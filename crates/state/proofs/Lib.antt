@@ -1,2 +1,3 @@
+-- Laws of parts that are filled, and of pivots.
 pub mod FillLaws
 pub mod Pivots
