@@ -78,8 +78,12 @@ def counting(text, file, names):
     for line in text.split("\n"):
         indent = len(line) - len(line.lstrip())
         test = re.fullmatch(r"(.*\bif )(.*)( \{)", line)
+        held = re.fullmatch(r"\s*if let (.*) = (\w+) \{", line)
         arm = re.fullmatch(r"(\s*[A-Z]\w*::.* => )(.*)", line)
-        if test:
+        if held:
+            line = f"crate::taken::test({len(names)}, matches!({held.group(2)}, {held.group(1)}));\n{line}"
+            names += [unlike(names, f"{file}: if let {held.group(1)}: {outcome}") for outcome in ("yes", "no")]
+        elif test:
             line = f"{test.group(1)}crate::taken::test({len(names)}, {test.group(2)}){test.group(3)}"
             names += [unlike(names, f"{file}: if {test.group(2)}: {outcome}") for outcome in ("yes", "no")]
         elif arm:

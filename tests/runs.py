@@ -406,11 +406,15 @@ def try_branches(counts):
 # Branches of the advance that no run takes, and why.
 NEVER = {
     "advance: Stage::Ended(status)": "14 stands before it",
-    "advance: Step::Matrices(run)": "six passes settle the matrices",
+    "advance: Step::Matrices(moving)": "six passes settle the matrices",
+    "advance: Round::Matrices(moving)": "a round that is over leads to a request or to the next pass",
+    "advance: Round::Attempt(moving)": "likewise",
+    "round: Step::Matrices(moving)": "likewise",
+    "round: Step::Attempt(moving)": "likewise",
     "passes: Decomposed::RefusedOrder": "the order fits",
     "passes: Decomposed::RefusedLength": "the lengths fit",
-    "passes: Step::Asked(call)": "the run of a step is taken only where another pass is wanted",
-    "passes: Step::Attempt(run)": "likewise",
+    "passes: Step::Asked(call)": "the moving part of a step is taken only where another pass is wanted",
+    "passes: Step::Attempt(moving)": "likewise",
     "report: Reply::Filled": "15 stands before it",
 }
 
