@@ -10,4 +10,5 @@ pub mod Interchange
 pub mod Cells
 pub mod Rows
 pub mod Cases
+pub mod Sides
 pub mod Backward

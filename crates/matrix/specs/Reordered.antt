@@ -2,7 +2,7 @@
 --     a real update goes row by row, along contiguous memory, where lu.rs goes column by column, and past the last multiplier that is not zero it
 --     doesn't go at all (proofs/Rows.antt: the matrix is the same)
 --     a complex update is one loop that asks for the multiplier's case in each turn, where lu.rs has three loops (proofs/Cases.antt: the same)
---     a real back phase goes row by row, where linear.rs goes column by column (proofs/Backward.antt: the right side is the same)
+--     a back phase goes row by row, where linear.rs goes column by column (proofs/Backward.antt: the right side is the same)
 use Prim.Native.Nat.{ℕ, _+_, _-_, _≤_, _<_}
 use mathlib.Core.Path.{_≡_}
 use mathlib.Core.List.{List}
@@ -12,7 +12,7 @@ use Rattle.words.specs.Words.{_⊕_, _⊗_, _⊘_, _!_, double}
 use Rattle.words.specs.Loop.{loop, pick}
 use Rattle.words.specs.Grid.{at}
 use Rattle.matrix.specs.declared.complex.Complex.{Complex}
-use Rattle.matrix.specs.Complex.{complex, Parts, atComplex, timesComplex}
+use Rattle.matrix.specs.Complex.{complex, Parts, atComplex, entryComplex, setComplex, negatedComplex, plusComplex, timesComplex, overComplex}
 use Rattle.matrix.specs.Elimination.{Kind}
 use Rattle.matrix.specs.LuComplex.{addedComplex}
 
@@ -43,10 +43,39 @@ multipliedOf t x =
 unfoldable pub multipliedAt : ℕ → ℕ → ℕ → Complex → ℕ → Parts → Parts
 multipliedAt n k j t i a = addedComplex n i j a (multipliedOf t (atComplex a n i k))
 
--- row n - ib of the back phase: the terms of linear.rs:88 in its order, the last entry's first, then linear.rs:84 or 93
-module _ (a : List Float) (n : ℕ) where
-  unfoldable pub sumAt : ℕ → List Float → ℕ → Float → Float
-  sumAt i b kb s = s ⊕ at a n i (n - kb) ⊗ neg (b ! (n - kb))
+-- ---- the back phase, with the lines of linear.rs for both kinds: (real; complex)
 
-  unfoldable pub rowSolvedAt : ℕ → List Float → List Float
-  rowSolvedAt ib b = set b (n - ib) (loop (sumAt (n - ib) b) 1 ib (b ! (n - ib)) ⊘ at a n (n - ib) (n - ib))
+-- How a row of the back phase reads and writes a right side B of entries E, beside a matrix A.
+pub record Entries (A B E : Type 0) : Type 0 where
+  -- `cell a n i k`: the matrix's entry in row i, column k of n
+  pub cell : A → ℕ → ℕ → ℕ → E
+  -- `at b i` and `put b i x`: the right side's entry i, and the right side with x there
+  pub at : B → ℕ → E
+  pub put : B → ℕ → E → B
+  -- `less s x y`: what s becomes where it loses x times y (88; 197-205)
+  pub less : E → E → E → E
+  -- `over x z`: x over z (84, 93; 190-192, 210-212)
+  pub over : E → E → E
+
+abbrev pub realEntries : Entries (List Float) (List Float) Float
+realEntries = record { cell = at; at = _!_; put = set; less = λ (s x y : Float). s ⊕ x ⊗ neg y; over = _⊘_ }
+
+abbrev pub complexEntries : Entries Parts Parts Complex
+complexEntries =
+    record {
+      cell = atComplex;
+      at = entryComplex;
+      put = setComplex;
+      less = λ (s x y : Complex). plusComplex s (timesComplex x (negatedComplex y));
+      over = overComplex;
+    }
+
+-- row n - ib: the terms of linear.rs in its order, the last entry's first, then the division
+module _ {A B E : Type 0} (entries : Entries A B E) (a : A) (n : ℕ) where
+  unfoldable pub sumAt : ℕ → B → ℕ → E → E
+  sumAt i b kb s = entries .less s (entries .cell a n i (n - kb)) (entries .at b (n - kb))
+
+  unfoldable pub rowSolvedAt : ℕ → B → B
+  rowSolvedAt ib b =
+      entries .put b (n - ib)
+      (entries .over (loop (sumAt (n - ib) b) 1 ib (entries .at b (n - ib))) (entries .cell a n (n - ib) (n - ib)))

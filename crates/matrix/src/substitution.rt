@@ -9,7 +9,7 @@ ghost use Rattle.words.specs.Loop.{loop};
 ghost use Rattle.words.specs.Grid.{Square};
 ghost use Rattle.matrix.specs.Substitution.{exchanged, forwardAt, solved};
 ghost use Rattle.matrix.specs.Linear.{realSide, addAt, forward};
-ghost use Rattle.matrix.specs.Reordered.{rowSolvedAt};
+ghost use Rattle.matrix.specs.Reordered.{realEntries, rowSolvedAt};
 
 // Entries m and k change places.
 pub fn exchange(b: &mut [f64], m: usize, k: usize)
@@ -38,7 +38,7 @@ pub fn add_column(n: usize, a: &[f64], b: &mut [f64], k: usize)
 pub fn solve_row(n: usize, a: &[f64], b: &mut [f64], ib: usize)
     requires { ⌜ Square n (now a) ⌝ }
     requires { ⌜ (length (now b) ≡ n) × (1 ≤ ib) × (ib ≤ n) ⌝ }
-    ensures { λ _. ⌜ now (b .exit) ≡ rowSolvedAt (now (a .entry)) n ib (now (b .entry)) ⌝ }
+    ensures { λ _. ⌜ now (b .exit) ≡ rowSolvedAt realEntries (now (a .entry)) n ib (now (b .entry)) ⌝ }
 {
     let i = n - ib;
     let mut sum = b[i];
@@ -75,7 +75,7 @@ pub fn forward_phase(n: usize, a: &[f64], b: &mut [f64], ip: &[usize])
 pub fn back_phase(n: usize, a: &[f64], b: &mut [f64])
     requires { ⌜ Square n (now a) ⌝ }
     requires { ⌜ length (now b) ≡ n ⌝ }
-    ensures { λ _. ⌜ now (b .exit) ≡ loop (rowSolvedAt (now (a .entry)) n) 1 (n + 1) (now (b .entry)) ⌝ }
+    ensures { λ _. ⌜ now (b .exit) ≡ loop (rowSolvedAt realEntries (now (a .entry)) n) 1 (n + 1) (now (b .entry)) ⌝ }
 {
     let past = n + 1;
     for ib in 1..past {

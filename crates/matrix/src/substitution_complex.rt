@@ -1,4 +1,5 @@
-// The phases of `lin_solve_complex`, loop by loop as linear.rs has them (147-214), on slices whose lengths and pivots were tested.
+// The phases of `lin_solve_complex` (linear.rs:147-214), on slices whose lengths and pivots were tested. As in substitution.rt the forward phase goes loop
+// by loop as in linear.rs, the back phase along the rows; that leaves what linear.rs leaves (proofs/Backward.antt), the order 1 included.
 use crate::complex::Complex;
 use crate::complex::at_complex;
 use crate::complex::entry_complex;
@@ -14,8 +15,9 @@ ghost use lib.ListN.{length, getD};
 ghost use Rattle.words.specs.Loop.{loop};
 ghost use Rattle.words.specs.Grid.{Square};
 ghost use Rattle.matrix.specs.Complex.{parts, entryComplex, setComplex};
-ghost use Rattle.matrix.specs.Substitution.{exchanged, forwardAt, backAt, solved};
-ghost use Rattle.matrix.specs.LinearComplex.{complexSide, dividedComplex, addComplexAt, forwardComplex, backComplex};
+ghost use Rattle.matrix.specs.Substitution.{exchanged, forwardAt, solved};
+ghost use Rattle.matrix.specs.LinearComplex.{complexSide, addComplexAt, forwardComplex};
+ghost use Rattle.matrix.specs.Reordered.{complexEntries, rowSolvedAt};
 
 // Entries m and k change places.
 pub fn exchange_complex(br: &mut [f64], bi: &mut [f64], m: usize, k: usize)
@@ -24,16 +26,6 @@ pub fn exchange_complex(br: &mut [f64], bi: &mut [f64], m: usize, k: usize)
 {
     exchange(br, m, k);
     exchange(bi, m, k);
-}
-
-// Entry k over the diagonal entry.
-pub fn divide(n: usize, ar: &[f64], ai: &[f64], br: &mut [f64], bi: &mut [f64], k: usize)
-    requires { ⌜ Square n (now ar) × Square n (now ai) ⌝ }
-    requires { ⌜ (length (now br) ≡ n) × (length (now bi) ≡ n) × (k < n) ⌝ }
-    ensures { λ _. ⌜ parts (now (br .exit)) (now (bi .exit)) ≡ dividedComplex (parts (now (ar .entry)) (now (ai .entry))) n k (parts (now (br .entry)) (now (bi .entry))) ⌝ }
-{
-    let z = over(entry_complex(br, bi, k), at_complex(n, ar, ai, k, k));
-    set_complex(br, bi, k, z);
 }
 
 // Entry i gains t times the entry of column k.
@@ -56,7 +48,7 @@ pub fn add_entry(
     set_complex(br, bi, i, z);
 }
 
-// The entries from lo up to hi gain t times column k.
+// Below entry k, the entries gain t times column k.
 pub fn add_column(
     n: usize,
     ar: &[f64],
@@ -65,16 +57,31 @@ pub fn add_column(
     bi: &mut [f64],
     k: usize,
     t: Complex,
-    lo: usize,
-    hi: usize,
 )
     requires { ⌜ Square n (now ar) × Square n (now ai) ⌝ }
-    requires { ⌜ (length (now br) ≡ n) × (length (now bi) ≡ n) × (k < n) × (lo ≤ hi) × (hi ≤ n) ⌝ }
-    ensures { λ _. ⌜ parts (now (br .exit)) (now (bi .exit)) ≡ loop (addComplexAt (parts (now (ar .entry)) (now (ai .entry))) n k t) lo hi (parts (now (br .entry)) (now (bi .entry))) ⌝ }
+    requires { ⌜ (length (now br) ≡ n) × (length (now bi) ≡ n) × (k < n) ⌝ }
+    ensures { λ _. ⌜ parts (now (br .exit)) (now (bi .exit)) ≡ loop (addComplexAt (parts (now (ar .entry)) (now (ai .entry))) n k t) (k + 1) n (parts (now (br .entry)) (now (bi .entry))) ⌝ }
 {
-    for i in lo..hi {
+    for i in k + 1..n {
         add_entry(n, ar, ai, br, bi, k, t, i);
     }
+}
+
+// Row n - ib of the back phase: its entry loses what the entries below it, solved by then, take from it, the last of them first, and is divided by
+// the diagonal entry.
+pub fn solve_row(n: usize, ar: &[f64], ai: &[f64], br: &mut [f64], bi: &mut [f64], ib: usize)
+    requires { ⌜ Square n (now ar) × Square n (now ai) ⌝ }
+    requires { ⌜ (length (now br) ≡ n) × (length (now bi) ≡ n) × (1 ≤ ib) × (ib ≤ n) ⌝ }
+    ensures { λ _. ⌜ parts (now (br .exit)) (now (bi .exit)) ≡ rowSolvedAt complexEntries (parts (now (ar .entry)) (now (ai .entry))) n ib (parts (now (br .entry)) (now (bi .entry))) ⌝ }
+{
+    let i = n - ib;
+    let mut sum = entry_complex(br, bi, i);
+    for kb in 1..ib {
+        let k = n - kb;
+        let t = negated(entry_complex(br, bi, k));
+        sum = plus(sum, times(at_complex(n, ar, ai, i, k), t));
+    }
+    set_complex(br, bi, i, over(sum, at_complex(n, ar, ai, i, i)));
 }
 
 // Step k of the forward phase, its pivot in row m.
@@ -93,7 +100,7 @@ pub fn forward_step(
 {
     let t = entry_complex(br, bi, m);
     exchange_complex(br, bi, m, k);
-    add_column(n, ar, ai, br, bi, k, t, k + 1, n);
+    add_column(n, ar, ai, br, bi, k, t);
 }
 
 pub fn forward_phase(n: usize, ar: &[f64], ai: &[f64], br: &mut [f64], bi: &mut [f64], ip: &[usize])
@@ -109,25 +116,14 @@ pub fn forward_phase(n: usize, ar: &[f64], ai: &[f64], br: &mut [f64], bi: &mut 
     }
 }
 
-// Row k of the back substitution, past its division.
-pub fn back_step(n: usize, ar: &[f64], ai: &[f64], br: &mut [f64], bi: &mut [f64], k: usize)
-    requires { ⌜ Square n (now ar) × Square n (now ai) ⌝ }
-    requires { ⌜ (length (now br) ≡ n) × (length (now bi) ≡ n) × (k < n) ⌝ }
-    ensures { λ _. ⌜ parts (now (br .exit)) (now (bi .exit)) ≡ backComplex (parts (now (ar .entry)) (now (ai .entry))) n k (parts (now (br .entry)) (now (bi .entry))) ⌝ }
-{
-    let t = negated(entry_complex(br, bi, k));
-    add_column(n, ar, ai, br, bi, k, t, 0, k);
-}
-
 pub fn back_phase(n: usize, ar: &[f64], ai: &[f64], br: &mut [f64], bi: &mut [f64])
     requires { ⌜ Square n (now ar) × Square n (now ai) ⌝ }
-    requires { ⌜ (length (now br) ≡ n) × (length (now bi) ≡ n) × (1 ≤ n) ⌝ }
-    ensures { λ _. ⌜ parts (now (br .exit)) (now (bi .exit)) ≡ loop (backAt complexSide (parts (now (ar .entry)) (now (ai .entry))) n) 1 n (parts (now (br .entry)) (now (bi .entry))) ⌝ }
+    requires { ⌜ (length (now br) ≡ n) × (length (now bi) ≡ n) ⌝ }
+    ensures { λ _. ⌜ parts (now (br .exit)) (now (bi .exit)) ≡ loop (rowSolvedAt complexEntries (parts (now (ar .entry)) (now (ai .entry))) n) 1 (n + 1) (parts (now (br .entry)) (now (bi .entry))) ⌝ }
 {
-    for kb in 1..n {
-        let k = n - kb;
-        divide(n, ar, ai, br, bi, k);
-        back_step(n, ar, ai, br, bi, k);
+    let past = n + 1;
+    for ib in 1..past {
+        solve_row(n, ar, ai, br, bi, ib);
     }
 }
 
@@ -138,11 +134,6 @@ pub fn solve(n: usize, ar: &[f64], ai: &[f64], br: &mut [f64], bi: &mut [f64], i
     requires { ⌜ ((k : ℕ) → k < n - 1 → getD (now ip) k 0 < n) ⌝ }
     ensures { λ _. ⌜ parts (now (br .exit)) (now (bi .exit)) ≡ solved complexSide (parts (now (ar .entry)) (now (ai .entry))) n (now (ip .entry)) (parts (now (br .entry)) (now (bi .entry))) ⌝ }
 {
-    if n == 1 {
-        divide(n, ar, ai, br, bi, 0);
-        return;
-    }
     forward_phase(n, ar, ai, br, bi, ip);
     back_phase(n, ar, ai, br, bi);
-    divide(n, ar, ai, br, bi, 0);
 }

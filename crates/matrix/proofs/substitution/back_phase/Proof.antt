@@ -4,12 +4,12 @@ use mathlib.Core.Path.{refl}
 use native.Mathlib.Omega.{arith}
 use borrow.Author.Needs.{needs}
 use Rattle.words.proofs.Loops.{Ran, begun, turned, ended, Long}
-use Rattle.matrix.specs.Reordered.{rowSolvedAt}
+use Rattle.matrix.specs.Reordered.{realEntries, rowSolvedAt}
 use Rattle.matrix.proofs.substitution.back_phase.Statement.{statement}
 use Rattle.matrix.proofs.substitution.back_phase.Tie as tie
 
 abbrev Inv-loop : tie.InvT-loop
-Inv-loop n a b₀ past ib₀ b ib = Ran (rowSolvedAt a n) (Long b₀) 1 past ib b₀ b
+Inv-loop n a b₀ past ib₀ b ib = Ran (rowSolvedAt realEntries a n) (Long b₀) 1 past ib b₀ b
 
 abbrev μ-loop : tie.MeasureT-loop
 μ-loop n a b₀ past ib₀ b ib = past - ib

@@ -5,12 +5,12 @@ use native.Mathlib.Omega.{arith}
 use borrow.Author.Needs.{needs}
 use Rattle.words.proofs.Loops.{Ran, begun, turned, ended, Any}
 use Rattle.words.specs.Words.{_!_}
-use Rattle.matrix.specs.Reordered.{sumAt, rowSolvedAt}
+use Rattle.matrix.specs.Reordered.{realEntries, sumAt, rowSolvedAt}
 use Rattle.matrix.proofs.substitution.solve_row.Statement.{statement}
 use Rattle.matrix.proofs.substitution.solve_row.Tie as tie
 
 abbrev Inv-loop : tie.InvT-loop
-Inv-loop n a b ib i sum₀ kb₀ sum kb = Ran (sumAt a n i b) Any 1 ib kb (b ! i) sum
+Inv-loop n a b ib i sum₀ kb₀ sum kb = Ran (sumAt realEntries a n i b) Any 1 ib kb (b ! i) sum
 
 abbrev μ-loop : tie.MeasureT-loop
 μ-loop n a b ib i sum₀ kb₀ sum kb = ib - kb

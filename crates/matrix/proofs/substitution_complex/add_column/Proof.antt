@@ -1,5 +1,5 @@
 -- `add_column` meets its contract.
-use Prim.Native.Nat.{_-_}
+use Prim.Native.Nat.{_+_, _-_}
 use mathlib.Core.Path.{refl}
 use native.Mathlib.Omega.{arith}
 use borrow.Author.Needs.{needs}
@@ -10,10 +10,10 @@ use Rattle.matrix.proofs.substitution_complex.add_column.Statement.{sta
 use Rattle.matrix.proofs.substitution_complex.add_column.Tie as tie
 
 abbrev Inv-loop : tie.InvT-loop
-Inv-loop n ar ai br₀ bi₀ k t lo hi i₀ br bi i = Ran (addComplexAt (parts ar ai) n k t) (λ (b : Parts). Long br₀ (b .re) × Long bi₀ (b .im)) lo hi i (parts br₀ bi₀) (parts br bi)
+Inv-loop n ar ai br₀ bi₀ k t i₀ br bi i = Ran (addComplexAt (parts ar ai) n k t) (λ (b : Parts). Long br₀ (b .re) × Long bi₀ (b .im)) (k + 1) n i (parts br₀ bi₀) (parts br bi)
 
 abbrev μ-loop : tie.MeasureT-loop
-μ-loop n ar ai br₀ bi₀ k t lo hi i₀ br bi i = hi - i
+μ-loop n ar ai br₀ bi₀ k t i₀ br bi i = n - i
 
 loop-holds : tie.Need-loop-holds Inv-loop μ-loop
 loop-holds c = begun (omega arith) (refl, refl) refl
@@ -29,7 +29,7 @@ add-column-spec =
     tie.close
     (tie.spec
     Inv-loop
-    μ-loop
+    μ-loop (λ c. omega arith)
     loop-holds (λ c κs. search needs) (λ c. omega arith) (λ c. omega arith)
     loop-again (λ c. search needs) (λ c. search needs)
     returns)

@@ -1,5 +1,4 @@
 -- `forward_step` meets its contract.
-use native.Mathlib.Omega.{arith}
 use borrow.Author.Needs.{needs}
 use Rattle.matrix.specs.LinearComplex.{forwardComplex}
 use Rattle.matrix.proofs.substitution_complex.forward_step.Statement.{statement}
@@ -12,5 +11,5 @@ returns c = rw (c .before .before .before .before .add-column .ensures, c .befor
 pub forward-step-spec : {M : Type 1} → statement M
 forward-step-spec =
     tie.close
-    (tie.spec (λ c κs. search needs) (λ c κs. search needs) (λ c. omega arith) (λ c κs. search needs) (λ c. search needs) (λ c. search needs)
+    (tie.spec (λ c κs. search needs) (λ c κs. search needs) (λ c κs. search needs) (λ c. search needs) (λ c. search needs)
     returns)
