@@ -2,7 +2,7 @@
 use mathlib.Core.Path.{_≡_, refl, sym, ap, subst, _∙_}
 use mathlib.Core.Bool.{Bool, true, false, not, _&&_, _||_, and-assoc, and-true, or-false}
 use mathlib.Core.List.{List, [], _∷_, _++_}
-use Prim.Native.Nat.{ℕ, suc, _+_, _%_, _^_, _<_, _≤_, zero-le}
+use Prim.Native.Nat.{ℕ, suc, _+_, _/_, _%_, _^_, _<_, _≤_, zero-le}
 use native.Mathlib.Omega.{arith}
 use lib.Dec.{T, eqb, ltb, leb}
 use lib.Ieee.{Float, nan, inf, fin, binary64, isNan, ne, toBits}
@@ -26,7 +26,7 @@ use Rattle.state.specs.Numbers.{statusNumber}
 use Rattle.state.specs.Settings.{orNone}
 use Rattle.export.specs.Choices.{flagOf, flagWord, numberOf, numberTag, numberWord, wholeOf, wholeTag, massOf, massWord, sourceOf, sourceWord, ruleOf, ruleWord, tolerancesOf, tolerancesTag, rtolWord, atolWord}
 use Rattle.export.specs.State.{settingsWords, shapeWords, fixedWords, countsWords, controlWords, numbersWords, stageTag, stageWord, stageWords, packOf, wordAt, settingsRead, shapeRead, fixedRead, countsRead, controlRead, numbersRead, statusRead, stageRead, runRead, sameWords}
-use Rattle.export.proofs.Words.{is-same, part, is-all}
+use Rattle.export.proofs.Words.{both, is-same, part, is-all}
 
 -- ---- floats
 
@@ -51,6 +51,22 @@ float-fits k small =
     (λ e.
     let below = tested ∙ is-false (isNan x) (is-number x e) in
     rw (le-leb _ _ (ltb-false _ _ below), eq-eqb k (toBits binary64 x) (sym (toBits-ofBits binary64 k small (is-number x e)))))
+
+-- a double whose exponent is not the highest is finite
+pub finite-fits : (k : ℕ) → k < 2 ^ 64 → ltb (k / 0x0010_0000_0000_0000 % 2048) 2047 ≡ true → eqb k (patternOf (double k)) ≡ true
+finite-fits k small h =
+    let below : k / 0x0010_0000_0000_0000 % 2048 < 2047 = ltb-true _ _ h in
+    let low : k % 0x8000_0000_0000_0000 ≤ 0x7ff0_0000_0000_0000 = omega arith in
+    sym (float-fits k small) ∙ rw (le-leb _ _ low)
+
+-- a test that is left out where its answer is known
+pub sure : (known : Bool) {a b : Bool} → (known ≡ true → b ≡ true) → a ≡ b → (known || a) ≡ b
+sure true e h = sym (e refl)
+sure false e h = h
+
+-- what two tests tell, joined
+pub more : {a b : Bool} {A B : Type 0} → (a ≡ true → A) → (b ≡ true → B) → a && b ≡ true → A × B
+more {a} {b} f g e = let h = both a b e in (f (h .0), g (h .1))
 
 -- ---- choices
 

@@ -1,6 +1,7 @@
 -- The state of a run as 67 words: numbers as they are, floats by their pattern (one for NaN), choices by their tag.
 -- Only what `packOf` writes is a state: words are read whatever they hold, and are those of the run so read exactly if it packs to them.
 use Prim.Native.Nat.{ℕ}
+use mathlib.Core.Path.{_≡_}
 use mathlib.Core.Bool.{Bool, true, false, _&&_}
 use mathlib.Core.List.{List, [], _∷_, _++_}
 use lib.Dec.{eqb, T}
@@ -281,6 +282,20 @@ sameWords [] [] = true
 sameWords [] (b ∷ bs) = false
 sameWords (a ∷ as′) [] = false
 sameWords (a ∷ as′) (b ∷ bs) = eqb a b && sameWords as′ bs
+
+-- ---- words that are the patterns of their doubles: those of the floats of each group
+
+abbrev pub written : List ℕ → ℕ → Type 0
+written w k = eqb (wordAt w k) (patternOf (double (wordAt w k))) ≡ true
+
+abbrev pub settingsWritten : List ℕ → Type 0
+settingsWritten w = (((((((written w 1) × (written w 2)) × (written w 3)) × (written w 4)) × (written w 6)) × (written w 8)) × (written w 11)) × (written w 22)
+
+abbrev pub fixedWritten : List ℕ → Type 0
+fixedWritten w = ((((((written w 30) × (written w 31)) × (written w 32)) × (written w 33)) × (written w 34)) × (written w 35)) × (written w 36)
+
+abbrev pub numbersWritten : List ℕ → Type 0
+numbersWritten w = (((((((((((((written w 50) × (written w 51)) × (written w 52)) × (written w 53)) × (written w 54)) × (written w 55)) × (written w 56)) × (written w 57)) × (written w 58)) × (written w 59)) × (written w 60)) × (written w 61)) × (written w 62)) × (written w 64)
 
 unfoldable pub unpackOf : List ℕ → Unpacked
 unpackOf w = pick (sameWords w (packOf (runRead w))) (unpacked.Run (runRead w)) unpacked.Not

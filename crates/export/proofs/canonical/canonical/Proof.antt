@@ -1,11 +1,15 @@
--- `canonical` meets its contract: the groups one by one.
-use Rattle.export.proofs.CanonicalLaws.{canonical-is}
+-- `canonical` meets its contract: the one way where all floats are finite, the other else.
+use mathlib.Core.Bool.{false≢true}
+use Rattle.export.proofs.CanonicalLaws.{more}
 use borrow.Author.Needs.{needs}
 use Rattle.export.proofs.canonical.canonical.Statement.{statement}
 use Rattle.export.proofs.canonical.canonical.Tie as tie
 
 returns : tie.Need-returns
-returns c = let s = c .before .before .before .before .before .before .before in canonical-is (s .args .w .now) (s .pre) _ _ _ _ _ (c .before .before .before .before .before .before .settings-fit .ensures) (c .before .before .before .before .before .fixed-fit .ensures) (c .before .before .before .before .control-fits .ensures) (c .before .before .before .numbers-fit .ensures) (c .stage-fits .ensures)
+returns c = c .fits2 .ensures (λ h. more (more (c .before .before .before .before .settings-finite .ensures) (c .before .before .before .fixed-finite .ensures)) (c .before .before .numbers-finite .ensures) (c .before .if1 .taken))
+
+returns-2 : tie.Need-returns-2
+returns-2 c = c .fits3 .ensures (λ h. absurd (false≢true h))
 
 pub canonical-spec : {M : Type 1} → statement M
-canonical-spec = tie.close (tie.spec (λ c κs. search needs) (λ c κs. search needs) (λ c κs. search needs) (λ c κs. search needs) (λ c. search needs) (λ c. search needs) (λ c κs. search needs) returns)
+canonical-spec = tie.close (tie.spec (λ c κs. search needs) (λ c κs. search needs) (λ c κs. search needs) (λ c κs. search needs) returns (λ c κs. search needs) returns-2)
