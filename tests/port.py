@@ -25,7 +25,7 @@ CRATES = {
     "radau": ["words", "scalar", "matrix", "state", "opening", "blocks"],
     "export": ["words", "bits", "scalar", "matrix", "dense", "state", "opening", "blocks", "radau"],
     "model": ["words", "state"],
-    "sheet": ["words", "state"],
+    "sheet": ["words", "bits", "state"],
     "answer": ["words", "bits", "state", "sheet"],
     "budget": ["words", "scalar", "matrix", "state", "opening", "blocks", "model", "radau"],
     "forecast": ["words", "bits", "state", "sheet", "answer", "budget"],

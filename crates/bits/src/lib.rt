@@ -1,6 +1,7 @@
-// A double and its 64 bits. All patterns of NaN stand for the one NaN, whose pattern is 0x7ff8_0000_0000_0000.
+// A double and its 64 bits, and the digits that bits are written with. All patterns of NaN stand for the one NaN, whose pattern is 0x7ff8_0000_0000_0000.
 ghost use mathlib.Core.Path.{_≡_};
 ghost use lib.Ieee.{ofBits, binary64};
+ghost use Rattle.bits.specs.Digit.{digitOf};
 ghost use Rattle.bits.specs.Pattern.{patternOf};
 
 pub fn double(pattern: u64) -> f64
@@ -19,4 +20,23 @@ pub fn pattern(x: f64) -> u64
         return 0x7ff8_0000_0000_0000;
     }
     f64::to_bits(x)
+}
+
+// The value of a hexadecimal digit in lower case; 16 for any other byte.
+pub fn digit(byte: u8) -> u64
+    ensures { λ r. ⌜ r ≡ digitOf byte ⌝ }
+{
+    if byte < b'0' {
+        return 16;
+    }
+    if byte <= b'9' {
+        return byte as u64 - 48;
+    }
+    if byte < b'a' {
+        return 16;
+    }
+    if byte <= b'f' {
+        return byte as u64 - 87;
+    }
+    16
 }

@@ -1,18 +1,15 @@
 -- What the words of a case stand for.
-use Prim.Native.Nat.{ℕ, _+_, _-_, _*_, _/_, _%_}
+use Prim.Native.Nat.{ℕ, _+_, _*_, _/_, _%_}
 use mathlib.Core.Bool.{Bool, true, _&&_}
 use mathlib.Core.List.{List}
 use lib.Dec.{eqb, leb, ltb}
 use lib.ListN.{length, getD}
 use Rattle.words.specs.Loop.{pick, loop}
+use Rattle.bits.specs.Digit.{digitOf}
 use Rattle.replay.specs.declared.word.Word.{Word}
 use Rattle.replay.specs.declared.word.Word.the-variants.{Value, Wrong}
 use Rattle.replay.specs.declared.word.Reading.{Reading}
 use Rattle.replay.specs.declared.word.Reading.the-variants.{Good, Malformed}
-
--- the value of a hexadecimal digit in lower case (48 is 0, 57 is 9, 97 is a, 102 is f); 16 for any other byte
-unfoldable pub digitOf : ℕ → ℕ
-digitOf byte = pick (ltb byte 48) 16 (pick (leb byte 57) (byte - 48) (pick (ltb byte 97) 16 (pick (leb byte 102) (byte - 87) 16)))
 
 -- the number that was spelled so far, and whether all bytes were digits
 pub record Spelling : Type 0 where

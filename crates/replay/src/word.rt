@@ -1,7 +1,8 @@
 // Words: sixteen hexadecimal digits each, which stand for a number, for the bits of a double, or for four numbers of four digits.
 ghost use Prim.Native.Nat.{_≤_};
 ghost use mathlib.Core.Path.{_≡_};
-ghost use Rattle.replay.specs.Word.{digitOf, spelledOf, withinOf, quarterOf, readingOf};
+ghost use Rattle.replay.specs.Word.{spelledOf, withinOf, quarterOf, readingOf};
+use bits::digit;
 use libc::STDIN_FILENO;
 
 pub enum Word {
@@ -15,25 +16,6 @@ pub enum Reading {
     Good,
     Malformed,
     End,
-}
-
-// The value of a hexadecimal digit in lower case; 16 for any other byte.
-fn digit(byte: u8) -> u64
-    ensures { λ r. ⌜ r ≡ digitOf byte ⌝ }
-{
-    if byte < b'0' {
-        return 16;
-    }
-    if byte <= b'9' {
-        return byte as u64 - 48;
-    }
-    if byte < b'a' {
-        return 16;
-    }
-    if byte <= b'f' {
-        return byte as u64 - 87;
-    }
-    16
 }
 
 // The number that the digits from `from` up to `end` spell. Of more than sixteen, the last sixteen count.

@@ -9,7 +9,8 @@ use borrow.Author.Tests.{lt-ltb, le-ltb, eq-eqb, ne-eqb}
 use lib.ListN.{length, getD, drop, drop-of-length-le}
 use lib.Seq.{drop-cons}
 use Rattle.words.proofs.Branch.{pick-yes, pick-no}
-use Rattle.sheet.specs.Digits.{digitOf, spelledOf, power, foundOf}
+use Rattle.bits.specs.Digit.{digitOf}
+use Rattle.sheet.specs.Digits.{spelledOf, power, foundOf}
 use Rattle.sheet.specs.declared.digits.Spelt.the-variants.{Value, Wrong}
 
 -- one byte more

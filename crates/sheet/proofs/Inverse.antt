@@ -13,7 +13,8 @@ use lib.ListN.{length, getD, take, drop, length-append}
 use lib.Seq.{split-at, take-append-seam, drop-append-add}
 use Rattle.words.specs.Loop.{pick}
 use Rattle.words.proofs.Branch.{yes, no, pick-yes, pick-no, pick-all}
-use Rattle.sheet.specs.Digits.{byteOf, power, digits, widthOf, digitOf, spelledOf, baseOf, widthBy, foundOf}
+use Rattle.bits.specs.Digit.{digitOf}
+use Rattle.sheet.specs.Digits.{byteOf, power, digits, widthOf, spelledOf, baseOf, widthBy, foundOf}
 use Rattle.sheet.specs.Sheet.{Every}
 use Rattle.sheet.specs.Numbers.{judgedOf, numberOf, got, wrong, followed, pieceOf}
 use Rattle.sheet.specs.declared.digits.Spelt.{Spelt}

@@ -10,12 +10,13 @@ use mathlib.Core.List.{List, [], _∷_, _++_}
 use lib.Dec.{eqb, ltb}
 use lib.ListN.{length}
 use Rattle.words.specs.Loop.{pick}
+use Rattle.bits.specs.Digit.{digitOf}
 use Rattle.sheet.specs.declared.digits.Spelt.{Spelt}
 use Rattle.sheet.specs.declared.digits.Spelt.the-variants.{Value, Wrong}
 use Rattle.sheet.specs.declared.kind.Kind.{Kind}
 use Rattle.sheet.specs.declared.numbers.Progress.{Progress}
 use Rattle.sheet.specs.declared.sheet.Reading.the-variants as reading
-use Rattle.sheet.specs.Digits.{byteOf, power, digits, widthOf, hexOf, decimalOf, digitOf, spelledOf, baseOf, widthBy, foundOf}
+use Rattle.sheet.specs.Digits.{byteOf, power, digits, widthOf, hexOf, decimalOf, spelledOf, baseOf, widthBy, foundOf}
 use Rattle.sheet.specs.Sheet.{Model, line, written}
 use Rattle.sheet.specs.Kinds.{hexKind, decimalKind, settingOf, reactionOf, kindOf}
 use Rattle.sheet.specs.Numbers.{judgedOf, numberOf, followed, pieceOf, endsOf, numbersOf}

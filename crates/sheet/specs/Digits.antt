@@ -1,11 +1,12 @@
 -- Numbers written with digits, and read. A text is a list of bytes, each below 256.
 --     hexOf v        the bits of a float: sixteen hexadecimal digits in lower case
 --     decimalOf v    any other number, below 10^10: as many decimal digits as it has
-use Prim.Native.Nat.{ℕ, zero, suc, _+_, _-_, _*_, _/_, _%_}
+use Prim.Native.Nat.{ℕ, zero, suc, _+_, _*_, _/_, _%_}
 use mathlib.Core.Bool.{Bool}
 use mathlib.Core.List.{List, [], _∷_}
-use lib.Dec.{eqb, leb, ltb}
+use lib.Dec.{eqb, ltb}
 use Rattle.words.specs.Loop.{pick}
+use Rattle.bits.specs.Digit.{digitOf}
 use Rattle.sheet.specs.declared.digits.Spelt.{Spelt}
 use Rattle.sheet.specs.declared.digits.Spelt.the-variants.{Value, Wrong}
 
@@ -41,10 +42,6 @@ abbrev pub decimalOf : ℕ → List ℕ
 decimalOf v = digits 10 (widthOf v) v
 
 -- ---- read
-
--- the value of a hexadecimal digit in lower case (48 is 0, 57 is 9, 97 is a, 102 is f); 16 for any other byte
-unfoldable pub digitOf : ℕ → ℕ
-digitOf byte = pick (ltb byte 48) 16 (pick (leb byte 57) (byte - 48) (pick (ltb byte 97) 16 (pick (leb byte 102) (byte - 87) 16)))
 
 -- the number that a text spells in base b, after digits that spell v
 unfoldable pub spelledOf : ℕ → ℕ → List ℕ → Spelt

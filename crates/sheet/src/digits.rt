@@ -2,30 +2,12 @@
 ghost use Prim.Native.Nat.{_≤_, _*_};
 ghost use mathlib.Core.Path.{_≡_};
 ghost use lib.ListN.{length};
-ghost use Rattle.sheet.specs.Digits.{digitOf, spelledOf, widthOf, baseOf, widthBy, foundOf};
+ghost use Rattle.sheet.specs.Digits.{spelledOf, widthOf, baseOf, widthBy, foundOf};
+use bits::digit;
 
 pub enum Spelt {
     Value(u64),
     Wrong,
-}
-
-// The value of a hexadecimal digit in lower case; 16 for any other byte.
-fn digit(byte: u8) -> u64
-    ensures { λ r. ⌜ r ≡ digitOf byte ⌝ }
-{
-    if byte < b'0' {
-        return 16;
-    }
-    if byte <= b'9' {
-        return byte as u64 - 48;
-    }
-    if byte < b'a' {
-        return 16;
-    }
-    if byte <= b'f' {
-        return byte as u64 - 87;
-    }
-    16
 }
 
 // The number that the digits of a text spell; no more than sixteen, so that it fits.

@@ -3,9 +3,9 @@ use mathlib.Core.Path.{refl}
 use borrow.Author.Needs.{needs}
 use borrow.Author.Tests.{lt-ltb, le-ltb, le-leb, lt-leb}
 use Rattle.words.proofs.Branch.{yes, no}
-use Rattle.replay.specs.Word.{digitOf}
-use Rattle.replay.proofs.word.digit.Statement.{statement}
-use Rattle.replay.proofs.word.digit.Tie as tie
+use Rattle.bits.specs.Digit.{digitOf}
+use Rattle.bits.proofs.digit.Statement.{statement}
+use Rattle.bits.proofs.digit.Tie as tie
 
 returns : tie.Need-returns
 unfolding digitOf
