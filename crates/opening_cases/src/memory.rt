@@ -1,9 +1,5 @@
-// The lent memory of an opening, by value: 22 parts, each in an array that has room for the longest part that a case has, and all of it held against what is wanted
-// after the call.
+// The lent memory of an opening: filled as the case says, and all of it held against what is wanted after the call.
 use crate::case::Case;
-use crate::part::COEFFICIENTS;
-use crate::part::MATRIX;
-use crate::part::VECTOR;
 use crate::part::coefficients;
 use crate::part::matrix;
 use crate::part::met_coefficients;
@@ -14,51 +10,12 @@ use crate::part::met_vector;
 use crate::part::pivots;
 use crate::part::vector;
 use replay::found::Found;
-
-pub struct Amounts {
-    pub y: [f64; VECTOR],
-    pub f0: [f64; VECTOR],
-    pub scal: [f64; VECTOR],
-    pub cont: [f64; COEFFICIENTS],
-}
-
-pub struct Newton {
-    pub z1: [f64; VECTOR],
-    pub z2: [f64; VECTOR],
-    pub z3: [f64; VECTOR],
-    pub f1: [f64; VECTOR],
-    pub f2: [f64; VECTOR],
-    pub f3: [f64; VECTOR],
-}
-
-pub struct Given {
-    pub rtol: [f64; VECTOR],
-    pub atol: [f64; VECTOR],
-    pub mass: [f64; MATRIX],
-    pub jac: [f64; MATRIX],
-}
-
-pub struct Factors {
-    pub e1: [f64; MATRIX],
-    pub e2r: [f64; MATRIX],
-    pub e2i: [f64; MATRIX],
-    pub ip1: [usize; VECTOR],
-    pub ip2: [usize; VECTOR],
-}
-
-pub struct Differences {
-    pub y_perturbed: [f64; VECTOR],
-    pub f_perturbed: [f64; VECTOR],
-    pub f_origin: [f64; VECTOR],
-}
-
-pub struct Memory {
-    pub amounts: Amounts,
-    pub newton: Newton,
-    pub given: Given,
-    pub factors: Factors,
-    pub differences: Differences,
-}
+use replay::memory::Amounts;
+use replay::memory::Differences;
+use replay::memory::Factors;
+use replay::memory::Given;
+use replay::memory::Memory;
+use replay::memory::Newton;
 
 fn lent_amounts(case: Case) -> Amounts {
     Amounts {

@@ -7,19 +7,15 @@ use crate::case::LENGTHS;
 use bits::double;
 use bits::pattern;
 use replay::found::Found;
+use replay::memory::COEFFICIENTS;
+use replay::memory::MATRIX;
+use replay::memory::VECTOR;
 use replay::settings::LISTS;
 use replay::settings::MASS_FULL;
 use replay::settings::word;
 use replay::word::quarter;
 use replay::word::within;
 use std::num::wrapping_add_u64;
-
-// The entries of an array that holds n amounts, 4 n coefficients or n n entries of a matrix, for n up to 33 and one more.
-pub const VECTOR: usize = 34;
-
-pub const COEFFICIENTS: usize = 133;
-
-pub const MATRIX: usize = 1090;
 
 // The numbers of the parts that have rules of their own. Parts are counted from 0 in the order in which `open` takes them.
 const Y: usize = 0;

@@ -1,2 +1,3 @@
--- Laws of the settings that a case gives.
+-- Laws of the settings that a case gives, and of the memory that a program lends.
 pub mod SettingsLaws
+pub mod MemoryLaws

@@ -1,16 +1,16 @@
 // The two calls that are replayed: each takes memory by value, lends its 22 parts, cut to their lengths, and gives memory back.
 ghost use Prim.Native.Nat.{_≤_};
-use crate::memory::Amounts;
-use crate::memory::Differences;
-use crate::memory::Factors;
-use crate::memory::Given;
-use crate::memory::Memory;
-use crate::memory::Newton;
 use crate::memory::coefficients_length;
 use crate::memory::matrix_length;
 use crate::memory::vector_length;
 use opening::open;
 use radau::advance::Turn;
+use replay::memory::Amounts;
+use replay::memory::Differences;
+use replay::memory::Factors;
+use replay::memory::Given;
+use replay::memory::Memory;
+use replay::memory::Newton;
 use state::run::Run;
 use state::run::Tolerances;
 use state::settings::Settings;
@@ -54,7 +54,7 @@ fn of_advance(answer: Answer) -> Talk {
 }
 
 fn opened(ask: Ask, n: usize, n4: usize, nn: usize, memory: Memory) -> Outcome
-    requires { ⌜ (n ≤ 4) × (n4 ≤ 16) × (nn ≤ 16) ⌝ }
+    requires { ⌜ (n ≤ 34) × (n4 ≤ 133) × (nn ≤ 1090) ⌝ }
 {
     let amounts = memory.amounts;
     let newton = memory.newton;
@@ -149,7 +149,7 @@ fn opened(ask: Ask, n: usize, n4: usize, nn: usize, memory: Memory) -> Outcome
 }
 
 fn advanced(turn: Turn, n: usize, n4: usize, nn: usize, memory: Memory) -> Outcome
-    requires { ⌜ (n ≤ 4) × (n4 ≤ 16) × (nn ≤ 16) ⌝ }
+    requires { ⌜ (n ≤ 34) × (n4 ≤ 133) × (nn ≤ 1090) ⌝ }
 {
     let amounts = memory.amounts;
     let newton = memory.newton;

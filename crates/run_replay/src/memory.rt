@@ -1,76 +1,35 @@
-// The lent memory of a run between two advances: 22 parts, by value, each in an array that has room for every order that is replayed. What lies behind a part's
-// length is never looked at.
+// The lent memory of a run between two advances: filled from words, written by the host, and taken into a digest. What lies behind a part's length is never looked at.
 ghost use Prim.Native.Nat.{_≤_};
 use bits::double;
 use bits::pattern;
+use replay::memory::Amounts;
+use replay::memory::COEFFICIENTS;
+use replay::memory::Differences;
+use replay::memory::Factors;
+use replay::memory::Given;
+use replay::memory::MATRIX;
+use replay::memory::Memory;
+use replay::memory::Newton;
+use replay::memory::VECTOR;
 use replay::settings::word;
 use replay::word::within;
 use std::num::wrapping_add_u64;
 use std::num::wrapping_add_usize;
 
-// The entries of an array for n amounts, 4 n coefficients or n n entries of a matrix, where n is at most 4.
-pub const VECTOR: usize = 4;
-
-pub const COEFFICIENTS: usize = 16;
-
-pub const MATRIX: usize = 16;
-
-pub struct Amounts {
-    pub y: [f64; VECTOR],
-    pub f0: [f64; VECTOR],
-    pub scal: [f64; VECTOR],
-    pub cont: [f64; COEFFICIENTS],
-}
-
-pub struct Newton {
-    pub z1: [f64; VECTOR],
-    pub z2: [f64; VECTOR],
-    pub z3: [f64; VECTOR],
-    pub f1: [f64; VECTOR],
-    pub f2: [f64; VECTOR],
-    pub f3: [f64; VECTOR],
-}
-
-pub struct Given {
-    pub rtol: [f64; VECTOR],
-    pub atol: [f64; VECTOR],
-    pub mass: [f64; MATRIX],
-    pub jac: [f64; MATRIX],
-}
-
-pub struct Factors {
-    pub e1: [f64; MATRIX],
-    pub e2r: [f64; MATRIX],
-    pub e2i: [f64; MATRIX],
-    pub ip1: [usize; VECTOR],
-    pub ip2: [usize; VECTOR],
-}
-
-pub struct Differences {
-    pub y_perturbed: [f64; VECTOR],
-    pub f_perturbed: [f64; VECTOR],
-    pub f_origin: [f64; VECTOR],
-}
-
-pub struct Memory {
-    pub amounts: Amounts,
-    pub newton: Newton,
-    pub given: Given,
-    pub factors: Factors,
-    pub differences: Differences,
-}
+// The greatest order of a stored run.
+pub const ORDER: usize = 4;
 
 // The lengths of the parts at an order, which is taken as 4 where it is greater.
 pub fn vector_length(n: usize) -> usize
     ensures { λ r. ⌜ r ≤ 4 ⌝ }
 {
-    within(n, VECTOR)
+    within(n, ORDER)
 }
 
 pub fn coefficients_length(n: usize) -> usize
     ensures { λ r. ⌜ r ≤ 16 ⌝ }
 {
-    4 * within(n, VECTOR)
+    4 * within(n, ORDER)
 }
 
 pub fn matrix_length(n: usize) -> usize
@@ -81,7 +40,7 @@ pub fn matrix_length(n: usize) -> usize
         1 => 1,
         2 => 4,
         3 => 9,
-        _ => MATRIX,
+        _ => 16,
     }
 }
 

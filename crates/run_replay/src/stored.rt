@@ -1,14 +1,14 @@
 // Stored runs of the Rust: an opening, then each request with its reply, as words. tests/stored_runs.py, which writes them, says what they stand for.
 ghost use Prim.Native.Nat.{_≤_};
 use crate::call::Ask;
-use crate::memory::Memory;
-use crate::memory::VECTOR;
+use crate::memory::ORDER;
 use crate::memory::lent;
 use crate::memory::matrix;
 use crate::memory::matrix_length;
 use crate::memory::vector;
 use crate::memory::vector_length;
 use bits::double;
+use replay::memory::Memory;
 use replay::settings::LISTS;
 use replay::settings::MASS_FULL;
 use replay::settings::N;
@@ -116,7 +116,7 @@ pub fn read_opening() -> Opening {
         Reading::Good => {
             let end = opening_end(&words);
             let rest = read_words(&mut words, GIVEN, end);
-            let reading = read_well(rest & (words[N] <= VECTOR as u64));
+            let reading = read_well(rest & (words[N] <= ORDER as u64));
             Opening { words, reading }
         }
         _ => Opening {

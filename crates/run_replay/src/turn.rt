@@ -2,7 +2,6 @@
 use crate::call::Outcome;
 use crate::call::Talk;
 use crate::call::advance;
-use crate::memory::Memory;
 use crate::memory::digest;
 use crate::memory::matrix;
 use crate::memory::vector;
@@ -16,6 +15,7 @@ use crate::stored::HEAD;
 use bits::double;
 use radau::advance::Turn;
 use replay::found::Found;
+use replay::memory::Memory;
 use state::result;
 use state::run::Counts;
 use state::run::Run;

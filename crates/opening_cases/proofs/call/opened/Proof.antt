@@ -1,7 +1,7 @@
 -- `call::opened` is safe: each array that it lends has as many entries as its type says. Assumes nothing.
 use Prim.Native.Nat.{ℕ}
 use lib.Ieee.{Float}
-use Rattle.opening_cases.proofs.Lent.{counted}
+use Rattle.replay.proofs.MemoryLaws.{counted}
 use Rattle.opening_cases.proofs.call.opened.Statement.{statement}
 use Rattle.opening_cases.proofs.call.opened.Tie as tie
 

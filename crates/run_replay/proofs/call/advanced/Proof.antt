@@ -1,6 +1,6 @@
 -- `call::advanced` is safe: each part that it lends is no longer than the array that it is a part of. Assumes nothing.
 use borrow.Author.Needs.{zero≤}
-use Rattle.run_replay.proofs.Lent.{within}
+use Rattle.replay.proofs.MemoryLaws.{within}
 use Rattle.run_replay.proofs.call.advanced.Statement.{statement}
 use Rattle.run_replay.proofs.call.advanced.Tie as tie
 

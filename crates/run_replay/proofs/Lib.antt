@@ -1,2 +1,0 @@
--- What the program lends, as memory.
-pub mod Lent
