@@ -32,13 +32,6 @@ def instructions(words):
     return int(re.search(r"Collected *: *(\d+)", ran(count + words, env=bound).stderr).group(1))
 
 
-def by_function(words, out):
-    """The program's instructions by function, those called from it left out."""
-    ran(["valgrind", "--tool=callgrind", f"--callgrind-out-file={out}", *words])
-    found = re.findall(r"^ *([\d,]+) \([\d. ]+%\) +[^:\n]*:(.*?)(?:'\d+)?(?: \[.*\])?$", said(["callgrind_annotate", "--threshold=100", out]), re.M)
-    return [(name, int(count.replace(",", ""))) for count, name in found]
-
-
 def archive(given):
     """Our archive for the processor at hand: that which is given, else it is made, and what is not proved yet is proved first."""
     made = pathlib.Path(given or rust_crate.TARGET / "libelchepur.a").resolve()

@@ -113,26 +113,6 @@ def memory(rows):
     return table(head, lines)
 
 
-# The parts of our code by the beginnings of their functions' names; the rest is the program's start and its memory.
-PARTS = {
-    "the advance": ("radau::", "opening::", "state::"), "matrices": ("matrix::",), "packing and unpacking the state": ("export::", "elchepur_"), "copying": ("__GI_mem", "mem"),
-    "roots and powers": ("scalar::",), "the host": ("whole::", "<whole::"),
-}
-
-
-def grouped(found):
-    """The share of each part."""
-    whole = sum(count for _, count in found)
-    shares = {part: sum(count for name, count in found if name.startswith(words)) / whole for part, words in PARTS.items()}
-    return {**shares, "else": 1 - sum(shares.values())}
-
-
-def where(rows):
-    """Of each model where our instructions go."""
-    lines = [[row["model"], str(row["n"])] + [f"{share:.0%}" for share in row["where"].values()] for row in rows]
-    return table(["model", "n", *rows[0]["where"]], lines)
-
-
 def verdict(found, goal):
     return [f"{found:.2f}", f"{goal:g}", "met" if found <= goal else "not met"]
 
@@ -191,7 +171,6 @@ def all_of(rows):
         "### An attempt\n\nHost's Jacobian, no dense output. Time in ns:\n\n" + per_attempt(plain, "ns", "ns"),
         "Instructions:\n\n" + per_attempt(plain, "instructions", "instructions"),
         "### Operations\n\nHost's Jacobian, no dense output.\n\n" + per_operation(plain),
-        "### Where our instructions go\n\nHost's Jacobian, no dense output.\n\n" + where(plain),
         "### Memory\n\nOne run, host's Jacobian, no dense output: the resident size at its most, above that of a process that runs nothing, in kB; and heap and stack together, in bytes.\n\n" + memory(plain),
         "### Counts\n\nAccepted, rejected, total, ode, jac, lu. The Fortran's lu are pairs of decompositions, and its ode has the calls for differences (docs/DEPARTURES.md, D34).\n\n" + counts(rows),
     ]

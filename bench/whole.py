@@ -68,12 +68,6 @@ def heap_and_stack(program, row, contestant):
     return max(sum(map(int, parts)) for parts in found)
 
 
-def where(program, row):
-    """Where our instructions go: of ten runs the share of each part of our code."""
-    found = measure.by_function([program, "turns", row["model"], *row["way"], "ours", 10], TARGET / "callgrind")
-    return tables.grouped(found)
-
-
 def needed(program, row):
     """What a run of ours needs: decompositions, rounds, attempts, acceptances, derivatives, each with its operations."""
     return [list(map(int, line.split())) for line in measure.said([program, "flops", row["model"], *row["way"]]).splitlines()]
@@ -91,11 +85,10 @@ def counted(program, rows):
 
 
 def remembered(program, rows):
-    """Of the plain way of each model, the memory of each contestant, and where our instructions go."""
+    """Of the plain way of each model, the memory of each contestant."""
     for row in rows:
         if row["way"] == EVERY_WAY[0]:
             idle = resident(program, row, "ours", 0)
-            row["where"] = where(program, row)
             row["memory"] = {name: (resident(program, row, name, 1) - idle, heap_and_stack(program, row, name)) for name in row["ends"]}
 
 
