@@ -22,7 +22,7 @@ use Rattle.blocks.specs.Report.{reportedOf}
 use Rattle.blocks.specs.Advance.{startedOf, concludeOf, repliedOf, passedOf, calledOf}
 use Rattle.blocks.specs.Needs.{MemoryLong}
 use Rattle.blocks.proofs.Whole.{wholeOf}
-use Rattle.account.proofs.Passes.{passes-kept}
+use Rattle.blocks.proofs.Passes.{passes-kept}
 use Rattle.account.proofs.Lengths.{replied-kept}
 
 -- ---- outside the passes the factors stand
@@ -38,7 +38,7 @@ conclude-same (round.Newton r) m = refl
 conclude-same (round.Estimate r) m = refl
 conclude-same (round.Over s) m = refl
 
-replied-same : (s : Stage) (p : Reply) (r : Run) (m : Memory) → repliedOf s p r m .core .memory .factors ≡ m .factors
+pub replied-same : (s : Stage) (p : Reply) (r : Run) (m : Memory) → repliedOf s p r m .core .memory .factors ≡ m .factors
 unfolding repliedOf
 replied-same stage.FirstDerivative p r m = refl
 replied-same stage.FirstReport p r m = started-same (reportedOf stage.FirstDerivativeAgain p r) m
@@ -60,6 +60,14 @@ called-same (step.Asked c) m = refl
 called-same (step.Main r) m = refl
 called-same (step.Matrices r) m = refl
 called-same (step.Attempt r) m = refl
+
+-- nor does an advance change what was given, past the reply
+pub called-given : (s : Step) (m : Memory) → calledOf s m .core .memory .given ≡ m .given
+unfolding calledOf
+called-given (step.Asked c) m = refl
+called-given (step.Main r) m = refl
+called-given (step.Matrices r) m = refl
+called-given (step.Attempt r) m = refl
 
 -- ---- the advance
 

@@ -17,5 +17,9 @@ pub mod RepliedLaws
 pub mod Settled
 pub mod Whole
 pub mod Determinism
+pub mod Decompositions
+pub mod Passes
+pub mod Anew
+pub mod Tries
 pub mod Ways
 pub mod Everyway
