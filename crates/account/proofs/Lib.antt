@@ -17,4 +17,6 @@ pub mod Tally
 pub mod Theorems
 pub mod Played
 pub mod Demand
+pub mod Computed
+pub mod Exists
 pub mod Wrong

@@ -60,7 +60,7 @@ abbrev asks : Bool → Bool → Bool → Bool → Bool → Bool → Asks
 asks ode origin f0 z1 attempt refines =
     record { ode = ode; origin = origin; f0 = f0; z1 = z1; attempt = attempt; refines = refines }
 
---                                        ode   origin f0    z1    attempt refines
+-- in this order: ode, origin, f0, z1, attempt, refines
 unfoldable pub asksAt : Place → Asks
 asksAt place.Nowhere = asks false false false false false false
 asksAt place.YToF0 = asks true false true false false false
@@ -105,7 +105,7 @@ means t l a f s n o m e =
     record { total = t; lu = l; accepted = a; failed = f; slow = s; spent = n; over = o; small = m; solves = e }
 
 -- a pass whose E1 is singular has tried one decomposition, every other two (radau.rs:390-407)
---                                  total lu accepted failed slow spent over small solves
+-- in this order: total, lu, accepted, failed, slow, spent, over, small, solves
 unfoldable pub meansOf : Event → Means
 meansOf (real-singular h k) = means 0 1 0 0 0 0 0 0 0
 meansOf (complex-singular h k) = means 0 2 0 0 0 0 0 0 0
