@@ -1,21 +1,24 @@
 -- The laws of reading: what 17 bytes give; a block that is filled word by word, with nothing put yet and with one word
--- more; and what is answered where all words were read, or not.
+-- more; what is answered where all words were read, or not; and what of a lent block stays.
 use Prim.Native.Nat.{ℕ, _+_, _≤_, _<_}
 use mathlib.Core.Path.{_≡_, refl, sym, subst, _∙_}
-use mathlib.Core.Bool.{true, false}
+use mathlib.Core.Bool.{Bool, true, false}
 use mathlib.Core.Logic.{_⊎_, inl, inr, ⊎-elim}
 use mathlib.Core.List.{List}
 use native.Mathlib.Decide.{decLt}
 use native.Mathlib.Omega.{arith}
 use lib.ListN.{length, getD, set, length-set}
 use lib.Seq.{getD-set-same, getD-set-other}
-use borrow.Author.Tests.{eq-eqb, ne-eqb, le-leb, lt-leb}
+use native.Mathlib.Nat.{le-trans, le-of-lt}
+use lib.Dec.{leb}
+use borrow.Author.Tests.{eq-eqb, ne-eqb, le-leb, lt-leb, leb-false}
 use Rattle.words.specs.Loop.{pick}
-use Rattle.words.proofs.Branch.{pick-yes, pick-no}
+use Rattle.words.proofs.Branch.{pick-yes, pick-no, pick-all}
 use Rattle.replay.specs.declared.word.Word.{Word}
 use Rattle.replay.specs.declared.word.Word.the-variants.{Value, Wrong}
 use Rattle.replay.specs.Word.{spelledOf, withinOf}
-use Rattle.replay.specs.Read.{WordRead, taken, afterOf, Filled, WordsRead}
+use Rattle.replay.specs.declared.word.Reading.{Reading}
+use Rattle.replay.specs.Read.{WordRead, taken, afterOf, Filled, WordsRead, BlockRead, ended, wrong, begun}
 
 module _ {after : ℕ} (text : List ℕ) (long : length text ≡ 17) where
   pub taken-right : getD text 16 0 ≡ after → WordRead after (spelledOf text 0 16)
@@ -60,10 +63,44 @@ module _ {from i word : ℕ} {before block : List ℕ} (filled : Filled from i b
           let e : k ≡ i = omega arith in
           rw e (rw (getD-set-same block i word 0 room) read)
 
-module _ {from end last i : ℕ} {before block : List ℕ} (filled : Filled from i before block)
-    (is : last ≡ withinOf end (length before)) where
+module _ {from end last i : ℕ} {before block : List ℕ} (is : last ≡ withinOf end (length before))
+    (high : (i ≡ from) ⊎ (i ≤ last)) (filled : Filled from i before block) where
+  up : (i ≡ from) ⊎ (i ≤ withinOf end (length before))
+  up = subst (λ (n : ℕ). (i ≡ from) ⊎ (i ≤ n)) is high
+
   pub read-all : last ≤ i → WordsRead from end before block true
-  read-all h = record { to = i; filled = filled; answer = sym (le-leb _ _ (subst (λ (n : ℕ). n ≤ i) is h)) }
+  read-all h = record { to = i; high = up; filled = filled; answer = sym (le-leb _ _ (subst (λ (n : ℕ). n ≤ i) is h)) }
 
   pub read-some : i < last → WordsRead from end before block false
-  read-some h = record { to = i; filled = filled; answer = sym (lt-leb _ _ (subst (λ (n : ℕ). i < n) is h)) }
+  read-some h = record { to = i; high = up; filled = filled; answer = sym (lt-leb _ _ (subst (λ (n : ℕ). i < n) is h)) }
+
+-- ---- what stays of a lent block, whatever came: all that does not stand at the places that were asked for
+
+within-end : (count room : ℕ) → withinOf count room ≤ count
+within-end count room =
+    pick-all (λ (n : ℕ). n ≤ count) (leb count room) count room (λ e. omega arith) (λ e. le-of-lt (leb-false _ _ e))
+
+pub words-kept : {from end : ℕ} {before after : List ℕ} {good : Bool}
+    → WordsRead from end before after good
+    → (k : ℕ)
+    → (k < from) ⊎ ((from ≤ k) × (end ≤ k))
+    → getD after k 0 ≡ getD before k 0
+words-kept {from} {end} {before} r k h =
+    r .filled .others k (⊎-elim (λ (l : k < from). inl l) (λ (l : (from ≤ k) × (end ≤ k)). inr (over l (r .high))) h)
+  where
+    over : (from ≤ k) × (end ≤ k) → (r .to ≡ from) ⊎ (r .to ≤ withinOf end (length before)) → r .to ≤ k
+    over l g =
+        ⊎-elim (λ (e : r .to ≡ from). omega (arith, l .0))
+        (λ (m : r .to ≤ withinOf end (length before)). le-trans m (le-trans (within-end end (length before)) (l .1)))
+        g
+
+pub block-kept : {end : ℕ} {before after : List ℕ} {r : Reading}
+    → BlockRead end before after r
+    → (k : ℕ)
+    → 1 ≤ k
+    → end ≤ k
+    → getD after k 0 ≡ getD before k 0
+block-kept ended k l h = refl
+block-kept wrong k l h = refl
+block-kept {before = before} (begun first after good read rest) k l h =
+    words-kept rest k (inr (l, h)) ∙ getD-set-other before 0 k first 0 (λ e. omega arith)

@@ -33,9 +33,11 @@ pub record Filled (from to : ℕ) (before after : List ℕ) : Type 0 where
   pub words : (k : ℕ) → from ≤ k → k < to → WordRead (afterOf k) (Value (getD after k 0))
   pub others : (k : ℕ) → (k < from) ⊎ (to ≤ k) → getD after k 0 ≡ getD before k 0
 
--- words were read up to the place `to`, and the answer is true exactly where that is all that were asked for
+-- words were read up to the place `to`: none, or up to the end at most. The answer is true exactly where those are all
+-- that were asked for
 pub record WordsRead (from end : ℕ) (before after : List ℕ) (good : Bool) : Type 0 where
   pub to : ℕ
+  pub high : (to ≡ from) ⊎ (to ≤ withinOf end (length before))
   pub filled : Filled from to before after
   pub answer : good ≡ leb (withinOf end (length before)) to
 

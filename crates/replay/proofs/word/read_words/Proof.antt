@@ -1,9 +1,10 @@
 -- `read_words` meets its contract: up to `i` the block is filled. `i` rises to an end within the block, whose length
 -- stays.
 use borrow.Author.Needs.{needs}
-use mathlib.Core.Path.{_≡_}
+use mathlib.Core.Path.{_≡_, refl}
+use mathlib.Core.Logic.{_⊎_, inl, inr}
 use native.Mathlib.Omega.{arith}
-use Prim.Native.Nat.{_-_, _≤_, _<_}
+use Prim.Native.Nat.{_+_, _-_, _≤_, _<_}
 use lib.ListN.{length}
 use Rattle.replay.specs.Word.{withinOf}
 use Rattle.replay.specs.Read.{Filled}
@@ -13,7 +14,8 @@ use Rattle.replay.proofs.word.read_words.Tie as tie
 
 abbrev Inv-loop : tie.InvT-loop
 Inv-loop block₀ from end i₀ i-end block i =
-    (i-end ≡ withinOf end (length block₀)) × (i-end ≤ length block₀) × (from ≤ i) × Filled from i block₀ block
+    (i-end ≡ withinOf end (length block₀)) × (i-end ≤ length block₀) × (from ≤ i)
+    × ((i ≡ from) ⊎ (i ≤ i-end)) × Filled from i block₀ block
 
 abbrev μ-loop : tie.MeasureT-loop
 μ-loop block₀ from end i₀ i-end block i = i-end - i
@@ -22,7 +24,7 @@ within-requires : tie.Need-within-requires Inv-loop μ-loop
 within-requires c κs = search needs
 
 loop-holds : tie.Need-loop-holds Inv-loop μ-loop
-loop-holds c = (c .within .ensures .1, c .within .ensures .0 .1, omega arith, filled-none _ _)
+loop-holds c = (c .within .ensures .1, c .within .ensures .0 .1, omega arith, inl refl, filled-none _ _)
 
 after-requires : tie.Need-after-requires Inv-loop μ-loop
 after-requires c κs = search needs
@@ -48,7 +50,7 @@ same-length c = search needs
 returns : tie.Need-returns Inv-loop μ-loop
 returns c =
     let l = c .before .before .before .before .before .loop in
-    read-some (l .inv .3) (l .inv .0) (c .before .before .before .before .loop-test .taken)
+    read-some (l .inv .0) (l .inv .3) (l .inv .4) (c .before .before .before .before .loop-test .taken)
 
 enum-told-2 : tie.Need-enum-told-2 Inv-loop μ-loop
 enum-told-2 c = search needs
@@ -59,7 +61,7 @@ same-length-2 c = search needs
 returns-2 : tie.Need-returns-2 Inv-loop μ-loop
 returns-2 c =
     let l = c .before .before .before .before .before .loop in
-    read-some (l .inv .3) (l .inv .0) (c .before .before .before .before .loop-test .taken)
+    read-some (l .inv .0) (l .inv .3) (l .inv .4) (c .before .before .before .before .loop-test .taken)
 
 add-i : tie.Need-add-i Inv-loop μ-loop
 add-i c = search needs
@@ -71,16 +73,20 @@ loop-again : tie.Need-loop-again Inv-loop μ-loop
 loop-again c =
     let l = c .before .before .before .before .before .before .loop in
     let test = c .before .before .before .before .before .loop-test .taken in
-    let room : l .i < length (l .block) = omega (arith, test, l .inv .1, l .inv .3 .long) in
+    let room : l .i < length (l .block) = omega (arith, test, l .inv .1, l .inv .4 .long) in
     let put = read-value (c .before .before .before .before .after .ensures)
     (c .before .before .before .read-word .ensures) (c .before .next .given .1) in
-    (l .inv .0, l .inv .1, omega (arith, l .inv .2), filled-more (l .inv .3) (l .inv .2) room put)
+    let last = c .before .before .before .before .before .before .before .within .result in
+    let more : l .i + 1 ≤ last = omega (arith, test) in
+    (l .inv .0, l .inv .1, omega (arith, l .inv .2), inr more, filled-more (l .inv .4) (l .inv .2) room put)
 
 same-length-3 : tie.Need-same-length-3 Inv-loop μ-loop
 same-length-3 c = search needs
 
 returns-3 : tie.Need-returns-3 Inv-loop μ-loop
-returns-3 c = read-all (c .before .loop .inv .3) (c .before .loop .inv .0) (c .loop-test .left)
+returns-3 c =
+    let l = c .before .loop in
+    read-all (l .inv .0) (l .inv .3) (l .inv .4) (c .loop-test .left)
 
 pub read-words-spec : {M : Type 1} → statement M
 read-words-spec =
