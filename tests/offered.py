@@ -11,6 +11,10 @@ every part lent to be written. A contract has no `requires`, and settles the out
     several of them, or one of a record that the outcome stands in: a theorem NAME-once of the crate's proofs/Determinism.antt, whose two premises are the
         contract, with variables for the outcome and for what was given, and which says of each variable for the outcome that it is the same in both
     a relation: a theorem of RELATIONS below, which is read in the same way
+    no result and no part lent to be written: the contract says so, as r ≡ tt, and there is nothing to settle
+
+What those of READERS below answer depends on standard input, which is no argument: no theorem can say that two outcomes
+coincide. Their contract is a relation, and has to speak of the result and of every part.
 
 What a theorem calls by one variable may be a record that the contract writes out; then it is one whose fields are all given, so that equal records have equal parts."""
 
@@ -20,19 +24,15 @@ import sys
 
 ROOT = pathlib.Path(__file__).resolve().parent.parent
 ONE_OUTCOME = ("one-outcome", "crates/words/proofs/Outcome.antt")
+EMPTY = ("none", "no result, and nothing lent to be written")
+READ = ("none", "reads standard input")
 # The definitions of an advance stand apart from its code, and so does the theorem.
 STANDS_IN = {"radau": "blocks"}
 RELATIONS = {
     "forecast::bytes::forecast": ("one-forecast", "crates/forecast/proofs/Theorem.antt"),
     "printout::sheets::elchepur_forecast": ("one-printout", "crates/printout/proofs/Theorem.antt"),
 }
-# What these read from standard input or write to standard output, no contract can say.
-UNSETTLED = {
-    "replay::told::write_summary": "writes to standard output",
-    "replay::word::read_word": "reads standard input",
-    "replay::word::read_words": "reads standard input",
-    "replay::word::read_block": "reads standard input",
-}
+READERS = {"replay::word::read_word", "replay::word::read_words", "replay::word::read_block"}
 
 FUNCTION = re.compile(r'^ *pub (?:extern "C" )?fn (\w+)(?:<[^>]*>)?\(([^)]*)\)(?: -> ([^\n{]*[^\s{]))?\s*((?:(?:requires|ensures)\b[^\n]*\n\s*)*)\{', re.M)
 MENTIONED = re.compile(r"\bpub\b[^\n]*\bfn (\w+)")
@@ -203,6 +203,10 @@ def shown(it):
     return it if isinstance(it, str) else "(" + " ".join(map(shown, it)) + ")"
 
 
+def mentions(it, part):
+    return it == part or isinstance(it, tuple) and any(mentions(inner, part) for inner in it)
+
+
 def reads(it, outcome):
     return it in outcome or isinstance(it, tuple) and (it[0] == ".exit" or any(reads(part, outcome) for part in it))
 
@@ -258,14 +262,22 @@ def instance(function, stated, outcome, text, name):
     return settled
 
 
-def theorem(function, text_of=lambda file: (ROOT / file).read_text() if (ROOT / file).is_file() else ""):
+def read_text(file):
+    return (ROOT / file).read_text() if (ROOT / file).is_file() else ""
+
+
+def theorem(function, text_of=read_text, readers=READERS):
     """The theorem by which two outcomes coincide, and its file; or that there is none, and why."""
     insist(not any(clause.startswith("requires") for clause in function.clauses), "asks something of its caller")
-    if function.name in UNSETTLED:
-        return "none", UNSETTLED[function.name]
     stated, name = function.contract()
     outcome = function.outcome(name)
-    insist(outcome, "has no outcome")
+    if not outcome:
+        insist(stated == [("≡", name, "tt")], "has no outcome, and its contract says something else")
+        return EMPTY
+    if function.name in readers:
+        unsaid = sorted(shown(part) for part in outcome if not any(mentions(it, part) for it in stated))
+        insist(not unsaid, f"says nothing of {', '.join(unsaid)}")
+        return READ
     if function.name in RELATIONS:
         by, file = RELATIONS[function.name]
         settled = instance(function, stated, outcome, text_of(file), by)
@@ -314,21 +326,33 @@ SAMPLES = [
     ("a theorem on a condition", HEAD, [RIGHT], PAIR.replace("(n : ℕ)", "(n : ℕ) (p : n ≤ 32)")),
     ("a theorem with a premise more", HEAD, [RIGHT], PAIR.replace("    → (r", "    → n ≤ 32 → (r")),
     ("a theorem by another name", HEAD, [RIGHT], PAIR.replace("held", "kept")),
+    ("a contract of nothing that says more", "pub fn held(n: usize)\n", ["n ≡ n"], PAIR),
+]
+READING = "Read n (now (a .entry)) (now (a .exit)) r"
+READER_SAMPLES = [
+    ("a reader with no contract", HEAD, []),
+    ("a reader with a demand", HEAD, ["requires { ⌜ n ≤ 3 ⌝ }", READING]),
+    ("a reader that says nothing of its result", HEAD, [READING.replace(" r", "")]),
+    ("a reader that says nothing of a part", HEAD, [READING.replace(".exit", ".entry")]),
 ]
 
 
-def sample(head, clauses, text):
+def sample(head, clauses, text, readers=frozenset()):
     lines = "".join(f"    {clause}\n" if clause.startswith("requires") else f"    ensures {{ λ r. ⌜ {clause} ⌝ }}\n" for clause in clauses)
     source = f"{head}{lines}{{\n"
     found = FUNCTION.search(source)
     insist(found, "a sample is not read")
-    return theorem(Function("samples::held", source, found), lambda file: LIBRARY if file.endswith("Lib.antt") else text)
+    texts = lambda file: LIBRARY if file.endswith("Lib.antt") else text
+    return theorem(Function("samples::held", source, found), texts, readers)
 
 
 def tried():
-    """Sees that the right sample passes and that every wrong one is complained of."""
+    """Sees that the right samples pass and that every wrong one is complained of."""
     sample(HEAD, [RIGHT], PAIR)
-    for what, *wrong in SAMPLES:
+    sample("pub fn held(n: usize)\n", ["r ≡ tt"], PAIR)
+    sample(HEAD, [READING], PAIR, {"samples::held"})
+    readers = [(*wrong, PAIR, {"samples::held"}) for wrong in READER_SAMPLES]
+    for what, *wrong in [*SAMPLES, *readers]:
         try:
             sample(*wrong)
         except Complaint:
@@ -346,15 +370,20 @@ def main():
             rows.append((function.name, *theorem(function)))
         except Complaint as complaint:
             complaints.append(f"{function.name} {complaint}")
-    complaints += [f"{name} is listed here and is not offered" for name in {*RELATIONS, *UNSETTLED} - {row[0] for row in rows}]
+    lost = {*RELATIONS, *READERS} - {row[0] for row in rows}
+    complaints += [f"{name} is listed here and is not offered" for name in lost]
     if sys.argv[1] == "list":
         for name, by, where in rows:
             print(f"{name:45} {by:35} {where}")
     for complaint in complaints:
         print(f"offered: {complaint}")
     directly = sum(row[1] == ONE_OUTCOME[0] for row in rows)
-    open_ = sum(row[1] == "none" for row in rows)
-    print(f"{len(rows)} offered functions ask nothing: by `one-outcome` {directly} have one outcome for one input, by theorems of their own {len(rows) - directly - open_}; {open_} read standard input or write standard output")
+    empty, read = (sum(row[1:] == kind for row in rows) for kind in (EMPTY, READ))
+    print(
+        f"{len(rows)} offered functions ask nothing: by `one-outcome` {directly} have one outcome for one input, "
+        f"by theorems of their own {len(rows) - directly - empty - read}; "
+        f"{empty} has no outcome; {read} read standard input, by relations"
+    )
     sys.exit(1 if complaints else 0)
 
 
