@@ -1,4 +1,4 @@
--- In order of reading: first what the code's proofs cite, then what holds of every advance.
+-- In order of reading: first what the code's proofs cite, then what holds of every advance, then samples and traps.
 pub mod AdmittedLaws
 pub mod LogLaws
 pub mod MatrixLaws
@@ -19,3 +19,5 @@ pub mod Whole
 pub mod Determinism
 pub mod Ways
 pub mod Everyway
+pub mod FromRust
+pub mod Samples

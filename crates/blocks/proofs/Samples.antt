@@ -1,0 +1,194 @@
+-- The definitions, float operation by float operation, on operands drawn by tests/samples.py: what they give is what the
+-- Rust's own lines give, which stands in FromRust. The checker computes each claim, so that an operand exchanged, a bracket
+-- moved, a constant one bit off or a test made strict is refused here. Edges and NaNs that decide a test are in Traps.
+use Prim.Native.Nat.{ℕ}
+use mathlib.Core.Path.{_≡_, refl}
+use mathlib.Core.Bool.{Bool, true, false}
+use mathlib.Core.List.{List, [], _∷_, _++_}
+use lib.Ieee.{Float, binary64, add, sub, mul, div, neg, le, lt, isNan, ofInt, ofBits, toBits}
+use Rattle.words.specs.Words.{double, _!_}
+use Rattle.words.specs.Loop.{loop, pick}
+use Rattle.words.specs.Grid.{at, put}
+use Rattle.scalar.specs.Order.{absOf, maxOf, minOf, clampOf}
+use Rattle.scalar.specs.Products.{timesAt, product, powerOf}
+use Rattle.scalar.specs.Patterns.{units, unitsInOne}
+use Rattle.scalar.specs.Halving.{halve}
+use Rattle.scalar.specs.Root.{keeps, halvedRoot, rootOfForm, rootOf}
+use Rattle.scalar.specs.SquareRoot.{squareOf}
+use Rattle.scalar.specs.Sqrt.{border, reaches, nearestRoot, sqrtOf}
+use Rattle.state.specs.declared.settings.Mass.the-variants.{Identity, Full}
+use Rattle.state.specs.declared.settings.Number.the-variants as number
+use Rattle.state.specs.declared.run.Numbers.{Numbers}
+use Rattle.state.specs.declared.run.Run.{Run}
+use Rattle.state.specs.declared.run.Stage.the-variants as stage
+use Rattle.state.specs.declared.run.Tolerances.the-variants.{Lists}
+use Rattle.state.specs.Memory.{Newton, newton}
+use Rattle.state.specs.Settings.{defaultsOf}
+use Rattle.blocks.specs.declared.step.Step.{Step}
+use Rattle.blocks.specs.declared.step.Step.the-variants as step
+use Rattle.blocks.specs.declared.step.Round.{Round}
+use Rattle.blocks.specs.declared.step.Round.the-variants as round
+use Rattle.blocks.specs.Setters.{_▸_, inControl, inNumbers, counts, control, setNewt, setHnew}
+use Rattle.blocks.specs.Entries.{massAt, jacAt, rtolAt, atolAt, combined, Three, three}
+use Rattle.blocks.specs.Scale.{scaleAt, scaledOf, divideAt, weightedOf}
+use Rattle.blocks.specs.Jacobian.{perturbation, columnAt}
+use Rattle.blocks.specs.Matrices.{buildAt, buildRow, builtOf, failedOf}
+use Rattle.blocks.specs.Attempt.{stageSumAt, guessed, guessAt, guessOf, started}
+use Rattle.blocks.specs.Newton.{transformAt, massSumAt, massSums, addSums, massAddAt, rightSides, normAt, dynoOf}
+use Rattle.blocks.specs.Newton.{addAt, backAt, updatedOf, concludedOf, slowRound, slowedOf, predictedOf, rateOf}
+use Rattle.blocks.specs.Newton.{pacedOf, judgedRound}
+use Rattle.blocks.specs.Estimate.{defectAt, defectOf, rowAt, rowSum, sides, sideAt, sidesOf, errorAt, errorOf}
+use Rattle.blocks.specs.Judge.{facOf, between, quotOf, predictiveQuot, moved, moveAt, movedOf, acceptedOf}
+use Rattle.blocks.specs.Judge.{rejectedOf}
+use Rattle.blocks.specs.Report.{hnewOf, grownOf, renewedOf, arrivedOf}
+use Rattle.blocks.proofs.FromRust as rust
+
+-- ---- the operands as a run
+
+abbrev pub one : Float
+one = double 0x3ff0_0000_0000_0000
+
+abbrev pub numbers : Numbers
+numbers =
+    record {
+      x = rust.x;
+      xold = double 0;
+      xph = rust.xph;
+      h = rust.h;
+      hold = rust.hold;
+      hnew = rust.hnew;
+      hhfac = rust.hhfac;
+      «h_acc» = rust.hAcc;
+      «err_acc» = rust.errAcc;
+      faccon = rust.faccon;
+      theta = rust.theta;
+      dynold = rust.dynold;
+      thqold = rust.thqold;
+      xout = number.Absent;
+    }
+
+-- after one acceptance, in the fourth round, with this Newton tolerance, end point and direction
+abbrev pub runBy : Float → Float → Float → Run
+runBy tolerance end direction =
+    record {
+      settings = defaultsOf;
+      shape = record { n = 2; nind1 = 2; nind2 = 0; nind3 = 0 };
+      fixed =
+          record {
+            tolerances = Lists;
+            «newton_tol» = tolerance;
+            xend = end;
+            posneg = direction;
+            hmax = rust.hmax;
+            hmin = rust.hmin;
+          };
+      counts = counts 0 0 0 0 1 0;
+      control = control false false false true true 0 4;
+      numbers = numbers;
+      stage = stage.Newton3;
+    }
+
+abbrev pub drawn : Run
+drawn = runBy rust.newtonTol rust.xend one
+
+abbrev pub z : Three
+z = three rust.z1 rust.z2 rust.z3
+
+abbrev pub f : Three
+f = three rust.f1 rust.f2 rust.f3
+
+abbrev pub nought : List Float
+nought = double 0 ∷ double 0 ∷ double 0 ∷ double 0 ∷ []
+
+-- ---- what is told
+
+abbrev pub bitsOf : Float → ℕ
+bitsOf x = toBits binary64 x
+
+abbrev pub patterns : List Float → List ℕ
+patterns [] = []
+patterns (x ∷ xs) = bitsOf x ∷ patterns xs
+
+abbrev pub flag : Bool → ℕ
+flag true = 1
+flag false = 0
+
+abbrev pub threeTold : Three → List ℕ
+threeTold t = patterns (t .one) ++ patterns (t .two) ++ patterns (t .three)
+
+abbrev pub newtonTold : Newton → List ℕ
+newtonTold m =
+    threeTold (three (m .z1) (m .z2) (m .z3)) ++ threeTold (three (m .f1) (m .f2) (m .f3))
+
+-- of a round: its way, as tests/samples.py numbers it, and the run's numbers
+abbrev pub roundNumbers : ℕ → Run → List ℕ
+roundNumbers way r =
+    let v = r .numbers in
+    way ∷ bitsOf (v .theta) ∷ bitsOf (v .thqold) ∷ bitsOf (v .faccon) ∷ bitsOf (v .dynold) ∷ bitsOf (v .hhfac)
+    ∷ bitsOf (v .h) ∷ r .counts .rejected ∷ flag (r .control .last) ∷ []
+
+abbrev pub roundTold : Round → List ℕ
+roundTold (round.Newton r) = roundNumbers 1 r
+roundTold (round.Estimate r) = roundNumbers 0 r
+roundTold (round.Over (step.Asked c)) = roundNumbers 3 (c .run)
+roundTold (round.Over (step.Main r)) = roundNumbers 2 r
+roundTold (round.Over (step.Matrices r)) = []
+roundTold (round.Over (step.Attempt r)) = []
+
+-- of the step past a report
+abbrev pub stepNumbers : Run → List ℕ
+stepNumbers r =
+    let v = r .numbers in
+    bitsOf (v .hnew) ∷ bitsOf (v .h) ∷ bitsOf (v .hhfac) ∷ flag (r .control .last) ∷ flag (r .control .reject)
+    ∷ flag (r .control .«call_decomp») ∷ flag (r .control .«call_jac») ∷ r .control .«singular_count» ∷ []
+
+abbrev pub stepTold : Step → List ℕ
+stepTold (step.Asked c) = []
+stepTold (step.Main r) = stepNumbers r
+stepTold (step.Matrices r) = []
+stepTold (step.Attempt r) = []
+
+-- ---- before the attempt
+
+scale-sample : patterns (scaledOf 2 Lists rust.rtol rust.atol rust.y rust.scal) ≡ rust.scaled
+unfolding scaledOf scaleAt rtolAt atolAt absOf loop add mul ofBits toBits
+scale-sample = refl
+
+weight-sample : patterns (weightedOf (record { n = 2; nind1 = 0; nind2 = 1; nind3 = 1 }) rust.hhfac rust.scal)
+    ≡ rust.weighted
+unfolding weightedOf divideAt powerOf timesAt loop mul div ofBits toBits
+weight-sample = refl
+
+matrix-sample : threeTold (builtOf Full 2 rust.mass rust.jac rust.h (three nought nought nought)) ≡ rust.built
+unfolding builtOf buildRow buildAt massAt jacAt at put loop sub mul div ofBits toBits
+matrix-sample = refl
+
+identity-sample : threeTold (builtOf Identity 2 nought rust.jac rust.h (three nought nought nought)) ≡ rust.builtIdentity
+unfolding builtOf buildRow buildAt massAt jacAt at put loop pick sub mul div ofBits toBits
+identity-sample = refl
+
+-- ---- the first guess and the stages
+
+guess-sample : newtonTold (guessOf false 2 rust.h rust.hold rust.cont (newton rust.z1 rust.z2 rust.z3 rust.f1 rust.f2 rust.f3))
+    ≡ rust.guessed
+unfolding guessOf guessAt guessed combined loop pick add sub mul div ofBits toBits
+guess-sample = refl
+
+restart-sample : (bitsOf (started drawn .numbers .faccon) ∷ bitsOf (started drawn .numbers .theta) ∷ []) ≡ rust.restarted
+unfolding maxOf absOf powerOf timesAt product keeps halve halvedRoot rootOfForm rootOf loop pick isNan le lt mul ofBits toBits
+restart-sample = refl
+
+stage-sample : patterns (loop (stageSumAt rust.y rust.z1) 0 2 rust.cont) ≡ rust.staged
+unfolding stageSumAt loop add ofBits toBits
+stage-sample = refl
+
+-- ---- a round
+
+side-sample : threeTold (rightSides Full 2 rust.mass rust.h f z) ≡ rust.sided
+unfolding rightSides transformAt massAddAt massSums massSumAt addSums massAt at combined loop add sub mul div ofBits toBits
+side-sample = refl
+
+norm-sample : (bitsOf (dynoOf 2 rust.scal z) ∷ []) ≡ rust.normed
+unfolding dynoOf normAt combined units unitsInOne squareOf halve border reaches nearestRoot sqrtOf loop pick add mul div
+    ofInt ofBits toBits
+norm-sample = refl
