@@ -21,3 +21,4 @@ pub mod Ways
 pub mod Everyway
 pub mod FromRust
 pub mod Samples
+pub mod Traps
