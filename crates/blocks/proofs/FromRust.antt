@@ -98,7 +98,7 @@ abbrev pub theta : Float
 theta = double 0x3fcc_67cd_2b62_af2a
 
 abbrev pub err : Float
-err = double 0x3fea_93e6_6b94_4c8d
+err = double 0x3fea_b774_d1a7_d491
 
 abbrev pub errAcc : Float
 errAcc = double 0x3fc6_ae43_6ab9_b8f4
@@ -235,7 +235,7 @@ acceptedBy = 1 ∷ 0 ∷ 0 ∷ []
 -- radau.rs:672-697
 abbrev pub accepted : List ℕ
 accepted =
-    0x3fb7_ee08_017f_85cf ∷ 0x3fc1_16c4_362e_d766 ∷ 0x3fea_93e6_6b94_4c8d ∷ 0x3fc0_f198_c1b9_38e8
+    0x3fb7_de16_3b29_f3bc ∷ 0x3fc1_16c4_362e_d766 ∷ 0x3fea_b774_d1a7_d491 ∷ 0x3fc0_f198_c1b9_38e8
     ∷ 0x3fc1_16c4_362e_d766 ∷ 0x3fff_5892_025f_7b96 ∷ 2 ∷ 0 ∷ []
 
 -- radau.rs:700-708
