@@ -1,4 +1,4 @@
--- In order of reading: first what the code's proofs cite, then what holds of every advance.
+-- In order of reading: first what the code's proofs cite, then what holds of every advance, then samples and traps.
 pub mod AdmittedLaws
 pub mod LogLaws
 pub mod MatrixLaws
@@ -23,3 +23,6 @@ pub mod Anew
 pub mod Tries
 pub mod Ways
 pub mod Everyway
+pub mod FromRust
+pub mod Samples
+pub mod Traps
