@@ -206,10 +206,14 @@ def has(command, what):
     return bool(shutil.which(command))
 
 
-def build(library):
+def build_program(name, library):
     TARGET.mkdir(parents=True, exist_ok=True)
+    said(["cc", *FLAGS, "-I", HEADER.parent, ROOT / "tests" / f"{name}.c", *library, "-o", TARGET / name])
+
+
+def build(library):
     for name in PROGRAMS:
-        said(["cc", *FLAGS, "-I", HEADER.parent, ROOT / "tests" / f"{name}.c", *library, "-o", TARGET / name])
+        build_program(name, library)
     example("cc", library)
     if has("c++", "the headers are NOT tried in C++"):
         said(["c++", "-x", "c++", "-Wall", "-Wextra", "-pedantic", "-Werror", "-fsyntax-only", HEADER])

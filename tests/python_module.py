@@ -357,7 +357,7 @@ def main(words):
     linked = c_program.library(words[0])
     if not linked:
         return
-    c_program.build(linked)
+    c_program.build_program("c_program", linked)
     module = loaded(linked)
     records = sheet_answers.records_of(sheet_answers.STORED.read_bytes())
     check_forecasts(module, records)
