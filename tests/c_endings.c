@@ -65,8 +65,9 @@ static uint64_t report(void *user, struct elchepur_report *at) {
     return watch->reply;
 }
 
-static double doubles[ELCHEPUR_DOUBLES(ELCHEPUR_MOST)];
-static size_t pivots[ELCHEPUR_PIVOTS(ELCHEPUR_MOST)];
+// Room for one amount more than a run can have.
+static double doubles[ELCHEPUR_DOUBLES(ELCHEPUR_MOST + 1)];
+static size_t pivots[ELCHEPUR_PIVOTS(ELCHEPUR_MOST + 1)];
 static const double y0[ELCHEPUR_MOST + 1] = {1.0, 2.0}, lists[] = {1e-6, 1e-6}, identity[] = {1, 0, 0, 1};
 static struct watch watch;
 static struct elchepur_outcome outcome;
@@ -91,7 +92,11 @@ static void nothing(const char *words) {
 
 static void refuses(const char *words, const struct elchepur_problem *problem, size_t n, uint64_t number) {
     struct elchepur_memory m = elchepur_host_parts(n, doubles, pivots);
+    for (size_t k = 0; k < sizeof doubles / sizeof *doubles; k++) doubles[k] = 0.5;
     same(words, (uint64_t)ran(problem, &m), ELCHEPUR_HOST_REFUSED);
+    // What is given goes into parts of its own length, and else nowhere.
+    for (size_t k = n == problem->n ? ELCHEPUR_DOUBLES(n) : 0; k < sizeof doubles / sizeof *doubles; k++)
+        if (doubles[k] != 0.5) same("a double that a refused opening wrote", k, 0);
     same(words, outcome.refused, number);
     same("that a callback of a refused opening was called", watch.calls + watch.reports, 0);
     nothing(words);
@@ -117,6 +122,7 @@ static void refusals(void) {
     refuses("no amounts", &problem, 0, ELCHEPUR_REFUSED_ORDER);
     problem.n = ELCHEPUR_MOST + 1;
     refuses("too many amounts", &problem, 2, ELCHEPUR_REFUSED_ORDER);
+    refuses("too many amounts, with room for them", &problem, ELCHEPUR_MOST + 1, ELCHEPUR_REFUSED_ORDER);
     problem = plain();
     refuses("parts of three amounts for two", &problem, 3, ELCHEPUR_REFUSED_PART);
     problem.xend = 1.0 / elchepur_abs(0.0);
@@ -244,6 +250,34 @@ static void taken_up(const struct elchepur_memory *m) {
     same_run("a run taken up", &one);
 }
 
+// A run goes on in parts of its own length alone: in others it is refused with 13, and nothing is called.
+static void other_parts(void) {
+    struct elchepur_problem problem = plain();
+    struct elchepur_host host = {&watch, derivative, NULL, report};
+    struct elchepur_memory m = elchepur_host_parts(2, doubles, pivots);
+    struct elchepur_memory more = elchepur_host_parts(ELCHEPUR_MOST + 1, doubles, pivots);
+    struct elchepur_talk talk;
+    same("an opening", elchepur_host_open(&problem, &host, &m, &talk), 0);
+    same("the first reply", (uint64_t)elchepur_host_answer(&host, &m, &talk), 0);
+    same("the first advance", elchepur_advance(talk.state, talk.reply, 0.0, talk.told, talk.at, ELCHEPUR_PARTS(m)), 0);
+    same("the first report", talk.told[ELCHEPUR_TOLD_KIND], ELCHEPUR_KIND_REPORT);
+    same("more amounts", (uint64_t)elchepur_host_go_on(&host, &more, &talk, &outcome), ELCHEPUR_HOST_REFUSED);
+    same("their refusal", outcome.refused, ELCHEPUR_REFUSED_UNFIT);
+    same("that a report of them was told", watch.reports, 0);
+    nothing("more amounts");
+}
+
+// A step covers the point that it comes to, and not the one that it leaves, either way.
+static void covered(void) {
+    struct elchepur_report forwards = {2, 1.0, 2.0, NULL, NULL, 1.0, 2.0, NULL}, backwards = forwards;
+    backwards.xold = 2.0;
+    backwards.x = 1.0;
+    for (double x = 0.5; x < 3.0; x += 0.5) {
+        same("a point forwards", (uint64_t)elchepur_host_covers(&forwards, x), x > 1.0 && x <= 2.0);
+        same("a point backwards", (uint64_t)elchepur_host_covers(&backwards, x), x >= 1.0 && x < 2.0);
+    }
+}
+
 // The solution of the two is known: their sum stays, and y[0] goes to a seventh of it at a rate of 3.5.
 static void right(const struct elchepur_memory *m) {
     struct elchepur_problem problem = plain();
@@ -261,6 +295,8 @@ int main(void) {
     given_up(&m);
     twice();
     taken_up(&m);
+    other_parts();
+    covered();
     right(&m);
     printf("%d answers of runs through callbacks, %d wrong\n", seen, wrong);
     return wrong != 0;

@@ -5,6 +5,7 @@
 
 struct replay {
     struct elchepur_memory m;
+    struct elchepur_talk talk;
     uint64_t left;
 };
 
@@ -45,6 +46,9 @@ static int jacobian(void *user, double x, const double *y, double *jac) {
 static uint64_t report(void *user, struct elchepur_report *at) {
     struct replay *replay = user;
     uint64_t head = met(replay, ELCHEPUR_KIND_REPORT, at->xold, at->x), reply = head & 15;
+    double held;
+    same("the answer of a held step", elchepur_held_step(replay->talk.state, &held), 0);
+    same("the held step", bits_of(at->h), bits_of(held));
     same("whether coefficients are offered", at->cont == replay->m.cont, head >> 4 & 15);
     same("the amounts of a report", at->n == replay->m.n && at->y == replay->m.y, 1);
     for (size_t i = 0; i < at->n; i++) {
@@ -83,7 +87,7 @@ int main(void) {
     static size_t pivots[ELCHEPUR_PIVOTS(ELCHEPUR_MOST)];
     uint64_t n;
     while (scanf("%" SCNx64, &n) == 1) {
-        struct replay replay = {elchepur_host_parts(n, doubles, pivots), 0};
+        struct replay replay = {.m = elchepur_host_parts(n, doubles, pivots)};
         struct elchepur_host host = {&replay, derivative, NULL, report};
         struct elchepur_outcome outcome;
         if (n < 1 || n > ELCHEPUR_MOST) stop("a stored run has no order", n);
@@ -93,7 +97,8 @@ int main(void) {
         if (read.choices >> HOST & 1) host.jacobian = jacobian;
         memset(doubles, 1, sizeof doubles);
         memset(pivots, 1, sizeof pivots);
-        int answer = elchepur_host_run(&read.problem, &host, &replay.m, &outcome);
+        same("an opening", elchepur_host_open(&read.problem, &host, &replay.m, &replay.talk), 0);
+        int answer = elchepur_host_go_on(&host, &replay.m, &replay.talk, &outcome);
         met_end(&replay, answer, &outcome);
     }
     printf("%" PRIu64 " runs of the Rust with %" PRIu64 " requests agree through callbacks\n", runs, requests);
