@@ -58,6 +58,7 @@ def relaxation(x, y):
 REFUSED = [
     (1, {"y0": []}),
     (1, {"y0": [1.0] * 33}),
+    (1, {"y0": [1.0] * 100_000}),
     (1, {"y0": [1.0] * 33, "rtol": [1e-3]}),
     (2, {"rtol": [1e-3]}),
     (2, {"atol": [1e-3] * 3}),
@@ -123,7 +124,8 @@ def check_arguments(module):
         (ValueError, {"report": lambda xold, x, y, step: module.Modified(x, [1.0])}),
     ]:
         raised(kind, module.solve, *plain, **given)
-    raised(ValueError, module.solve, lambda x, y: [0.0], (0.0, 1.0), [1.0, 2.0])
+    error = raised(ValueError, module.solve, lambda x, y: [0.0], (0.0, 1.0), [1.0, 2.0])
+    insist(str(error) == "f gives 1 derivatives of 2 amounts", f"a short derivative: {error}")
     raised(TypeError, module.solve, lambda x, y: None, (0.0, 1.0), [1.0, 2.0])
     raised(TypeError, module.forecast, 7)
 
@@ -211,6 +213,7 @@ def check_shortened(module):
             middles = [(first + second) / 2 for first, second in itertools.pairwise(found.t)]
             told = module.solve(relaxation, (0.0, 2.0), [2.0, 0.0], t_eval=middles, **plain)
             insist(found.sol(middles) == told.y, "sol differs in the middle of a step")
+            insist(found.sol(found.t) == found.y, "sol differs at the end of a step")
         insist(all(entry.category is module.ShortenedStep for entry in caught), "another warning")
         insist(bool(caught) == (rule == "rust"), f"{len(caught)} warnings under the {rule} rule")
 
@@ -241,7 +244,8 @@ def check_library(module, path):
     raised(module.Unproved, module.load, without)
     raised(module.Unproved, module.load, empty)
     raised(module.NoLibrary, module.load, empty, unproved=True)
-    raised(module.NoLibrary, module.load, archive, unproved=True)
+    error = raised(module.NoLibrary, module.load, archive)
+    insist("is an archive" in str(error), f"an archive is not told from a library: {error}")
     raised(module.NoLibrary, module.load, TARGET / "nowhere.so")
     insist(module.load(whole).mark == MARK, "a mark is not seen")
     before = os.environ.pop("ELCHEPUR_LIBRARY", None)
