@@ -160,9 +160,12 @@ static inline void elchepur_host_copy(double *to, const double *from, size_t cou
 
 /* ---- Dense output at a report ---- */
 
-/* Whether xi lies in the step that a report tells of: past its old point, and not past the new one. */
+/* Whether a report tells the amounts at xi: it is x, or it lies in the step that the coefficients belong to, past xold.
+ * Under the Rust rule that step may have been shortened; the points between its end and x are then left out. */
 static inline int elchepur_host_covers(const struct elchepur_report *at, double xi) {
-    return (at->xold < xi && xi <= at->x) || (at->xold > xi && xi >= at->x);
+    double ends[2];
+    elchepur_bounds(at->xold, at->h, ends);
+    return xi == at->x || (at->cont && xi != at->xold && ends[0] <= xi && xi <= ends[1]);
 }
 
 /* Writes the n amounts at xi into yi and answers 1: those reached if xi is x, else those that the coefficients give.

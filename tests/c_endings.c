@@ -269,12 +269,18 @@ static void other_parts(void) {
 
 // A step covers the point that it comes to, and not the one that it leaves, either way.
 static void covered(void) {
-    struct elchepur_report forwards = {2, 1.0, 2.0, NULL, NULL, 1.0, 2.0, NULL}, backwards = forwards;
+    struct elchepur_report forwards = {2, 1.0, 2.0, NULL, doubles, 1.0, 2.0, NULL};
+    struct elchepur_report backwards = forwards, shortened = forwards, bare = forwards;
     backwards.xold = 2.0;
     backwards.x = 1.0;
-    for (double x = 0.5; x < 3.0; x += 0.5) {
+    backwards.h = -1.0;
+    shortened.h = 0.5;
+    bare.cont = NULL;
+    for (double x = 0.25; x < 3.0; x += 0.25) {
         same("a point forwards", (uint64_t)elchepur_host_covers(&forwards, x), x > 1.0 && x <= 2.0);
         same("a point backwards", (uint64_t)elchepur_host_covers(&backwards, x), x >= 1.0 && x < 2.0);
+        same("a shortened step", (uint64_t)elchepur_host_covers(&shortened, x), (x > 1.0 && x <= 1.5) || x == 2.0);
+        same("a step without coefficients", (uint64_t)elchepur_host_covers(&bare, x), x == 2.0);
     }
 }
 

@@ -5,7 +5,8 @@
 //
 // The Jacobian is made by the solver's differences, or by this host: by differences of its own, with a step of 2^-20
 // for every amount. With POINTS it also prints the amounts at so many points between the ends, by dense output, each in
-// a line `at`. tests/c_program.py builds it and compares what it prints with the Rust's answers.
+// a line `at`, with NaN where a shortened step leaves a point out. tests/c_program.py builds it and compares what it
+// prints with the Rust's answers.
 #include "c_host.h"
 
 #define MOST_REACTIONS 64
@@ -99,13 +100,15 @@ static void print_amounts(const double *y, size_t n) {
     printf("\n");
 }
 
-// The points that the step covers, in their order.
+// The points that the step has passed, in their order.
 static uint64_t report(void *user, struct elchepur_report *at) {
     struct model *model = user;
     double step = (model->xend - model->x0) / (double)(model->points + 1), y[ELCHEPUR_MOST];
     for (; model->had < model->points; model->had++) {
         double xi = model->x0 + step * (double)(model->had + 1);
-        if (!elchepur_host_covers(at, xi) || !elchepur_host_amounts(at, xi, y)) break;
+        if (at->x == model->x0 || !(step > 0.0 ? xi <= at->x : xi >= at->x)) break;
+        for (size_t i = 0; i < at->n; i++) y[i] = elchepur_sqrt(-1.0);
+        if (elchepur_host_covers(at, xi)) elchepur_host_amounts(at, xi, y);
         printf("at %016" PRIx64, bits_of(xi));
         print_amounts(y, at->n);
     }

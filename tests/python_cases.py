@@ -204,16 +204,18 @@ def check_rounding(module):
 
 
 def check_shortened(module):
-    """Where the Rust rule has shortened a step it is said; under the book rule there is none."""
+    """What a step that the Rust rule has shortened leaves out is NaN, and it is said; the book rule has none."""
     for rule in ("rust", "book"):
         with warnings.catch_warnings(record=True) as caught:
             warnings.simplefilter("always")
             plain = {"rule": rule, "rtol": 1e-2, "atol": 1e-2}
             found = module.solve(relaxation, (0.0, 2.0), [2.0, 0.0], dense_output=True, **plain)
-            middles = [(first + second) / 2 for first, second in itertools.pairwise(found.t)]
-            told = module.solve(relaxation, (0.0, 2.0), [2.0, 0.0], t_eval=middles, **plain)
-            insist(found.sol(middles) == told.y, "sol differs in the middle of a step")
+            late = [(first + 3.0 * second) / 4.0 for first, second in itertools.pairwise(found.t)]
+            told = module.solve(relaxation, (0.0, 2.0), [2.0, 0.0], t_eval=late, **plain)
+            insist(repr(found.sol(late)) == repr(told.y), "sol differs late in a step")
             insist(found.sol(found.t) == found.y, "sol differs at the end of a step")
+            lacking = sum(map(math.isnan, told.y[0]))
+        insist(2 * lacking == len(caught), f"{lacking} points twice without amounts, and {len(caught)} warnings")
         insist(all(entry.category is module.ShortenedStep for entry in caught), "another warning")
         insist(bool(caught) == (rule == "rust"), f"{len(caught)} warnings under the {rule} rule")
 
@@ -257,6 +259,10 @@ def check_library(module, path):
     if before is not None:
         os.environ["ELCHEPUR_LIBRARY"] = before
     insist(module.load(without, unproved=True).mark is None, "an unmarked library has a mark")
+    os.environ["ELCHEPUR_ALLOW_UNPROVED"] = "1"
+    insist(module.load(without).mark is None, "ELCHEPUR_ALLOW_UNPROVED is not looked at")
+    raised(module.Unproved, module.load, without, unproved=False)
+    del os.environ["ELCHEPUR_ALLOW_UNPROVED"]
 
 
 def check_readme(path):

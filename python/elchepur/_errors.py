@@ -46,7 +46,7 @@ class BrokenOff(Error):
 
 
 class ShortenedStep(UserWarning):
-    """Amounts were read off a step that the Rust rule had shortened, whose coefficients don't reach its end."""
+    """A point lies in a step that the Rust rule had shortened, past what its coefficients reach. There it has NaN."""
 
 
 def refusal_words(number, line=None):

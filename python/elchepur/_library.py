@@ -100,11 +100,14 @@ class Library:
 _used = None
 
 
-def load(path=None, unproved=False):
+def load(path=None, unproved=None):
     """Take a library for all later calls, and give it. Without a path it is looked for; without this call it is, too.
 
-    A library without the kit's mark raises Unproved unless `unproved` says that it is wanted all the same."""
+    A library without the kit's mark raises Unproved, unless `unproved` says that it is wanted all the same, or, where
+    that is not given, the variable ELCHEPUR_ALLOW_UNPROVED is set."""
     global _used
+    if unproved is None:
+        unproved = bool(os.environ.get("ELCHEPUR_ALLOW_UNPROVED"))
     _used = Library(find() if path is None else path, unproved)
     return _used
 

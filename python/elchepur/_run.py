@@ -1,6 +1,7 @@
 """One run over the proved calls: its memory, its requests, its steps. Nothing here decides anything."""
 
 import ctypes
+import math
 import operator
 import warnings
 
@@ -49,8 +50,13 @@ class Step:
         self.xold, self.x, self.h, self.y = xold, x, h, y
         self._coefficients = coefficients
 
-    def covers(self, t):
+    def passes(self, t):
         return self.xold < t <= self.x or self.xold > t >= self.x
+
+    def leaves_out(self, t):
+        """Whether t was passed and lies between the end of the coefficients and x, as after a shortened step."""
+        low, high = self.bounds()
+        return self.passes(t) and t != self.x and not low <= t <= high
 
     def bounds(self):
         """The ends of the held step, the left one first."""
@@ -59,12 +65,14 @@ class Step:
         return tuple(ends)
 
     def __call__(self, t):
-        """The amounts at t: those reached if t is x, else those that the coefficients give, beyond the step too."""
+        """The amounts at t: those reached if t is x, else those that the coefficients give, beyond the step too; but
+        NaN, with a warning, where the step leaves t out."""
         if t == self.x:
             return list(self.y)
-        if self.x not in self.bounds():
-            text = f"the step to {self.x!r} was shortened under the Rust rule, and its coefficients do not reach there"
+        if self.leaves_out(t):
+            text = f"the step to {self.x!r} was shortened under the Rust rule, and has no amounts at {t!r}"
             warnings.warn(text, ShortenedStep, stacklevel=2)
+            return [math.nan] * len(self.y)
         amounts = (ctypes.c_double * len(self.y))()
         count = len(self._coefficients)
         insist(library().interpolate(t, amounts, len(amounts), self._coefficients, count, self.xold, self.h))

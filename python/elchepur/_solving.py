@@ -174,7 +174,7 @@ class Seen:
             return
         self.last = step
         point = self.next_wanted()
-        while point is not None and (step.covers(point) if step else point == x):
+        while point is not None and (step.passes(point) if step else point == x):
             self.note(point, step(point) if step else amounts)
             point = self.next_wanted()
 
