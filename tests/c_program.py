@@ -17,7 +17,10 @@ The programs:
     make the Jacobian, masses, marks and modified points among them;
   - tests/c_sheets.c hands every sheet of crates/sheet_replay/stdin over, those that are refused too, and prints what is printed of it;
   - tests/c_program.c is a host of its own: it runs every sheet of crates/sheet_replay/stdin, with the answers stored there, and once more with a Jacobian of
-    the host's own, with the answers that the Rust gives then."""
+    the host's own, with the answers that the Rust gives then.
+The last three run on include/elchepur_host.h, which has what every host writes again, and whose example must print what it says there:
+  - tests/c_hosted.c replays the stored runs of the Rust once more, through its callbacks;
+  - tests/c_endings.c brings about every way in which a run can end."""
 
 import re
 import shutil
@@ -32,10 +35,11 @@ import sheet_answers
 
 ROOT = rust_text.ROOT
 HEADER = ROOT / "include" / "elchepur.h"
+HOST_HEADER = ROOT / "include" / "elchepur_host.h"
 TARGET = ROOT / "target" / "c"
 ARCHIVE = TARGET / "libelchepur.a"
 STAMPS = ROOT / "target" / "stamp"  # where rt notes what it proved
-PROGRAMS = ("c_calls", "c_replay", "c_program", "c_sheets")
+PROGRAMS = ("c_calls", "c_replay", "c_program", "c_sheets", "c_hosted", "c_endings")
 # No product and sum may become one operation: the Rust's host has two.
 FLAGS = ["-std=c99", "-O2", "-ffp-contract=off", "-Wall", "-Wextra", "-pedantic", "-Werror"]
 
@@ -202,12 +206,32 @@ def has(command, what):
     return bool(shutil.which(command))
 
 
-def build(library):
+def build_program(name, library):
     TARGET.mkdir(parents=True, exist_ok=True)
+    said(["cc", *FLAGS, "-I", HEADER.parent, ROOT / "tests" / f"{name}.c", *library, "-o", TARGET / name])
+
+
+def build(library):
     for name in PROGRAMS:
-        said(["cc", *FLAGS, "-I", HEADER.parent, ROOT / "tests" / f"{name}.c", *library, "-o", TARGET / name])
-    if has("c++", "the header is NOT tried in C++"):
+        build_program(name, library)
+    example("cc", library)
+    if has("c++", "the headers are NOT tried in C++"):
         said(["c++", "-x", "c++", "-Wall", "-Wextra", "-pedantic", "-Werror", "-fsyntax-only", HEADER])
+        example("c++", library)
+
+
+def example(compiler, library):
+    """Build and run the example of the header for hosts: it prints what stands there."""
+    text = HOST_HEADER.read_text().split("*/")[0]
+    code = "\n".join(line.removeprefix(" *     ") for line in text.splitlines() if line.startswith(" *     "))
+    insist("int main(void)" in code, "the header for hosts has no example")
+    source = TARGET / f"example.{'c' if compiler == 'cc' else 'cpp'}"
+    source.write_text(code + "\n")
+    flags = ["-Wall", "-Wextra", "-pedantic", "-Werror", *(["-std=c99"] if compiler == "cc" else [])]
+    said([compiler, *flags, "-I", HEADER.parent, source, *library, "-o", TARGET / "example"])
+    printed = said([TARGET / "example"])
+    shown = re.findall(r"`([\d.]+: [\d.]+)`", text)
+    insist(shown and printed.splitlines() == shown, f"the example of the header for hosts says {shown} and prints\n{printed}")
 
 
 def first_other(wanted, got):
@@ -225,6 +249,8 @@ def run_sheets(sheets, wanted, way):
 def run_programs(folder):
     print(said([TARGET / "c_calls"]), end="")
     print(said([TARGET / "c_replay"], stdin=(ROOT / "crates" / "run_replay" / "stdin").open()), end="")
+    print(said([TARGET / "c_hosted"], stdin=(ROOT / "crates" / "run_replay" / "stdin").open()), end="")
+    print(said([TARGET / "c_endings"]), end="")
     records = sheet_answers.records_of(sheet_answers.STORED.read_bytes())
     got = said([TARGET / "c_sheets"], stdin=sheet_answers.STORED.open("rb"))
     wanted = "".join(answer for _, answer in records)
