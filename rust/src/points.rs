@@ -97,3 +97,19 @@ impl SolOut for AtPoints {
         ControlFlag::XOut(f64::NEG_INFINITY)
     }
 }
+
+#[cfg(test)]
+mod tests {
+    use super::*;
+
+    /// A step from 0 by 0.5 whose report is at 1, as the Rust rule leaves it after a slow attempt.
+    #[test]
+    fn what_a_shortened_step_leaves_out_is_not_read() {
+        let mut points = AtPoints::new([0.0, 0.25, 0.5, 0.75, 1.0]);
+        let step = StepInterpolant::new(&[3.0, 0.0, 0.0, 0.0], 0.0, 0.5);
+        points.solout(0.0, &mut 0.0, &mut [3.0], None);
+        points.solout(0.0, &mut 1.0, &mut [4.0], Some(&step));
+        let there = Some(vec![3.0]);
+        assert_eq!(points.read, [there.clone(), there.clone(), there, None, None]);
+    }
+}

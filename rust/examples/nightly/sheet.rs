@@ -48,12 +48,13 @@ impl Sheet {
     /// How much is left on a day: what the same sheet forecasts with that day as its end, once it has a forecast to its
     /// own.
     pub fn left_on(&self, day: f64) -> Result<f64, String> {
-        let run = self.run.as_ref().map_err(why)?;
+        self.run.as_ref().map_err(why)?;
         if day <= self.float(X0) {
             return Err("not run: the label's day is not after the filling".to_string());
         }
-        if run.x < day {
-            return Err(format!("finished on day {}, before the label's", run.x));
+        let end = self.float(XEND);
+        if end < day {
+            return Err(format!("finished on day {end}, before the label's"));
         }
         let mut lines = self.lines.clone();
         lines[XEND] = format!("{:016x}", day.to_bits());
