@@ -57,10 +57,10 @@ fn reading_does_not_alter_the_run() {
 
 #[test]
 fn what_is_no_point_of_the_run_is_not_read() {
-    let points = [f64::NAN, -f64::NAN, f64::INFINITY, f64::NEG_INFINITY, 1.0];
+    let [nan, other] = [0x7ff8_0000_0000_0000, 0xfff8_0000_0000_0000].map(f64::from_bits);
+    let points = [nan, other, other, other, nan, nan, f64::INFINITY, f64::NEG_INFINITY, 1.0];
     let (_, amounts) = read(&mut AtPoints::new(points), true, 6.0);
-    assert_eq!(amounts[..4], [None, None, None, None]);
-    assert!(amounts[4].is_some());
+    assert!(amounts[..8].iter().all(Option::is_none) && amounts[8].is_some(), "{amounts:?}");
 }
 
 #[test]
