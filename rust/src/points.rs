@@ -43,6 +43,8 @@ pub struct AtPoints {
     // The points in ascending order, each with its place among those that were given.
     ascending: Vec<(f64, usize)>,
     read: Vec<Option<Vec<f64>>>,
+    // Of the run that is read, or was read last.
+    reports: usize,
 }
 
 impl AtPoints {
@@ -53,7 +55,7 @@ impl AtPoints {
         // A NaN is held by no step, and has no place in an order.
         ascending.retain(|(point, _)| !point.is_nan());
         ascending.sort_by(|a, b| a.0.total_cmp(&b.0));
-        AtPoints { ascending, read: vec![None; points.len()] }
+        AtPoints { ascending, read: vec![None; points.len()], reports: 0 }
     }
 
     /// The amounts at each point, in the order in which the points were given; for the run whose result this is.
@@ -61,7 +63,11 @@ impl AtPoints {
     /// `None` stands where no step's [`bounds`](StepInterpolant::bounds) hold the point: beyond the ends of the run,
     /// and under [`Rule::Rust`](crate::methods::Rule::Rust) also within, where a slow attempt was accepted with a
     /// shortened step.
-    pub fn amounts(&self, _run: &IntegrationResult) -> &[Option<Vec<f64>>] {
+    ///
+    /// # Panics
+    /// Where the result can't be that of the run that was read last, since that had another number of reports.
+    pub fn amounts(&self, run: &IntegrationResult) -> &[Option<Vec<f64>>] {
+        assert_eq!(self.reports, run.steps.accepted + 1, "this is the result of another run than was read last");
         &self.read
     }
 
@@ -83,7 +89,9 @@ impl SolOut for AtPoints {
         if interpolant.is_none() {
             // A run begins; what an earlier one left goes.
             self.read.fill(None);
+            self.reports = 0;
         }
+        self.reports += 1;
         let bounds = interpolant.map_or((*x, *x), StepInterpolant::bounds);
         let unread: Vec<(f64, usize)> = self.within(bounds).filter(|(_, place)| self.read[*place].is_none()).collect();
         for (point, place) in unread {

@@ -69,3 +69,14 @@ fn a_second_run_leaves_nothing_of_the_first() {
     assert!(read(&mut points, true, 6.0).1[1].is_some());
     assert!(read(&mut points, true, 2.0).1[1].is_none());
 }
+
+#[test]
+#[should_panic(expected = "this is the result of another run than was read last")]
+fn a_broken_off_run_is_not_read_with_the_result_of_another() {
+    let mut points = AtPoints::new([1.0]);
+    let (run, _) = read(&mut points, true, 6.0);
+    let few = RADAU { max_steps: 30, ..solver(true) };
+    let broken = few.solve(&Circle, 0.0, &[0.0, 1.0], 6.0, 1e-9.into(), 1e-9.into(), Some(&mut points));
+    assert!(matches!(broken, Err(Error::BrokenOff(_))), "{broken:?}");
+    points.amounts(&run);
+}
