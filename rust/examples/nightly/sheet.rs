@@ -26,13 +26,11 @@ impl Sheet {
         let read = File::open(path).and_then(|file| file.take(TOO_LONG).read_to_end(&mut bytes));
         read.map_err(|error| format!("not run: the sheet can't be read: {}", error.kind()))?;
         match forecast(&bytes) {
-            Err(none @ (NoForecast::Malformed { .. } | NoForecast::TooLong | NoForecast::Unknown { .. })) => {
-                Err(none.to_string())
-            }
-            run => {
+            run @ (Ok(_) | Err(NoForecast::Refused(_) | NoForecast::BrokenOff(_))) => {
                 let text = String::from_utf8_lossy(&bytes);
                 Ok(Sheet { lines: text.split('\n').map(str::to_string).collect(), run })
             }
+            Err(none) => Err(none.to_string()),
         }
     }
 
