@@ -1,7 +1,8 @@
 #!/usr/bin/env python3
 """The crate of rust/ as a program in Rust sees it: its tests, its documents, and a program before and after its move from ivp.
 
-    tests/rust_api.py check [FOLDER]  on the archive, where `export` is proved and was not edited since; else on its very sources, compiled by rustc
+    tests/rust_api.py check [FOLDER]  on the archive, where it is proved and was not edited since; else on its very
+                                      sources, compiled by rustc, which the crate links only where that is allowed
     tests/rust_api.py run [FOLDER]    on the archive; what is not proved yet is proved first
 
 Both end with status 1 where something fails. FOLDER holds the Rust's text; tests/rust_text.py says where it is looked for otherwise. What is missing (cargo, rt,
@@ -51,6 +52,9 @@ def archive(way):
 
 def cargo(words, linked, **more):
     environment = dict(os.environ, ELCHEPUR_ARCHIVE=str(linked), CARGO_NET_OFFLINE="true", **more)
+    environment.pop("ELCHEPUR_ALLOW_UNPROVED", None)
+    if linked != c_program.ARCHIVE:
+        environment["ELCHEPUR_ALLOW_UNPROVED"] = "1"
     return said(["cargo", *words], cwd=CRATE, env=environment)
 
 
