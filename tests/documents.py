@@ -1,6 +1,10 @@
 #!/usr/bin/env python3
 """Holds the documents to the repository.
 
+    tests/documents.py
+
+Exit status: 0 all is so; 1 something is not, and all of it is told; 2 wrong use.
+
 In every document a name with its file, written `name` (crates/../File), must be declared there; every file or folder of ours
 that a document names or links to must exist. A run of `tools/decay` that a document shows must be the stored answer of that sheet. How many answers the replay
 programs compare, as their stored output has it, must stand in README.md and docs/PROMISES.md. Nothing that is committed may name a folder of one machine."""
@@ -10,6 +14,7 @@ import re
 import subprocess
 import sys
 
+import command
 import sheet_answers
 
 ROOT = pathlib.Path(__file__).resolve().parent.parent
@@ -87,6 +92,7 @@ def complaints():
             yield f"{name}: names a folder of one machine"
 
 
+command.nothing(__doc__, sys.argv[1:])
 found = list(complaints())
 print("\n".join(found) if found else f"{len(DOCUMENTS)} documents name only what is here, and show runs and their numbers as they are stored")
 sys.exit(1 if found else 0)

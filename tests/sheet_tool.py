@@ -6,11 +6,14 @@
 Readable form to sheet to readable form to sheet gives the same bytes for 2,000 models that are drawn, with floats of any pattern, and for every
 special float at every place; decimals have the fewest digits that will do. Of each sheet of cylinders/ the readable form stands beside it.
 What is no readable form is refused at its line. On sheets with bytes changed at random, tools/sheet.py and the reader of
-tests/sheet_answers.py, which was written apart from it, refuse the same line. It ends with status 1 at the first thing that is not so."""
+tests/sheet_answers.py, which was written apart from it, refuse the same line.
+
+Exit status: 0 all is so; 1 something is not, and the first is shown; 2 wrong use."""
 
 import subprocess
 import sys
 
+import command
 from draw import INFINITY, LARGEST, NAN, SIGN, SMALLEST, SMALLEST_NORMAL, SPECIALS, Draw, pattern_of
 from sheet_answers import BASES, CYLINDERS, EXAMPLE, insist, number_of, refusal, rust_text, sheet, try_tool
 
@@ -193,6 +196,7 @@ def try_command():
 
 
 def main():
+    command.nothing(__doc__, sys.argv[1:])
     draw = Draw(7)
     for bits in STRANGE + [drawn_float(draw) for _ in range(MODELS)]:
         try_digits(bits)
