@@ -54,7 +54,7 @@ NAME = re.compile(r"[A-Za-z][A-Za-z0-9_]*")
 
 
 # Of each first line of an answer what it says: `status` or `refused` with its number, or one word.
-MEANINGS = dict(line.split(": ", 1) for line in (pathlib.Path(__file__).parent / "lib" / "meanings.txt").read_text().splitlines())
+MEANINGS = dict(line.split(": ", 1) for line in (pathlib.Path(__file__).resolve().parent / "lib" / "meanings.txt").read_text().splitlines())
 
 
 class Refused(Exception):
