@@ -1,5 +1,5 @@
-# make                        prove and build the library and the program `decay`: target/libelchepur.a and target/bin/decay
-# make install PREFIX=FOLDER  put them where other programs find them, with the headers (else /usr/local); DESTDIR goes before it
+# make                        prove and build the library and `decay`: target/libelchepur.a and target/bin/decay
+# make install PREFIX=FOLDER  put them where other programs find them, with the headers; else in /usr/local
 # make test                   every test
 PREFIX ?= /usr/local
 

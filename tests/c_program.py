@@ -5,11 +5,13 @@
                                        not edited since; else on their very sources, the contracts taken out, compiled by rustc
     tests/c_program.py run [FOLDER]    the same on the archive; what is not proved yet is proved first
 
-FOLDER holds the Rust's text; tests/rust_text.py says where it is looked for otherwise. What is missing (rt, rustc, a compiler of C or
-C++, nm, the Rust's text) is said plainly, and what needs it is passed over. What the sources alone were compiled into is called UNPROVED.
+FOLDER holds the Rust's text; tests/rust_text.py says where it is looked for otherwise. What is missing (rt, rustc, a
+compiler of C or C++, nm, the Rust's text) is said plainly, and what needs it is passed over. What the sources alone
+were compiled into is called UNPROVED.
 
-Exit status: 0 nothing differs; 1 something differs, or the archive lacks the kit's mark of a proved crate; 2 wrong use; 4 nothing was
-compared: no program in C could be built, or the runs with a Jacobian of the host's own had no Rust beside them.
+Exit status: 0 nothing differs; 1 something differs, or the archive lacks the kit's mark of a proved crate; 2 wrong
+use; 4 nothing was compared: no program in C could be built, or the runs with a Jacobian of the host's own had no Rust
+beside them.
 
 The header: each function that the two mark `extern "C"` must be declared with the types that Rattle gives its parameters, and no other
 function; each place in the table of coefficients must have the name that stands there. The archive must define the same functions and no others.
@@ -252,8 +254,8 @@ def library(way):
         return None
     if way == "run" or is_proved():
         return proved_archive() if has("rt", "the archive is NOT built") else None
-    print("UNPROVED: export or printout is not proved here, or was edited since; the programs in C run on their sources, compiled by rustc.")
-    print("`tests/c_program.py run` proves them")
+    print("UNPROVED: export or printout is not proved here, or was edited since; the programs run on their sources,")
+    print("compiled by rustc. `tests/c_program.py run` proves them")
     return sources_compiled() if has("rustc", "they are NOT run") else None
 
 

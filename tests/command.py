@@ -1,7 +1,8 @@
 """What the commands of this repository share: how they take their words, and how they end.
 
-`--help` prints what a script says of itself, its exit status with it, and does nothing else. Wrong use is one line on standard error
-and status 2. Status 4 says that nothing wrong was found because nothing was compared: `tests/run` passes over it by name."""
+`--help` prints what a script says of itself, its exit status with it, and does nothing else. Wrong use is one line on
+standard error and status 2. Status 4 says that nothing wrong was found because nothing was compared: `tests/run`
+passes over it by name."""
 
 import argparse
 import pathlib

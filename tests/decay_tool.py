@@ -3,12 +3,14 @@
 
     tests/decay_tool.py
 
-On a tree whose program prints what it is told to (tests/stub.py): each kind of stored answer goes to standard output byte for byte and ends with its
-status; a program that dies, prints nothing or prints what is no answer ends with 1; a program that is not proved, not that of the sources, or lacks the kit's
-mark is not run; what can't be read is told without a proof being begun. Then here: `tools/decay --unproved` compiles the sources by the kit in
-seconds, says `unproved` first, and has the stored answer of each cylinder, from its sheet and from its readable form.
+On a tree whose program prints what it is told to (tests/stub.py): each kind of stored answer goes to standard output
+byte for byte and ends with its status; a program that dies, prints nothing or prints what is no answer ends with 1; a
+program that is not proved, not that of the sources, or lacks the kit's mark is not run; what can't be read is told
+without a proof being begun. Then here: `tools/decay --unproved` compiles the sources by the kit in seconds, says
+`unproved` first, and has the stored answer of each cylinder, from its sheet and from its readable form.
 
-Exit status: 0 all is so; 1 something is not, and the first is shown; 2 wrong use; 4 there is no rt, and nothing was compiled."""
+Exit status: 0 all is so; 1 something is not, and the first is shown; 2 wrong use; 4 there is no rt, and nothing was
+compiled."""
 
 import pathlib
 import shutil
@@ -26,10 +28,11 @@ RECORDS = sheet_answers.records_of(sheet_answers.STORED.read_bytes())
 ENDS = {"status 0": 0, "status 2": 1, "status 3": 1, "status 5": 1, "refused": 3, "unreadable": 3}
 GOOD = next(answer for _, answer in RECORDS if answer.startswith("status 0"))
 BROKEN = next(answer for _, answer in RECORDS if answer.startswith("status 2"))
-# What a program may print that is no answer, and what it ends with: nothing, answers cut short, too long or with a letter changed, and deaths.
-NO_ANSWERS = [(text, 0) for text in ("", "\n", "status 0", "status 0\n", "refused\n", "unreadable", GOOD + GOOD, GOOD + "\n", " " + GOOD)]
+# What a program may print that is no answer, and its status: nothing, too much, what is cut short or spoilt, deaths.
+NO_ANSWERS = [(text, 0) for text in ("", "\n", "status 0", "status 0\n", "refused\n", "unreadable")]
+NO_ANSWERS += [(text, 0) for text in (GOOD + GOOD, GOOD + "\n", " " + GOOD)]
 NO_ANSWERS += [(GOOD[:length], 0) for length in (len(GOOD) - 1, GOOD.rindex(" "), GOOD.index("y"), GOOD.index("x"), 9)]
-NO_ANSWERS += [(GOOD.replace(old, new, 1), 0) for old, new in (("status 0", "status 00"), ("s", "S"), ("x ", "x 0"), ("y", "z"), ("0", "O"))]
+NO_ANSWERS += [(GOOD.replace(old, new, 1), 0) for old, new in (("0", "00"), ("s", "S"), ("x ", "x 0"), ("y", "z"))]
 NO_ANSWERS += [(GOOD, 1), (GOOD, 139), ("", 134)]
 
 
@@ -57,16 +60,17 @@ def try_answers(tree, sheet):
         told = done.stderr.decode()
         insist(done.stdout.decode() == answer, f"of {answer} is printed {done.stdout}")
         insist(done.returncode == wanted(answer), f"{answer.split()[:2]} ends with {done.returncode}")
-        insist(told.count("\n") == 1 and ("NO FORECAST" in told) == (done.returncode == 1), f"{answer} is told as {told}")
+        right = told.count("\n") == 1 and ("NO FORECAST" in told) == (done.returncode == 1)
+        insist(right, f"{answer} is told as {told}")
         insist("check decay" in tree.asked(), "rt was not asked whether the program is that of the sources")
     for answer, ends in NO_ANSWERS:
         tree.says(answer, ends)
         done = tree.run("tools/decay", sheet)
         right = done.returncode == 1 and not done.stdout and b"NO FORECAST" in done.stderr
-        insist(right, f"{answer!r} of a program that ends with {ends} ends with {done.returncode}, and printed is {done.stdout}")
+        insist(right, f"{answer!r} and the status {ends} end with {done.returncode}, and printed is {done.stdout}")
     tree.says(GOOD)
     with open("/dev/full", "wb") as full:
-        done = subprocess.run([tree.folder / "tools" / "decay", sheet], stdout=full, stderr=subprocess.DEVNULL, env={"PATH": f"{tree.folder}/kit/bin:/usr/bin:/bin"})
+        done = tree.run("tools/decay", sheet, capture_output=False, stdout=full, stderr=subprocess.DEVNULL)
     insist(done.returncode == 1, f"an answer that can't be written ends with {done.returncode}")
 
 
@@ -75,10 +79,11 @@ def try_several(tree, sheets):
     good, missing = sheets[0], tree.folder / "missing"
     done = tree.run("tools/decay", good, sheets[1], missing)
     wanted_lines = f"sheet {good}\n{GOOD}sheet {sheets[1]}\n{GOOD}sheet {missing}\nunreadable\n"
-    insist(done.stdout.decode() == wanted_lines and done.returncode == 3, f"three sheets are answered by\n{done.stdout.decode()}")
+    insist(done.stdout.decode() == wanted_lines, f"three sheets are answered by\n{done.stdout.decode()}")
+    insist(done.returncode == 3, f"three sheets of which one can't be read end with {done.returncode}")
     tree.says(BROKEN)
     insist(tree.run("tools/decay", good, good).returncode == 1, "of two runs that broke off the status is not 1")
-    insist(tree.run("tools/decay", good, missing).returncode == 3, "a sheet that can't be read doesn't go before a run that broke off")
+    insist(tree.run("tools/decay", good, missing).returncode == 3, "what can't be read doesn't go before a broken run")
 
 
 def try_not_run(tree, sheet):
@@ -89,7 +94,7 @@ def try_not_run(tree, sheet):
 
     def nothing(why, **more):
         done = tree.run("tools/decay", sheet, **more)
-        insist((done.returncode, done.stdout) == (4, b""), f"{why}: the status is {done.returncode}, and printed is {done.stdout}")
+        insist((done.returncode, done.stdout) == (4, b""), f"{why}: it ends with {done.returncode}, and {done.stdout}")
 
     (tree.folder / "refuse").touch()
     nothing("rt does not know it as proved")
@@ -113,11 +118,13 @@ def try_unreadable(tree, sheet):
     spoilt.write_text("x0 .5\n")
     for name in (tree.folder, tree.folder / "missing", spoilt):
         done = tree.run("tools/decay", name)
-        insist((done.returncode, done.stdout) == (3, b"unreadable\n") and not tree.asked(), f"{name.name} is answered by {done.stdout}, status {done.returncode}")
+        insist((done.returncode, done.stdout) == (3, b"unreadable\n"), f"{name.name} ends with {done.returncode}")
+        insist(not tree.asked(), f"of {name.name}, which can't be read, a proof is begun")
     insist(b"line 1: .5 is no float: write 0.5" in done.stderr, f"a readable form is refused by {done.stderr}")
     for words in ([], ["--unproved"], ["-x"], ["--unproved", "-x"], [sheet, "--unproved"]):
         done = tree.run("tools/decay", *words)
-        insist((done.returncode, done.stdout, done.stderr.count(b"\n")) == (2, b"", 1), f"{words} end with {done.returncode}")
+        right = (done.returncode, done.stdout, done.stderr.count(b"\n")) == (2, b"", 1)
+        insist(right, f"{words} end with {done.returncode}")
 
 
 def try_sources(tree):
@@ -137,11 +144,12 @@ def try_unproved():
     files = sorted(sheet_answers.CYLINDERS.glob("*.*"))
     answers = {file: stored[file.with_suffix(".sheet").read_bytes()] for file in files}
     done = subprocess.run([ROOT / "tools" / "decay", "--unproved", *files], capture_output=True, text=True)
-    insist(done.stdout == "unproved\n" + "".join(f"sheet {file}\nunproved\n{answer}" for file, answer in answers.items()), f"{done.stdout}{done.stderr}")
+    whole = "unproved\n" + "".join(f"sheet {file}\nunproved\n{answer}" for file, answer in answers.items())
+    insist(done.stdout == whole, f"the unproved program prints\n{done.stdout}{done.stderr}")
     insist(done.returncode == max(map(wanted, answers.values())), f"the cylinders end with {done.returncode}")
     one = subprocess.run([ROOT / "tools" / "decay", "--unproved", files[0]], capture_output=True, text=True)
     insist(one.stdout == f"unproved\n{answers[files[0]]}", f"one sheet is answered by {one.stdout}")
-    insist(marks.unmarked(ROOT / "target" / "unproved" / "decay"), "the unproved program carries the mark of a proved one")
+    insist(marks.unmarked(ROOT / "target" / "unproved" / "decay"), "the unproved program carries the mark of proof")
     return len(files)
 
 
@@ -157,10 +165,11 @@ def main(words):
         try_not_run(tree, sheets[0])
         try_unreadable(tree, sheets[0])
         try_sources(tree)
-    print(f"{len(of_each_kind())} kinds of answers and {len(NO_ANSWERS)} that are none end as they must, and no program is run that is not proved")
+    kinds = len(of_each_kind())
+    print(f"{kinds} kinds of answers and {len(NO_ANSWERS)} that are none end as they must; only what is proved is run")
     if not shutil.which("rt"):
         command.nothing_compared("there is no rt, which compiles the sources")
-    print(f"compiled without a proof, decay has the stored answers of {try_unproved()} cylinders, and says unproved first")
+    print(f"decay says unproved where it is, and then has the stored answers of {try_unproved()} files of cylinders")
 
 
 if __name__ == "__main__":

@@ -6,9 +6,11 @@
     tests/lines.py list [FOLDER]    the table: lines of the Rust, the definition or the reason, its file
     tests/lines.py self-test        try the script on small texts and on edits of the repository's own
 
-FOLDER holds the Rust's text; tests/rust_text.py says where it is looked for otherwise. Without it only the numbers are compared.
+FOLDER holds the Rust's text; tests/rust_text.py says where it is looked for otherwise. Without it only the numbers
+are compared.
 
-Exit status: 0 all is so; 1 something is not; 2 wrong use; 4 the numbers are right, and nothing was compared with the Rust.
+Exit status: 0 all is so; 1 something is not; 2 wrong use; 4 the numbers are right, and nothing was compared with the
+Rust.
 
 A citation stands in square brackets in a comment, and the definition below it is what those lines became:
 

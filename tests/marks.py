@@ -1,7 +1,8 @@
-"""The mark that the kit leaves in what it builds of a proved crate: `rattle logic=` and the logic's name, in the section .comment.
+"""The mark that the kit leaves in what it builds of a proved crate: `rattle logic=` and the logic's name, in the
+section .comment.
 
-Only `rattle build` writes it, and only of a crate that is proved; what another compiler makes of the same sources lacks it. It says what a file
-claims of itself, so it tells a mix-up and not a forgery."""
+Only `rattle build` writes it, and only of a crate that is proved; what another compiler makes of the same sources
+lacks it. It says what a file claims of itself, so it tells a mix-up and not a forgery."""
 
 import pathlib
 import re
@@ -25,7 +26,7 @@ def members(data):
 
 
 def comment(code):
-    """The section .comment of an object file or a program, empty where there is none: ELF of 64 bits, lowest byte first."""
+    """The section .comment of an object file or a program of 64 bits, empty where there is none."""
     if code[:6] != b"\x7fELF\x02\x01":
         return b""
     (table,), (size, count, names) = struct.unpack_from("<Q", code, 40), struct.unpack_from("<HHH", code, 58)
@@ -54,4 +55,5 @@ def insist(path):
         sys.exit(f"there is no {path}")
     names, found = unmarked(path), logics(path)
     if names or not found:
-        sys.exit(f"UNPROVED: {path} lacks the kit's mark of a proved crate{' in ' + ', '.join(names) if any(names) else ''}")
+        where = f" in {', '.join(names)}" if any(names) else ""
+        sys.exit(f"UNPROVED: {path} lacks the kit's mark of a proved crate{where}")

@@ -4,11 +4,12 @@
     tests/matrix_answers.py write [FOLDER]   write crates/matrix_replay/stdin and stdout
     tests/matrix_answers.py check [FOLDER]   make both anew and compare them with what is stored
 
-FOLDER holds the Rust's text; tests/rust_text.py says where it is looked for otherwise. The answers are those of the Rust's own
-files, compiled unchanged around a program of ours (tests/rust_crate.py, tests/matrix_answers.rs). Without the text, or without
-rustc, `write` refuses, and `check` passes over the Rust's answers and compares all the rest.
+FOLDER holds the Rust's text; tests/rust_text.py says where it is looked for otherwise. The answers are those of the
+Rust's own files, compiled unchanged around a program of ours (tests/rust_crate.py, tests/matrix_answers.rs). Without
+the text, or without rustc, `write` refuses, and `check` passes over the Rust's answers and compares all the rest.
 
-Exit status: 0 nothing differs; 1 a line differs, and the first is shown; 2 wrong use; 4 nothing was compared with the Rust.
+Exit status: 0 nothing differs; 1 a line differs, and the first is shown; 2 wrong use; 4 nothing was compared with the
+Rust.
 
 The cases of refusals are no answers of the Rust's: what the numbers 1, 16, 18 and 19 stand for is taken from document 01, and a
 refusal writes nothing. They come last, and have a row of their own in the summary. In a few of them, decompositions with number 16,

@@ -2,7 +2,7 @@
 """Every offered function, and by which theorem two outcomes that its contract allows for one input coincide.
 
     tests/offered.py list     the table: each function, the theorem, its file
-    tests/offered.py check    complain where a contract doesn't settle its outcome; first the script is tried on contracts that don't
+    tests/offered.py check    complain where a contract doesn't settle its outcome; contracts that don't are tried first
 
 Exit status: 0 each contract settles its outcome; 1 one doesn't; 2 wrong use.
 

@@ -7,7 +7,8 @@
 Both hold the answers against the Rust's own lines where these and rustc are there. FOLDER holds the Rust's text;
 tests/rust_text.py says where it is looked for otherwise.
 
-Exit status: 0 nothing differs; 1 a line differs, and the first is shown; 2 wrong use; 4 nothing was compared with the Rust.
+Exit status: 0 nothing differs; 1 a line differs, and the first is shown; 2 wrong use; 4 nothing was compared with the
+Rust.
 
 How the answers are made. Nothing here is a translation of the port. Which row refuses is worked out from the words of document
 01's table (`ROWS` below), on whole numbers and Python's floats. What an accepted opening answers follows radau.rs 177-264:

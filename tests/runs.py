@@ -6,8 +6,8 @@
 
 FOLDER holds the Rust's text; tests/rust_text.py says where it is looked for otherwise.
 
-Exit status: 0 nothing differs; 1 a run differs, and it is shown where; 2 wrong use; 4 nothing was compared: the Rust's text or rustc
-is not there.
+Exit status: 0 nothing differs; 1 a run differs, and it is shown where; 2 wrong use; 4 nothing was compared: the
+Rust's text or rustc is not there.
 
 How a run is had. A crate is made below target/rust/runs around the Rust's own files: tests/rust_solve.py says what of them is changed. Each power goes to
 document 01's power routine (tests/powers.rs has the halving written plainly).

@@ -4,10 +4,11 @@
     tests/rust_api.py check [FOLDER]  on the archive, where `export` is proved and was not edited since; else on its very sources, compiled by rustc
     tests/rust_api.py run [FOLDER]    on the archive; what is not proved yet is proved first
 
-FOLDER holds the Rust's text; tests/rust_text.py says where it is looked for otherwise. What is missing (cargo, rt, clippy, rustfmt, the
-Rust's text) is said plainly, and what needs it is passed over.
+FOLDER holds the Rust's text; tests/rust_text.py says where it is looked for otherwise. What is missing (cargo, rt,
+clippy, rustfmt, the Rust's text) is said plainly, and what needs it is passed over.
 
-Exit status: 0 all is well; 1 something fails; 2 wrong use; 4 nothing was compared: cargo, rt or the Rust's text is not there.
+Exit status: 0 all is well; 1 something fails; 2 wrong use; 4 nothing was compared: cargo, rt or the Rust's text is
+not there.
 
 Run are `cargo test`, clippy and rustdoc with every warning an error, and rustfmt, all without a network. Then the program of rust/README.md: the lines
 before its move, in the place of those after it in rust/examples/moved.rs, are compiled against the Rust's own text and run, and both programs must print the same.

@@ -1,9 +1,9 @@
 """Where the Rust's text is: the folder that holds src/methods/radau.rs of the repository ivp, commit 6c3b952129.
 
-A script that needs it calls `find` with its own argument, or None. Then the environment's IVP_SOURCE is taken, else docs/src,
-else ../shared/docs/src, seen from the repository's root. A folder that was asked for and is not there is an error; where
-nothing was asked for and neither usual folder is there, `find` says so plainly and gives None; the script compares what it can
-without the text, and then calls `compared`, which ends it with status 4."""
+A script that needs it calls `find` with its own argument, or None. Then the environment's IVP_SOURCE is taken, else
+docs/src, else ../shared/docs/src, seen from the repository's root. A folder that was asked for and is not there is an
+error; where nothing was asked for and neither usual folder is there, `find` says so plainly and gives None; the
+script compares what it can without the text, and then calls `compared`, which ends it with status 4."""
 
 import os
 import pathlib

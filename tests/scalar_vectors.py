@@ -7,7 +7,8 @@
 FOLDER holds the Rust's text; tests/rust_text.py says where it is looked for otherwise. Without it `write` refuses,
 and `check` compares all but the 27 lines of coefficients.
 
-Exit status: 0 nothing differs; 1 a line differs, and the first is shown; 2 wrong use; 4 the coefficients were not compared.
+Exit status: 0 nothing differs; 1 a line differs, and the first is shown; 2 wrong use; 4 the coefficients were not
+compared.
 
 A line has 73 bytes: a letter, a space, two hex digits, then four fields of a space and 16 hex
 digits, then LF. The two digits are an order, an exponent or an index, else 00. The fields are

@@ -5,10 +5,12 @@
     tests/sheet_answers.py check [FOLDER]    make all answers anew and compare them with what is stored
     tests/sheet_answers.py advance [FOLDER]  compare the same runs call by call with the advance of crates/radau
 
-FOLDER holds the Rust's text; tests/rust_text.py says where it is looked for otherwise. Without the text, or without rustc, `write` refuses,
-and `check` passes over the Rust's answers, with the sheets that they belong to compared all the same.
+FOLDER holds the Rust's text; tests/rust_text.py says where it is looked for otherwise. Without the text, or without
+rustc, `write` refuses, and `check` passes over the Rust's answers, with the sheets that they belong to compared all
+the same.
 
-Exit status: 0 nothing differs; 1 an answer differs, and the first is shown; 2 wrong use; 4 nothing was compared with the Rust.
+Exit status: 0 nothing differs; 1 an answer differs, and the first is shown; 2 wrong use; 4 nothing was compared with
+the Rust.
 
 A record of the file is a line of ten bytes, then the sheet, then the answer. The line has the bytes of the sheet in four decimal digits, a space,
 the bytes of the answer in four, and LF. The file is one record after the other and ends with the last. An answer is what `decay` prints, LF after each line.

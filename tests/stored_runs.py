@@ -4,10 +4,11 @@
     tests/stored_runs.py write [FOLDER]  write crates/run_replay/stdin and stdout
     tests/stored_runs.py check [FOLDER]  make both anew and compare them with what is stored
 
-FOLDER holds the Rust's text; tests/rust_text.py says where it is looked for otherwise. Without the text, or without rustc, `check`
-holds stdout against the stored stdin alone.
+FOLDER holds the Rust's text; tests/rust_text.py says where it is looked for otherwise. Without the text, or without
+rustc, `check` holds stdout against the stored stdin alone.
 
-Exit status: 0 nothing differs; 1 a line differs, and the first is shown; 2 wrong use; 4 nothing was compared with the Rust.
+Exit status: 0 nothing differs; 1 a line differs, and the first is shown; 2 wrong use; 4 nothing was compared with the
+Rust.
 
 tests/runs.py makes the runs and tells how they are had. Stored are those of up to MOST_AMOUNTS amounts and MOST_WORDS words, and of
 the longer ones, the shortest first, each that takes a branch of the Rust or has an order that none before it has; in all every

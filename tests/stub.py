@@ -1,5 +1,6 @@
-"""A tree like this repository's in which no proof is made: its tools as they are, a kit whose `rt` says what it is told to, and a program `decay` that
-prints what it is told to. So what the tools do with an answer is tried in milliseconds, and no tool needs a way around the proof for its tests."""
+"""A tree like this repository's in which no proof is made: its tools as they are, a kit whose `rt` says what it is told
+to, and a program `decay` that prints what it is told to. So what the tools do with an answer is tried in milliseconds,
+and no tool needs a way around the proof for its tests."""
 
 import os
 import pathlib
@@ -27,7 +28,7 @@ cat "{tree}/answer"
 exit "$(cat "{tree}/ends")"
 """
 ARCHIVE = '#!/bin/sh\nprintf "rattle logic=stub" >"$1"\n'
-# On a processor other than x86-64 a program runs under the kit's emulator, behind a loader and the folder of its libraries.
+# On a processor other than x86-64 a program runs under the kit's emulator, behind a loader and the folder of libraries.
 EMULATOR = '#!/bin/sh\nshift 3\nexec "$@"\n'
 
 
@@ -69,5 +70,5 @@ class Tree:
     def run(self, *words, path=None, **more):
         """Runs a command of the tree, found first by the stub kit."""
         found = f"{self.folder / 'kit' / 'bin'}:{os.environ['PATH']}" if path is None else path
-        environment = {**os.environ, "PATH": found}
-        return subprocess.run([str(word) for word in words], capture_output=True, cwd=self.folder, env=environment, **more)
+        more = {"capture_output": True, "cwd": self.folder, "env": {**os.environ, "PATH": found}, **more}
+        return subprocess.run([str(word) for word in words], **more)

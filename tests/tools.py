@@ -1,12 +1,14 @@
 #!/usr/bin/env python3
-"""Tries what every command of this repository has in common, the mark of proved code, and what is installed and released.
+"""Tries what every command of this repository has in common, the mark of proved code, and what is installed and
+released.
 
     tests/tools.py
 
-Every command prints what it does, its words and its exit status by --help, makes nothing by that, and ends wrong use with 2 and one line. An archive
-with a member that lacks the kit's mark is told. Without the Rust's text a script that compares with it ends with 4, and `tests/run` passes
-over it by name. On a tree of stubs (tests/stub.py): what `make install` puts in place, that it runs from there, and that two releases of one
-commit are the same bytes. The version of VERSION stands wherever one is named.
+Every command prints what it does, its words and its exit status by --help, makes nothing by that, and ends wrong use
+with 2 and one line. An archive with a member that lacks the kit's mark is told. Without the Rust's text a script that
+compares with it ends with 4, and `tests/run` passes over it by name. On a tree of stubs (tests/stub.py): what `make
+install` puts in place, that it runs from there, and that two releases of one commit are the same bytes. The version
+of VERSION stands wherever one is named.
 
 Exit status: 0 all is so; 1 something is not, and the first is shown; 2 wrong use."""
 
@@ -31,7 +33,8 @@ ROOT = stub.ROOT
 FOLDERS = (".ci", "tools", "tests", "beside", "fuzz", "bench", "judge")
 LONGEST = 60  # seconds that a command has to print its help
 # Scripts that are quick to say that there is no text of the Rust to compare with.
-QUICK = (["tests/runs.py", "check"], ["tests/runs.py", "branches"], ["tests/lines.py", "check"], ["beside/run", "--cases", "1"], ["bench/run", "matrix"])
+QUICK = ("tests/runs.py check", "tests/runs.py branches", "tests/lines.py check")
+QUICK += ("beside/run --cases 1", "bench/run matrix")
 
 
 def insist(fact, words):
@@ -44,14 +47,14 @@ def insist(fact, words):
 
 def commands():
     """Every file of ours that can be called, by its name from the root."""
-    files = [file for folder in FOLDERS for file in sorted((ROOT / folder).iterdir()) if file.is_file() and os.access(file, os.X_OK)]
-    return [str(file.relative_to(ROOT)) for file in files]
+    files = [file for folder in FOLDERS for file in sorted((ROOT / folder).iterdir()) if file.is_file()]
+    return [str(file.relative_to(ROOT)) for file in files if os.access(file, os.X_OK)]
 
 
 def called(name, word, folder):
     """Calls a command in an empty folder, and stops it, with all that it began, where it takes too long."""
-    words = [ROOT / name, word]
-    begun = subprocess.Popen(words, cwd=folder, stdout=subprocess.PIPE, stderr=subprocess.PIPE, text=True, start_new_session=True)
+    pipes = {"stdout": subprocess.PIPE, "stderr": subprocess.PIPE, "text": True}
+    begun = subprocess.Popen([ROOT / name, word], cwd=folder, start_new_session=True, **pipes)
     try:
         out, error = begun.communicate(timeout=LONGEST)
     except subprocess.TimeoutExpired:
@@ -83,7 +86,9 @@ def try_commands():
 def elf(comment):
     """A small object file with this text as its section .comment."""
     names = b"\0.comment\0.shstrtab\0"
-    head = b"\x7fELF\x02\x01\x01".ljust(16, b"\0") + struct.pack("<HHIQQQIHHHHHH", 1, 62, 1, 0, 0, 64 + len(names) + len(comment), 0, 64, 0, 0, 64, 3, 2)
+    table = 64 + len(names) + len(comment)
+    head = b"\x7fELF\x02\x01\x01".ljust(16, b"\0")
+    head += struct.pack("<HHIQQQIHHHHHH", 1, 62, 1, 0, 0, table, 0, 64, 0, 0, 64, 3, 2)
     row = lambda name, kind, start, size: struct.pack("<IIQQQQIIQQ", name, kind, 0, 0, start, size, 0, 0, 1, 0)
     rows = row(0, 0, 0, 0) + row(1, 1, 64 + len(names), len(comment)) + row(10, 3, 64, len(names))
     return head + names + comment + rows
@@ -92,16 +97,19 @@ def elf(comment):
 def archive(*members):
     made = b"!<arch>\n"
     for number, code in enumerate(members):
-        made += f"{f'{number}.o/':16}{0:<12}{0:<6}{0:<6}{644:<8}{len(code):<10}`\n".encode() + code + b"\n" * (len(code) % 2)
+        made += f"{f'{number}.o/':16}{0:<12}{0:<6}{0:<6}{644:<8}{len(code):<10}`\n".encode()
+        made += code + b"\n" * (len(code) % 2)
     return made
 
 
 def try_marks():
     """Only what carries the mark in every member is taken for proved, by c_program.py too."""
-    proved, other = elf(b"\0rattle logic=" + b"0123456789abcdef" * 4 + b"\0"), elf(b"\0rattle-cases\0")
-    spoken = elf(b"\0clang\0") + b"\0rattle logic=" + b"0123456789abcdef" * 4 + b"\0"  # the words, but not in the section
+    mark = b"\0rattle logic=" + b"0123456789abcdef" * 4 + b"\0"
+    proved, other = elf(mark), elf(b"\0rattle-cases\0")
+    spoken = elf(b"\0clang\0") + mark  # the words, but not in the section
     cases = [(True, archive(proved)), (True, archive(proved, proved)), (True, proved)]
-    cases += [(False, archive(*some)) for some in ((), (other,), (proved, other), (other, proved), (spoken,), (proved, b"text\n"))]
+    mixed = ((proved, other), (other, proved), (proved, b"text\n"))
+    cases += [(False, archive(*some)) for some in ((), (other,), (spoken,), *mixed)]
     cases += [(False, other), (False, b"")]
     kept = c_program.ARCHIVE
     with tempfile.TemporaryDirectory() as folder:
@@ -138,22 +146,26 @@ def try_without_text(folder):
         skipped = shutil.ignore_patterns("__pycache__", "proofs", *(["src"] if name == "docs" else []))
         shutil.copytree(ROOT / name, copy / name, ignore=skipped)
     environment = {name: value for name, value in os.environ.items() if name != "IVP_SOURCE"}
-    for words in QUICK:
-        done = subprocess.run([copy / words[0], *words[1:]], capture_output=True, text=True, env=environment, cwd=folder)
-        told = f"nothing compared: set IVP_SOURCE to commit {rust_text.COMMIT}"
-        insist(done.returncode == 4 and told in done.stderr, f"{' '.join(words)} without the Rust's text ends with {done.returncode}: {done.stdout}{done.stderr}")
+    told = f"nothing compared: set IVP_SOURCE to commit {rust_text.COMMIT}"
+    for name in QUICK:
+        done = subprocess.run(name.split(), capture_output=True, text=True, env=environment, cwd=copy)
+        right = done.returncode == 4 and told in done.stderr
+        insist(right, f"{name} without the Rust's text ends with {done.returncode}: {done.stdout}{done.stderr}")
     for file in [*(ROOT / "tests").glob("*.py"), *ROOT.glob("*/run")]:
         text = file.read_text()
-        insist("rust_text.find(" not in text or "rust_text.compared(" in text, f"{file.name} looks for the Rust's text and never says that it compared nothing")
+        right = "rust_text.find(" not in text or "rust_text.compared(" in text
+        insist(right, f"{file} looks for the Rust's text, and never says that it compared nothing")
 
 
 def try_step():
     """The gate passes over 4 by name, and stops at all else."""
     step = re.search(r"^step\(\) \{.*?^\}", (ROOT / "tests" / "run").read_text(), re.MULTILINE | re.DOTALL).group()
     for status, ended, passed in ((0, 0, False), (4, 0, True), (1, 1, False), (2, 2, False), (3, 3, False)):
-        done = subprocess.run(["bash", "-euc", f"{step}\nstep sh -c 'exit {status}' named\necho on"], capture_output=True, text=True)
-        insist(done.returncode == ended and ("on\n" in done.stdout) == (ended == 0), f"a step that ends with {status} ends the gate with {done.returncode}")
-        insist(("nothing compared: sh -c exit 4 named" in done.stdout) == passed, f"a step that ends with {status} is told as {done.stdout}")
+        words = ["bash", "-euc", f"{step}\nstep sh -c 'exit {status}' named\necho on"]
+        done = subprocess.run(words, capture_output=True, text=True)
+        right = done.returncode == ended and ("on\n" in done.stdout) == (ended == 0)
+        right = right and ("nothing compared: sh -c exit 4 named" in done.stdout) == passed
+        insist(right, f"a step that ends with {status} ends the gate with {done.returncode}: {done.stdout}")
 
 
 # --- What is installed and released --------------------------------------------------------------
@@ -173,15 +185,18 @@ def try_install(tree):
     insist(done.returncode == 0, f"{words} ends with {done.returncode}: {done.stderr.decode()}")
     for name in INSTALLED:
         insist((prefix / name).is_file(), f"{name} is not installed")
-    insist(f"Version: {version()}\n" in (prefix / "lib" / "pkgconfig" / "elchepur.pc").read_text(), "elchepur.pc has another version")
+    told = (prefix / "lib" / "pkgconfig" / "elchepur.pc").read_text()
+    insist(f"Version: {version()}\n" in told, "elchepur.pc has another version")
     own = [str(file) for file in prefix.rglob("*") if file.is_file() and str(prefix).encode() in file.read_bytes()]
     insist(not own, f"these name the folder that they are in: {own}")
     tree.says(answer)
     (tree.folder / "refuse").touch()  # rt is not asked: there are no sources
-    done = tree.run(prefix / "bin" / "decay", ROOT / "cylinders" / "robertson.txt")
-    insist((done.returncode, done.stdout.decode()) == (3, answer), f"decay where it is installed prints {done.stdout}: {done.stderr.decode()}")
-    done = tree.run(prefix / "bin" / "decay-sheet", "sheet", ROOT / "cylinders" / "robertson.txt")
-    insist(done.stdout == (ROOT / "cylinders" / "robertson.sheet").read_bytes(), "decay-sheet where it is installed writes another sheet")
+    text, data = ROOT / "cylinders" / "robertson.txt", (ROOT / "cylinders" / "robertson.sheet").read_bytes()
+    done = tree.run(prefix / "bin" / "decay", text)
+    right = (done.returncode, done.stdout.decode()) == (3, answer)
+    insist(right, f"decay where it is installed prints {done.stdout}: {done.stderr.decode()}")
+    done = tree.run(prefix / "bin" / "decay-sheet", "sheet", text)
+    insist(done.stdout == data, "decay-sheet where it is installed writes another sheet")
     (tree.folder / "refuse").unlink()
 
 
@@ -197,10 +212,12 @@ def released(tree):
     done = tree.run("tools/release", "target/release")
     insist(done.returncode == 0, f"tools/release ends with {done.returncode}: {done.stderr.decode()}")
     made, sums = sorted((tree.folder / "target" / "release").iterdir())
-    insist(made.name.startswith(f"elchepur-{version()}-") and sums.name == made.name + ".sha256", f"a release is called {made.name}")
+    right = made.name.startswith(f"elchepur-{version()}-") and sums.name == made.name + ".sha256"
+    insist(right, f"a release is called {made.name}")
     subprocess.run(["sha256sum", "--quiet", "-c", sums.name], cwd=made.parent, check=True)
     subprocess.run(["tar", "-xf", made.name], cwd=made.parent, check=True)
-    subprocess.run(["sha256sum", "--quiet", "-c", "SHA256SUMS"], cwd=made.parent / made.name.removesuffix(".tar.gz"), check=True)
+    inside = made.parent / made.name.removesuffix(".tar.gz")
+    subprocess.run(["sha256sum", "--quiet", "-c", "SHA256SUMS"], cwd=inside, check=True)
     return made.read_bytes()
 
 
@@ -210,7 +227,8 @@ def try_release(tree, other):
     insist(released(tree) == released(other), "two builds of one commit differ")
     (tree.folder / "VERSION").write_text("9.9.9\n")
     done = tree.run("tools/release", "target/again")
-    insist(done.returncode == 1 and not (tree.folder / "target" / "again").exists(), "a tree that was edited is released")
+    right = done.returncode == 1 and not (tree.folder / "target" / "again").exists()
+    insist(right, "a tree that was edited is released")
 
 
 def try_version():
@@ -234,7 +252,8 @@ def main(words):
         tree, other = stub.Tree(folder / "one"), stub.Tree(folder / "two" / "deeper")
         try_install(tree)
         try_release(tree, other)
-    print(f"{asked} commands tell what they do and refuse wrong words; {archives} archives are told apart by the mark; what is installed runs, and two releases are alike")
+    print(f"{asked} commands tell what they do and refuse wrong words; {archives} archives are told apart by the mark;")
+    print("what is installed runs from where it is, and two releases of one commit are alike")
 
 
 if __name__ == "__main__":

@@ -1,17 +1,21 @@
 #!/usr/bin/env python3
-"""A model as people read it, and as a sheet for `decay`: from one to the other, both ways; and what `decay` prints, in words and decimals.
+"""A model as people read it, and as a sheet for `decay`: from one to the other, both ways; and what `decay` prints,
+in words and decimals.
 
     tools/sheet.py sheet [FILE]          read the readable form, write the sheet
     tools/sheet.py text [FILE]           read a sheet, write the readable form
-    tools/sheet.py answer MODEL [FILE]   read what `decay` prints of MODEL, a sheet or a readable form, and write it in words and decimals,
-                                         as in: tools/decay cylinders/robertson.txt | tools/sheet.py answer cylinders/robertson.txt
+    tools/sheet.py answer MODEL [FILE]   read what `decay` prints of MODEL, a sheet or a readable form, and write it in
+                                         words and decimals, as in:
 
-FILE is standard input where it is not given; what is made goes to standard output. What can't be read is told on standard error, with
-its line and, where there is one, with what to write instead; a sheet is refused with document 01's number, 20 or 21, as `decay` refuses it.
+    tools/decay cylinders/robertson.txt | tools/sheet.py answer cylinders/robertson.txt
 
-Exit status: 0 it is written; 1 what was read is neither a sheet nor a readable form, or can't be read; 2 wrong use. `answer` ends as
-`decay` does, so that a pipe has the same status: 0 for status 0 alone, 1 for any other end of a run, 3 for a refusal, an unreadable sheet, or
-what is no answer to MODEL.
+FILE is standard input where it is not given; what is made goes to standard output. What can't be read is told on
+standard error, with its line and, where there is one, with what to write instead; a sheet is refused with document
+01's number, 20 or 21, as `decay` refuses it.
+
+Exit status: 0 it is written; 1 what was read is neither a sheet nor a readable form, or can't be read; 2 wrong use.
+`answer` ends as `decay` does, so that a pipe has the same status: 0 for status 0 alone, 1 for any other end of a run,
+3 for a refusal, an unreadable sheet, or what is no answer to MODEL.
 
 The readable form, a line at a time; a # and what comes after it is a comment:
 
@@ -25,14 +29,14 @@ The readable form, a line at a time; a # and what comes after it is a comment:
     NO 2.0
     site 0.001
     held 0.0
-    reactions                  up to 64: the rate, then what is used up, an arrow, and what comes of it; at most two on a side
+    reactions                  up to 64: the rate, what is used up, an arrow, what comes of it; at most two on a side
     50.0 NO + site -> held
-    0.5 none + held -> none    `none` is a side without species, or a place that is left empty before the one that is taken
+    0.5 none + held -> none    `none` is a side without species, or a place left empty before the one that is taken
 
-A float is a decimal number, read as the nearest double, and written with the fewest digits that are read as the same double. What has no
-such number, an infinity or any of the NaNs, is written by its bits, 0x and 16 lowercase hex digits; all doubles may be. So every sheet
-that document 01's rules allow has a readable form, and comes back from it byte for byte. Names and comments are not in a sheet: out of one
-the species are called s1, s2 and so on."""
+A float is a decimal number, read as the nearest double, and written with the fewest digits that are read as the same
+double. What has no such number, an infinity or any of the NaNs, is written by its bits, 0x and 16 lowercase hex
+digits; all doubles may be. So every sheet that document 01's rules allow has a readable form, and comes back from it
+byte for byte. Names and comments are not in a sheet: out of one the species are called s1, s2 and so on."""
 
 import pathlib
 import re
@@ -54,11 +58,12 @@ NAME = re.compile(r"[A-Za-z][A-Za-z0-9_]*")
 
 
 # Of each first line of an answer what it says: `status` or `refused` with its number, or one word.
-MEANINGS = dict(line.split(": ", 1) for line in (pathlib.Path(__file__).resolve().parent / "lib" / "meanings.txt").read_text().splitlines())
+TABLE = pathlib.Path(__file__).resolve().parent / "lib" / "meanings.txt"
+MEANINGS = dict(line.split(": ", 1) for line in TABLE.read_text().splitlines())
 
 
 class Refused(Exception):
-    """What was read is neither a sheet nor a readable form: document 01's number or None, the line from 1 or None, and why."""
+    """What was read can't be taken: document 01's number or None, the line from 1 or None, and why."""
 
     def __init__(self, number, line, why):
         super().__init__(why)
@@ -193,7 +198,8 @@ def text_of(model):
     lines += [f"max_steps {model.max_steps}", f"rule {RULES[model.rule]}", "species"]
     lines += [f"{name} {written(bits)}" for name, bits in zip(names[1:], model.amounts)]
     lines += ["reactions"]
-    lines += [f"{written(rate)} {side_of(r1, r2, names)} -> {side_of(p1, p2, names)}" for rate, r1, r2, p1, p2 in model.reactions]
+    for rate, r1, r2, p1, p2 in model.reactions:
+        lines.append(f"{written(rate)} {side_of(r1, r2, names)} -> {side_of(p1, p2, names)}")
     return "".join(line + "\n" for line in lines)
 
 
@@ -206,7 +212,7 @@ def instead_of_float(word):
         return f": write {plain}"
     if re.fullmatch(r"0[xX][0-9a-fA-F]{1,16}", word):
         return f": write 0x{word[2:].lower():0>16}"
-    meant = {"nan": "0x7ff8000000000000", "inf": "0x7ff0000000000000", "infinity": "0x7ff0000000000000"}.get(word.lower())
+    meant = {"nan": "0x7ff8000000000000", "inf": "0x7ff0000000000000"}.get(word.lower()[:3])
     return f": write {meant}" if meant else ": write a decimal number as 0.5 or 1e-06"
 
 
@@ -221,7 +227,9 @@ def instead_of_side(words, names):
     if len(apart) == 3 and apart[1] == "+" and apart != words and all(name in names for name in apart[::2]):
         return f": write {' '.join(apart)}"
     alike = [name for word in words for name in names if name.lower() == word.lower() and name != word]
-    return f": write {alike[0]}" if alike else f": write a species, or two with + between; the species are {', '.join(names[1:])}"
+    if alike:
+        return f": write {alike[0]}"
+    return f": write a species, or two with + between; the species are {', '.join(names[1:])}"
 
 
 class Words:
@@ -271,7 +279,8 @@ class Words:
 
     def side(self, words, names):
         """One side of a reaction: a name, or two with a + between."""
-        if len(words) not in (1, 3) or (len(words) == 3 and words[1] != "+") or any(name not in names for name in words[::2]):
+        formed = len(words) == 1 or (len(words) == 3 and words[1] == "+")
+        if not formed or any(name not in names for name in words[::2]):
             self.wrong(f"{' '.join(words) or 'nothing'} is no side{instead_of_side(words, names)}")
         places = [names.index(name) for name in words[::2]]
         return places if len(places) == 2 else places + [0]
@@ -282,7 +291,7 @@ class Words:
         while not self.is_heading("reactions"):
             words = self.take()
             if len(words) != 2 or not NAME.fullmatch(words[0]):
-                self.wrong("not a species' name and its amount: write `NO 2.0`, the name of letters, digits and _, a letter first")
+                self.wrong("not a species' name (a letter, then letters, digits and _) and its amount: write `NO 2.0`")
             if words[0] in names:
                 self.wrong(f"{words[0]} is taken: write another name")
             names.append(words[0])
@@ -349,9 +358,10 @@ def run_in_words(lines, names):
     amounts = amounts.group(1).split()
     if len(amounts) != len(names) - 1:
         raise Refused(None, None, f"the answer has {len(amounts)} amounts, and the model {len(names) - 1} species")
-    told = [f"status {status}", MEANINGS[f"status {status}"], ", ".join(f"{name} {count}" for name, count in zip(COUNTS, counts))]
-    told += [f"x {written(int(point.group(1), 16))}"]
-    return told + [f"{name} {written(int(bits, 16))}" for name, bits in zip(names[1:], amounts)], 0 if status == 0 else 1
+    told = [f"status {status}", MEANINGS[f"status {status}"]]
+    told += [", ".join(f"{name} {count}" for name, count in zip(COUNTS, counts))]
+    told += [f"{name} {written(int(bits, 16))}" for name, bits in zip(["x", *names[1:]], [point.group(1), *amounts])]
+    return told, 0 if status == 0 else 1
 
 
 def answer_in_words(text, names):

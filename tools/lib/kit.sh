@@ -3,8 +3,8 @@
 # The kit's folder.
 kit() { (cd "$(dirname "$(rt doc)")/.." && pwd -P); }
 
-# The kit once more in the folder $1/kit, made of links, but its clang keeps each module that it compiles at -O3, and what it makes
-# of it, as $1/module.bc and $1/module.o. So the kit's own commands hand out what they would throw away.
+# The kit once more in the folder $1/kit, made of links, but its clang keeps each module that it compiles at -O3, and
+# what it makes of it, as $1/module.bc and $1/module.o. So the kit's own commands hand out what they would throw away.
 keeping_kit() {
   local room=$1 kit machine own tools part
   kit=$(kit) machine=$(uname -m)
@@ -26,7 +26,8 @@ END
 # What the program `decay` is compiled from, in one line.
 sources() { { rt version && sha256sum crates.txt crates/*/src/*.rt; } | sha256sum; }
 
-# Compiles `decay` without a proof, by `rt try`, as target/unproved/decay, unless it stands there of these very sources already.
+# Compiles `decay` without a proof, by `rt try`, as target/unproved/decay, unless it stands there of these very
+# sources already.
 unproved() {
   local room=$1 key kit
   key=$(sources)
