@@ -23,7 +23,8 @@ CITED = re.compile(r"`([^`\s]+)` \((crates/[^)\s]+)\)")
 FOLDERS = "|".join(re.escape(file.name) for file in ROOT.iterdir() if file.is_dir() and file.name not in (".git", "target"))
 NAMED = re.compile(rf"`((?:{FOLDERS})/[^`\s*]*)`")
 LINKED = re.compile(r"\]\((?!https?:)([^)#\s]+)\)")
-SHOWN = re.compile(r"^    \$ tools/decay (\S+)\n((?:    .*\n)+)", re.M)
+DECAY = r"tools/decay (--unproved )?(\S+)(?: \| tools/sheet.py answer (\S+))?"
+SHOWN = re.compile(rf"^    \$ {DECAY}\n((?:    .*\n)+)", re.M)
 MACHINE = re.compile(r"(?<![\w./])/(?:work|opt|root|home|tmp)/")
 
 
@@ -45,6 +46,15 @@ def about_names(text):
             yield f"there is no {path}"
 
 
+def printed_of(unproved, path, model, stored):
+    """What a command that is shown prints, by the stored answer of its sheet."""
+    answer = ("unproved\n" if unproved else "") + stored.get((ROOT / path).with_suffix(".sheet").read_bytes(), "")
+    if not model:
+        return answer
+    _, names = sheet_answers.sheet.model_and_names((ROOT / model).read_bytes())
+    return "".join(line + "\n" for line in sheet_answers.sheet.answer_in_words(answer, names)[0])
+
+
 def about(document, stored):
     """What is wrong in a document; `stored` has what `decay` prints of each stored sheet."""
     text = document.read_text()
@@ -52,8 +62,8 @@ def about(document, stored):
     for path in LINKED.findall(text):
         if not (document.parent / path).exists():
             yield f"it links to {path}, which is not there"
-    for path, printed in SHOWN.findall(text):
-        if stored.get((ROOT / path).read_bytes()) != printed.replace("    ", ""):
+    for unproved, path, model, printed in SHOWN.findall(text):
+        if printed_of(unproved, path, model, stored) != printed.replace("    ", ""):
             yield f"{path} has another answer than is shown"
 
 
