@@ -13,7 +13,8 @@ WRONG_USE, NOTHING_COMPARED = 2, 4
 
 def wrong(why):
     """Wrong use, told in one line."""
-    print(f"{pathlib.Path(sys.argv[0]).name}: {why} (--help says what it takes)", file=sys.stderr)
+    called = pathlib.Path(sys.argv[0]).resolve()
+    print(f"{called.parent.name}/{called.name}: {why} (--help says what it takes)", file=sys.stderr)
     sys.exit(WRONG_USE)
 
 

@@ -49,7 +49,8 @@ def archive(way):
     """The archive that the crate is linked with, or None, said plainly."""
     if way == "run" or c_program.is_proved():
         return c_program.proved_archive()[0] if c_program.has("rt", "the archive is NOT built") else None
-    print("export is not proved here, or was edited since: the crate runs on its sources, compiled by rustc; `tests/rust_api.py run` proves it")
+    print("UNPROVED: export is not proved here, or was edited since; the crate runs on its sources, compiled by rustc.")
+    print("`tests/rust_api.py run` proves it")
     return c_program.sources_compiled()[0]
 
 
