@@ -341,9 +341,14 @@ REFUSED_LINE = re.compile(r"refused ([1-9][0-9]?)(?: ([1-9][0-9]*))?")
 UNPROVED = "unproved"
 
 
+def is_sheet(data):
+    """Whether these bytes begin as a sheet does, and no readable form."""
+    return data.startswith(b"%d\n" % SETTINGS)
+
+
 def model_and_names(data):
     """Of a sheet or a readable form the model, and the names of its species behind `none`."""
-    if data.startswith(b"%d\n" % SETTINGS):
+    if is_sheet(data):
         model = model_of(data)
         return model, numbered(model)
     return model_with_names(data.decode("utf-8"))
@@ -400,7 +405,10 @@ def read(words):
 def made(act, words):
     """What is written, and the status to end with."""
     if act == "sheet":
-        return sheet_of(model_of_text(read(words).decode("utf-8"))), 0
+        data = read(words)
+        if is_sheet(data):
+            raise Refused(None, 1, "this is a sheet already: write `tools/sheet.py text` for its readable form")
+        return sheet_of(model_of_text(data.decode("utf-8"))), 0
     if act == "text":
         return text_of(model_of(read(words))).encode("ascii"), 0
     _, names = model_and_names(read(words[:1]))
