@@ -53,7 +53,6 @@ def insist(path):
     """Stops where a file that is to be proved is not."""
     if not pathlib.Path(path).is_file():
         sys.exit(f"there is no {path}")
-    names, found = unmarked(path), logics(path)
-    if names or not found:
-        where = f" in {', '.join(names)}" if any(names) else ""
-        sys.exit(f"UNPROVED: {path} lacks the kit's mark of a proved crate{where}")
+    count = len(unmarked(path))
+    if count or not logics(path):
+        sys.exit(f"UNPROVED: {path} lacks the kit's mark of a proved crate in {count or 'all'} of its members")
