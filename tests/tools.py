@@ -5,10 +5,11 @@ released.
     tests/tools.py
 
 Every command prints what it does, its words and its exit status by --help, makes nothing by that, and ends wrong use
-with 2 and one line. An archive with a member that lacks the kit's mark is told. Without the Rust's text a script that
-compares with it ends with 4, and `tests/run` passes over it by name. On a tree of stubs (tests/stub.py): what `make
-install` puts in place, that it runs from there, and that two releases of one commit are the same bytes. The version
-of VERSION stands wherever one is named.
+with 2 and one line. An archive with a member that lacks the kit's mark is told; what the kit builds of its smallest
+example has it, and is the same bytes in two folders. Without the Rust's text a script that compares with it ends with
+4, and `tests/run` passes over it by name. On a tree of stubs (tests/stub.py): what `make install` puts in place, that
+it runs from there, and that two releases of one commit are the same bytes. The version of VERSION stands wherever one
+is named.
 
 Exit status: 0 all is so; 1 something is not, and the first is shown; 2 wrong use."""
 
@@ -135,6 +136,23 @@ def is_taken():
     return bool(found)
 
 
+def try_kit(folder):
+    """What the kit builds of a proved crate carries the mark, and is the same bytes wherever it is built."""
+    said = subprocess.run(["rt", "doc"], capture_output=True, text=True, check=True).stdout.strip()
+    made = []
+    for tree in (folder / "one", folder / "two" / "deeper"):
+        shutil.copytree(pathlib.Path(said).parent.parent / "examples" / "first", tree / "crates" / "first")
+        shutil.copytree(ROOT / "tools", tree / "tools")
+        (tree / "crates.txt").write_text("first:\n")
+        source = tree / "crates" / "first" / "src" / "lib.rt"
+        source.write_text(source.read_text().replace("pub fn echo", '#[no_mangle]\npub extern "C" fn echo'))
+        done = subprocess.run([tree / "tools" / "archive", tree / "first.a", "first"], capture_output=True, text=True)
+        insist(done.returncode == 0, f"tools/archive ends with {done.returncode}: {done.stdout}{done.stderr}")
+        marks.insist(tree / "first.a")
+        made.append((tree / "first.a").read_bytes())
+    insist(made[0] == made[1], "two archives of one crate differ")
+
+
 # --- Nothing to compare with ---------------------------------------------------------------------
 
 
@@ -249,6 +267,8 @@ def main(words):
     with tempfile.TemporaryDirectory() as name:
         folder = pathlib.Path(name).resolve()
         try_without_text(folder)
+        if shutil.which("rt"):
+            try_kit(folder / "kit")
         tree, other = stub.Tree(folder / "one"), stub.Tree(folder / "two" / "deeper")
         try_install(tree)
         try_release(tree, other)
