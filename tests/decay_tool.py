@@ -106,7 +106,7 @@ def try_not_run(tree, sheet):
     program.write_text(text)
     bare = tree.folder / "bare"
     bare.mkdir()
-    for name in ("bash", "realpath", "dirname", "mktemp", "cat", "grep", "mv", "rm", "uname", "sed", "env"):
+    for name in "bash realpath dirname mktemp cat head wc grep mv rm uname sed env".split():
         (bare / name).symlink_to(shutil.which(name))
     nothing("there is no rt", path=str(bare))
 
@@ -116,7 +116,9 @@ def try_unreadable(tree, sheet):
     tree.asked()
     spoilt = tree.folder / "spoilt.txt"
     spoilt.write_text("x0 .5\n")
-    for name in (tree.folder, tree.folder / "missing", spoilt):
+    long = tree.folder / "long.txt"
+    long.write_text("# a comment\n" * 100_000)
+    for name in (tree.folder, tree.folder / "missing", long, spoilt):
         done = tree.run("tools/decay", name)
         insist((done.returncode, done.stdout) == (3, b"unreadable\n"), f"{name.name} ends with {done.returncode}")
         insist(not tree.asked(), f"of {name.name}, which can't be read, a proof is begun")

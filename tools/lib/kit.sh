@@ -39,6 +39,6 @@ unproved() {
   kit=$(kit)
   "$kit/on/$(uname -m)/bin/rattle-link" --target x86_64-unknown-linux-gnu --toolchain "$kit/on/$(uname -m)/toolchain" \
     -o "$room/decay" "$room/module.o" >>"$room/said" 2>&1 || return
-  mv "$room/decay" target/unproved/decay
+  mv "$room/decay" target/unproved/decay || return
   echo "$key" >target/unproved/sources
 }
