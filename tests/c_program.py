@@ -5,8 +5,13 @@
                                        not edited since; else on their very sources, the contracts taken out, compiled by rustc
     tests/c_program.py run [FOLDER]    the same on the archive; what is not proved yet is proved first
 
-Both end with status 1 where something differs. FOLDER holds the Rust's text; tests/rust_text.py says where it is looked for otherwise. What is
-missing (rt, rustc, a compiler of C or C++, nm, the Rust's text) is said plainly, and what needs it is passed over.
+FOLDER holds the Rust's text; tests/rust_text.py says where it is looked for otherwise. What is missing (rt, rustc, a
+compiler of C or C++, nm, the Rust's text) is said plainly, and what needs it is passed over. What the sources alone
+were compiled into is called UNPROVED.
+
+Exit status: 0 nothing differs; 1 something differs, or the archive lacks the kit's mark of a proved crate; 2 wrong
+use; 4 nothing was compared: no program in C could be built, or the runs with a Jacobian of the host's own had no Rust
+beside them.
 
 The header: each function that the two mark `extern "C"` must be declared with the types that Rattle gives its parameters, and no other
 function; each place in the table of coefficients must have the name that stands there. The archive must define the same functions and no others.
@@ -27,9 +32,10 @@ import shutil
 import subprocess
 import sys
 
+import command
 import exported
+import marks
 import port
-import rust_crate
 import rust_text
 import sheet_answers
 
@@ -155,7 +161,9 @@ def is_proved():
 
 
 def check_archive():
-    """The archive defines the header's functions and no others."""
+    """The archive is of proved crates, and defines the header's functions and no others."""
+    marks.insist(ARCHIVE)
+    print(f"the archive is proved, in the logic {marks.logics(ARCHIVE)[0][:16]}")
     if not has("nm", "the names in the archive are NOT compared with the header"):
         return
     defined = {line.split()[-1] for line in said(["nm", "-g", "--defined-only", ARCHIVE]).splitlines() if " T " in line}
@@ -199,11 +207,11 @@ def sources_compiled():
 # --- The programs --------------------------------------------------------------------------------
 
 
-def has(command, what):
-    """Whether a command is there; said where it is not."""
-    if not shutil.which(command):
-        print(f"there is no {command}, so {what}")
-    return bool(shutil.which(command))
+def has(program, what):
+    """Whether a program is there; said where it is not."""
+    if not shutil.which(program):
+        print(f"there is no {program}, so {what}")
+    return bool(shutil.which(program))
 
 
 def build_program(name, library):
@@ -259,9 +267,7 @@ def run_programs(folder):
     formed = [(data, answer) for data, answer in records if not answer.startswith(("refused 20", "refused 21"))]
     run_sheets([data for data, _ in formed], "".join(answer for _, answer in formed), "differences")
     print(f"the {len(formed)} of them that are well formed have them through a host in C too")
-    if not (folder and rust_crate.compiler()):
-        print("so the runs with a Jacobian of the host's own are NOT compared")
-        return
+    rust_text.compared(folder)
     sheets = [data for data, answer in formed if not answer.startswith("refused")]
     answers, _ = sheet_answers.answers_of_rust(folder, sheets, host=True)
     run_sheets(sheets, "".join(answer for _, answer in answers), "host")
@@ -274,19 +280,20 @@ def library(way):
         return None
     if way == "run" or is_proved():
         return proved_archive() if has("rt", "the archive is NOT built") else None
-    print("export or printout is not proved here, or was edited since: the programs in C run on their sources, compiled by rustc; `tests/c_program.py run` proves them")
+    print("UNPROVED: export or printout is not proved here, or was edited since; the programs run on their sources,")
+    print("compiled by rustc. `tests/c_program.py run` proves them")
     return sources_compiled() if has("rustc", "they are NOT run") else None
 
 
 def main(words):
-    if len(words) not in (1, 2) or words[0] not in ("check", "run"):
-        sys.exit("usage: tests/c_program.py check|run [FOLDER]")
-    folder = rust_text.find(words[1] if len(words) == 2 else None)
+    name, folder = command.act(__doc__, words, ("check", "run"))
+    folder = rust_text.find(folder)
     check_header()
-    linked = library(words[0])
-    if linked:
-        build(linked)
-        run_programs(folder)
+    linked = library(name)
+    if not linked:
+        command.nothing_compared("no program in C is run")
+    build(linked)
+    run_programs(folder)
 
 
 if __name__ == "__main__":

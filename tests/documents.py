@@ -1,6 +1,10 @@
 #!/usr/bin/env python3
 """Holds the documents to the repository.
 
+    tests/documents.py
+
+Exit status: 0 all is so; 1 something is not, and all of it is told; 2 wrong use.
+
 In every document a name with its file, written `name` (crates/../File), must be declared there; every file or folder of ours
 that a document names or links to must exist. A run of `tools/decay` that a document shows must be the stored answer of that sheet. How many answers the replay
 programs compare, as their stored output has it, must stand in README.md and docs/PROMISES.md. Nothing that is committed may name a folder of one machine."""
@@ -10,6 +14,7 @@ import re
 import subprocess
 import sys
 
+import command
 import sheet_answers
 
 ROOT = pathlib.Path(__file__).resolve().parent.parent
@@ -18,7 +23,8 @@ CITED = re.compile(r"`([^`\s]+)` \((crates/[^)\s]+)\)")
 FOLDERS = "|".join(re.escape(file.name) for file in ROOT.iterdir() if file.is_dir() and file.name not in (".git", "target"))
 NAMED = re.compile(rf"`((?:{FOLDERS})/[^`\s*]*)`")
 LINKED = re.compile(r"\]\((?!https?:)([^)#\s]+)\)")
-SHOWN = re.compile(r"^    \$ tools/decay (\S+)\n((?:    .*\n)+)", re.M)
+DECAY = r"tools/decay (--unproved )?(\S+)(?: \| tools/sheet.py answer (\S+))?"
+SHOWN = re.compile(rf"^    \$ {DECAY}\n((?:    .*\n)+)", re.M)
 MACHINE = re.compile(r"(?<![\w./])/(?:work|opt|root|home|tmp)/")
 
 
@@ -40,6 +46,15 @@ def about_names(text):
             yield f"there is no {path}"
 
 
+def printed_of(unproved, path, model, stored):
+    """What a command that is shown prints, by the stored answer of its sheet."""
+    answer = ("unproved\n" if unproved else "") + stored.get((ROOT / path).with_suffix(".sheet").read_bytes(), "")
+    if not model:
+        return answer
+    _, names = sheet_answers.sheet.model_and_names((ROOT / model).read_bytes())
+    return "".join(line + "\n" for line in sheet_answers.sheet.answer_in_words(answer, names)[0])
+
+
 def about(document, stored):
     """What is wrong in a document; `stored` has what `decay` prints of each stored sheet."""
     text = document.read_text()
@@ -47,8 +62,8 @@ def about(document, stored):
     for path in LINKED.findall(text):
         if not (document.parent / path).exists():
             yield f"it links to {path}, which is not there"
-    for path, printed in SHOWN.findall(text):
-        if stored.get((ROOT / path).read_bytes()) != printed.replace("    ", ""):
+    for unproved, path, model, printed in SHOWN.findall(text):
+        if printed_of(unproved, path, model, stored) != printed.replace("    ", ""):
             yield f"{path} has another answer than is shown"
 
 
@@ -87,6 +102,7 @@ def complaints():
             yield f"{name}: names a folder of one machine"
 
 
+command.nothing(__doc__, sys.argv[1:])
 found = list(complaints())
 print("\n".join(found) if found else f"{len(DOCUMENTS)} documents name only what is here, and show runs and their numbers as they are stored")
 sys.exit(1 if found else 0)

@@ -3,11 +3,15 @@
 coefficients, of the difference `jac`, of lu.rs and linear.rs and of `bounds` is cited by one definition, or is in the
 table of docs/DIFFERENCES.md with a reason; none is missing, none is there twice.
 
-    tests/lines.py check [FOLDER]   complain and end with status 1 where that isn't so
+    tests/lines.py check [FOLDER]   complain where that isn't so
     tests/lines.py list [FOLDER]    the table: lines of the Rust, the definition or the reason, its file
     tests/lines.py self-test        try the script on small texts and on edits of the repository's own
 
-FOLDER holds the Rust's text; tests/rust_text.py says where it is looked for otherwise. Without it only the numbers are compared.
+FOLDER holds the Rust's text; tests/rust_text.py says where it is looked for otherwise. Without it only the numbers
+are compared.
+
+Exit status: 0 all is so; 1 something is not; 2 wrong use; 4 the numbers are right, and nothing was compared with the
+Rust.
 
 A citation stands in square brackets in a comment, and the definition below it is what those lines became:
 
@@ -23,6 +27,7 @@ import collections
 import re
 import sys
 
+import command
 import rust_text
 
 ROOT = rust_text.ROOT
@@ -221,8 +226,9 @@ def check(given):
     spans = ", ".join(spans_of(rust, parts) for rust, (_, parts) in SPANS.items())
     print(
         f"{spans}: each line once, by {count['']} citations of {len(names)} definitions, {count['again']} repeated texts, "
-        f"{count['alike']} alike, {count['left']} ranges left behind" + ("" if world[2] else "; not held to the Rust's text")
+        f"{count['alike']} alike, {count['left']} ranges left behind"
     )
+    rust_text.compared(world[2], compiled=False)
     return 0
 
 
@@ -312,10 +318,6 @@ def self_test():
     return 1 if failed or missed else 0
 
 
-MODES = {"check": check, "list": show}
-words = sys.argv[1:]
-if words == ["self-test"]:
-    sys.exit(self_test())
-if not words or words[0] not in MODES or len(words) > 2:
-    sys.exit(__doc__)
-sys.exit(MODES[words[0]](words[1] if len(words) > 1 else None))
+MODES = {"check": check, "list": show, "self-test": lambda _: self_test()}
+name, given = command.act(__doc__, sys.argv[1:], MODES)
+sys.exit(MODES[name](given))

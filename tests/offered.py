@@ -2,7 +2,9 @@
 """Every offered function, and by which theorem two outcomes that its contract allows for one input coincide.
 
     tests/offered.py list     the table: each function, the theorem, its file
-    tests/offered.py check    complain, and end with status 1, where a contract doesn't settle its outcome; first the script is tried on contracts that don't
+    tests/offered.py check    complain where a contract doesn't settle its outcome; contracts that don't are tried first
+
+Exit status: 0 each contract settles its outcome; 1 one doesn't; 2 wrong use.
 
 A function is offered where another crate can name it: it is `pub`, and so is each module on the way to it. The outcome of a call is its result and, at exit,
 every part lent to be written. A contract has no `requires`, and settles the outcome in one of these ways:
@@ -21,6 +23,8 @@ What a theorem calls by one variable may be a record that the contract writes ou
 import pathlib
 import re
 import sys
+
+import command
 
 ROOT = pathlib.Path(__file__).resolve().parent.parent
 ONE_OUTCOME = ("one-outcome", "crates/words/proofs/Outcome.antt")
@@ -361,8 +365,7 @@ def tried():
 
 
 def main():
-    if sys.argv[1:] not in (["list"], ["check"]):
-        sys.exit(__doc__)
+    name, _ = command.act(__doc__, sys.argv[1:], ("list", "check"), more=0)
     tried()
     rows, complaints = [], []
     for function in offered():
@@ -372,7 +375,7 @@ def main():
             complaints.append(f"{function.name} {complaint}")
     lost = {*RELATIONS, *READERS} - {row[0] for row in rows}
     complaints += [f"{name} is listed here and is not offered" for name in lost]
-    if sys.argv[1] == "list":
+    if name == "list":
         for name, by, where in rows:
             print(f"{name:45} {by:35} {where}")
     for complaint in complaints:

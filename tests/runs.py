@@ -4,8 +4,10 @@
     tests/runs.py check [FOLDER]     run both and compare every request
     tests/runs.py branches [FOLDER]  print how often each branch of the Rust is taken, and each of the advance
 
-`check` ends with status 1 where a run differs, and shows where. FOLDER holds the Rust's text; tests/rust_text.py says where it
-is looked for otherwise. Without the text, or without rustc, `check` says that nothing was compared.
+FOLDER holds the Rust's text; tests/rust_text.py says where it is looked for otherwise.
+
+Exit status: 0 nothing differs; 1 a run differs, and it is shown where; 2 wrong use; 4 nothing was compared: the
+Rust's text or rustc is not there.
 
 How a run is had. A crate is made below target/rust/runs around the Rust's own files: tests/rust_solve.py says what of them is changed. Each power goes to
 document 01's power routine (tests/powers.rs has the halving written plainly).
@@ -17,8 +19,8 @@ another kind, a state that is unfit, and past the end any reply: 15, 13 and 14, 
 import subprocess
 import sys
 
+import command
 import port
-import rust_crate
 import rust_solve
 import rust_text
 from draw import pattern_of
@@ -445,9 +447,7 @@ def replayed(folder, runs):
 
 
 def check(folder):
-    if not (folder and rust_crate.compiler()):
-        print("so the runs of the Rust are NOT compared with the advance")
-        return
+    rust_text.compared(folder)
     runs = every_run()
     answers, counts = answers_of(build(folder), runs)
     try_figures(answers)
@@ -459,7 +459,7 @@ def check(folder):
 
 
 def branches(folder):
-    insist(folder and rust_crate.compiler(), "without the Rust's text and rustc nothing is run")
+    rust_text.compared(folder)
     runs = every_run()
     counts, ours = answers_of(build(folder), runs)[1], replayed(folder, runs)[1]
     print("\n".join(table(counts)))
@@ -470,9 +470,8 @@ def branches(folder):
 
 def main(words):
     acts = {"check": check, "branches": branches}
-    if len(words) not in (1, 2) or words[0] not in acts:
-        sys.exit("usage: tests/runs.py check|branches [FOLDER]")
-    acts[words[0]](rust_text.find(words[1] if len(words) == 2 else None))
+    name, folder = command.act(__doc__, words, acts)
+    acts[name](rust_text.find(folder))
 
 
 if __name__ == "__main__":

@@ -5,7 +5,7 @@ use mathlib.Core.List.{List}
 use lib.ListN.{length}
 use Rattle.words.proofs.Outcome.{each-of-two}
 use Rattle.sheet.specs.Reader.{over}
-use Rattle.answer.specs.declared.forecast.Forecast.{Forecast}
+use Rattle.answer.specs.declared.ending.Forecast.{Forecast}
 use Rattle.answer.specs.Printed.{printedOf}
 
 pub print-once : (f : Forecast) (out₀ : List ℕ) {out out' : List ℕ} {r r' : ℕ}
