@@ -16,6 +16,5 @@ pub mod AdvanceLaws
 pub mod RepliedLaws
 pub mod Settled
 pub mod Whole
-pub mod Determinism
 pub mod Ways
 pub mod Everyway
