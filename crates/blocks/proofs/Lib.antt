@@ -16,7 +16,6 @@ pub mod AdvanceLaws
 pub mod RepliedLaws
 pub mod Settled
 pub mod Whole
-pub mod Determinism
 pub mod Decompositions
 pub mod Passes
 pub mod Anew

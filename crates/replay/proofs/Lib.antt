@@ -2,3 +2,4 @@
 pub mod SettingsLaws
 pub mod MemoryLaws
 pub mod ReadLaws
+pub mod Determinism
