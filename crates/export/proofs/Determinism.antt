@@ -33,7 +33,7 @@ use Rattle.export.proofs.run.elchepur_advance as advance
 use Rattle.export.proofs.run.elchepur_result as result
 
 pub elchepur-sqrt-once : Settles sqrt.Kinds.ps sqrt.Kinds.r sqrt.Reads.Asked sqrt.Reads.Post
-elchepur-sqrt-once κs a = (tt, λ o p. one-result (o .1))
+elchepur-sqrt-once κs a = (tt, λ o p. λ e f. one-result (o .1) (e .0) (f .0))
 
 pub elchepur-root-once : Settles root.Kinds.ps root.Kinds.r root.Reads.Asked root.Reads.Post
 elchepur-root-once κs a = (tt, λ o p. one-result (o .1))
