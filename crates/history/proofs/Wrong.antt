@@ -1,5 +1,5 @@
--- Three wrong solvers, each shut out by the contract of an advance (01, 'How tight the contracts are'): one that refuses everything, one that always gives the same answer,
--- and one that is right at its first advance and then only pretends, ending with Success.
+-- Three wrong solvers, each shut out by the definition of an advance, and so by its contract, which `calls` says
+-- (01, 'How tight the contracts are'): one refuses everything, one always answers alike, one is right at first only.
 use Prim.Native.Nat.{ℕ}
 use mathlib.Core.Path.{_≡_, refl, sym, ap, _∙_}
 use mathlib.Core.Bool.{Bool, true, false, true≢false}
@@ -30,7 +30,7 @@ use Rattle.blocks.specs.Advance.{Outcome, outcome, advanceOf, advanceBy, starte
 use Rattle.blocks.specs.Matrices.{passesOf, passAt}
 use Rattle.blocks.specs.Report.{reportedOf}
 
--- what a solver is, for one advance, and what the contract asks of it
+-- what a solver is, for one advance, and what the definition asks of it
 abbrev pub Solver : Type 0
 Solver = Run → Reply → Memory → Outcome
 
