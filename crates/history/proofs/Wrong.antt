@@ -1,6 +1,6 @@
--- Wrong solvers, each shut out by the contract of an advance (01, 'How tight the contracts are'): one that refuses
--- everything, one that always gives the same answer, one that does nothing (it leaves the run as it is, or writes
--- nothing whatever it answers), and one that is right at its first advance and then only pretends, ending with Success.
+-- Wrong solvers, each shut out by the definition of an advance, and so by its contract, which crate `calls` says
+-- (01, 'How tight the contracts are'): one refuses everything, one always answers alike, one does nothing (it leaves the
+-- run as it is, or writes nothing), and one is right at its first advance and then pretends, ending with Success.
 use Prim.Native.Nat.{ℕ}
 use mathlib.Core.Path.{_≡_, refl, sym, ap, _∙_}
 use mathlib.Core.Bool.{Bool, true, false, true≢false}
@@ -32,7 +32,7 @@ use Rattle.blocks.specs.Attempt.{stageSumAt, askStageOf}
 use Rattle.blocks.specs.Matrices.{passesOf, passAt}
 use Rattle.blocks.specs.Report.{reportedOf}
 
--- what a solver is, for one advance, and what the contract asks of it
+-- what a solver is, for one advance, and what the definition asks of it
 abbrev pub Solver : Type 0
 Solver = Run → Reply → Memory → Outcome
 
