@@ -1,7 +1,8 @@
-"""As much of Rust's grammar as the Rust's solver is written in: tokens, expressions, and the statements of a function's body.
+"""As much of Rust's grammar as the Rust's solver is written in: tokens, expressions, statements.
 
-`Parser` goes through a body and gathers its sites: the places whose text can be exchanged as a whole, an expression or a statement, without
-touching another site. What our edits put into the text (calls of `crate::program` that trace and count) makes no site."""
+`Parser` goes through a function's body and gathers its sites: the places whose text can be exchanged as a whole, an
+expression or a statement, without touching another site. What our edits put into the text (calls of `crate::program`
+that trace and count) makes no site."""
 
 import dataclasses
 import re
@@ -91,7 +92,8 @@ class Parser:
 
     def take(self, wanted=None):
         token = self.tokens[self.at]
-        insist(wanted is None or token.text == wanted, f"{wanted} is wanted, not {self.text[token.start:token.start + 60]!r}")
+        found = self.text[token.start : token.start + 60]
+        insist(wanted is None or token.text == wanted, f"{wanted} is wanted, not {found!r}")
         self.at += 1
         return token
 
@@ -124,8 +126,8 @@ class Parser:
                 self.at += 1
             return
         word = self.peek()
-        acts = {"let": self.binding, "if": self.branching, "for": self.counting, "match": self.matching, "return": self.leaving}
-        acts |= {"break": self.leaving, "continue": self.leaving, "{": self.block}
+        acts = {"let": self.binding, "if": self.branching, "for": self.counting, "match": self.matching}
+        acts |= {"{": self.block} | dict.fromkeys(("return", "break", "continue"), self.leaving)
         if self.tokens[self.at].kind == "label" or word == "loop":
             self.pass_to("{")
             self.block()
@@ -263,7 +265,8 @@ class Parser:
             else:
                 self.at -= 1
                 args = self.arguments(mark, {"(": ")", "[": "]"}[mark])
-                node = self.node("call" if mark == "(" else "index", self.text[node.start:node.end], [node, *args], start)
+                name = self.text[node.start : node.end]
+                node = self.node("call" if mark == "(" else "index", name, [node, *args], start)
         return node
 
     def arguments(self, opening, closing):

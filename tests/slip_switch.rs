@@ -1,4 +1,5 @@
-// The switch of tests/slips.py: which slip is planted in the Rust's text. None is 0; where nobody has set it, the environment's SLIP says it.
+// The switch of tests/slips.py: which slip is planted in the Rust's text. None is 0; where nobody has set it, the
+// environment's SLIP says it.
 use std::sync::atomic::{AtomicU32, AtomicU64, Ordering::Relaxed};
 
 const UNSET: u32 = u32::MAX;

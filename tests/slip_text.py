@@ -1,7 +1,8 @@
-"""The slips that can be planted in a text of the Rust's, one kind after the other, and the text with all of them behind one switch.
+"""The slips that can be planted in a text of the Rust's, and the text with all of them behind one switch.
 
-A slip exchanges a piece of one site (tests/slip_parse.py). The text with slips has at each site a `match` on the number of the slip that is
-planted: `match crate::slips::on() { 17 => .., 18 => .., _ => the site as it stands }`. So one program holds them all, and one at a time is switched on."""
+A slip exchanges a piece of one site (tests/slip_parse.py). The text with slips has at each site a `match` on the number
+of the slip that is planted: `match crate::slips::on() { 17 => .., 18 => .., _ => the site as it stands }`. So one
+program holds them all, and one at a time is switched on."""
 
 import dataclasses
 import difflib
@@ -22,7 +23,8 @@ TAKEN_FOR = {
 OPPOSITE = {"+": "-", "-": "+", "*": "/", "/": "*", "+=": "-=", "-=": "+=", "*=": "/=", "/=": "*="}
 
 # Names of whole numbers; all other names are doubles, truths or lists.
-WHOLE = set("n i j k m r c kb kp1 nm1 dim row col nind1 nind2 nind3 newt_iter max_newton provided nmax singular_count turns".split())
+WHOLE = set("n i j k m r c kb kp1 nm1 dim row col nind1 nind2 nind3 newt_iter max_newton provided nmax turns".split())
+WHOLE.add("singular_count")
 WHOLE |= {"evals.ode", "evals.jac", "evals.lu", "steps.total", "steps.accepted", "steps.rejected", "ip[k]", "ip[0]"}
 LENGTHS = ("len", "nrows", "ncols")
 
@@ -46,8 +48,8 @@ class Slip:
 
 
 class Lined:
-    """A text, and of each character the line that it had in the Rust's file; that of what stands before it where an edit put it in, or, of 01's
-    changes, none at all."""
+    """A text, and of each character the line that it had in the Rust's file; where an edit put it in, the line of what
+    stands before it, or of 01's changes none."""
 
     def __init__(self, text):
         self.text = text
@@ -189,10 +191,12 @@ class Planter:
                 continue
             if left.kind == "binary" and left.mark in side:
                 mark = node.mark if left.mark == side[0] else OPPOSITE[node.mark]
-                yield f"{self.wrapped(left.parts[0])} {left.mark} ({self.wrapped(left.parts[1])} {mark} {self.wrapped(node.parts[1])})"
+                one, two, three = map(self.wrapped, (*left.parts, node.parts[1]))
+                yield f"{one} {left.mark} ({two} {mark} {three})"
             if right.kind == "binary" and right.mark in side:
                 mark = right.mark if node.mark == side[0] else OPPOSITE[right.mark]
-                yield f"({self.wrapped(node.parts[0])} {node.mark} {self.wrapped(right.parts[0])}) {mark} {self.wrapped(right.parts[1])}"
+                one, two, three = map(self.wrapped, (node.parts[0], *right.parts))
+                yield f"({one} {node.mark} {two}) {mark} {three}"
 
     def in_number(self, node):
         digits, suffix = re.fullmatch(r"(.*?)(f64|usize|u8)?", node.mark.replace("_", "")).groups()
@@ -291,17 +295,19 @@ MOST_SHOWN = 40
 
 
 def exchanged(old, new):
-    """What is exchanged for what, in few words: of a long piece the beginning, of what it becomes the part that differs."""
+    """What is exchanged for what, in few words: of a long piece the beginning, of the new one the part that differs."""
     old, new = shown(old), shown(new) or "left out"
     same = next((at for at, (one, other) in enumerate(zip(old, new)) if one != other), min(len(old), len(new)))
     if len(new) > MOST_SHOWN:
         start = max(0, min(same - 8, len(new) - MOST_SHOWN))
-        new = ("..." if start else "") + new[start : start + MOST_SHOWN] + ("..." if start + MOST_SHOWN < len(new) else "")
+        end = "..." if start + MOST_SHOWN < len(new) else ""
+        new = ("..." if start else "") + new[start : start + MOST_SHOWN] + end
     return f"{old if len(old) <= MOST_SHOWN else old[:MOST_SHOWN] + '...'} => {new}"
 
 
 class Constants:
-    """Slips in the definitions of a file's constants: each a double higher and lower. Their uses become calls of a function that knows the switch."""
+    """Slips in the definitions of a file's constants: each a double higher and lower. A constant's uses become calls of
+    a function that knows the switch."""
 
     def __init__(self, file, raw):
         self.defined = re.findall(r"^const (\w+): Float = (.*);$", raw, re.M)
@@ -311,7 +317,8 @@ class Constants:
             found = re.fullmatch(r"const (\w+): Float = (.*);", text)
             for end in (math.inf, -math.inf) if found else ():
                 other = math.nextafter(float(found[2].replace("_", "")), end)
-                self.slips.append(Slip("constant", 0, 0, repr(other), f"{file}:{line} constant: {found[1]} => {other!r}"))
+                key = f"{file}:{line} constant: {found[1]} => {other!r}"
+                self.slips.append(Slip("constant", 0, 0, repr(other), key))
 
     def switched(self, text, end):
         """The text, whose constants are used before `end` alone."""
@@ -321,5 +328,5 @@ class Constants:
         for place, name in enumerate(self.names):
             up, down = self.slips[2 * place : 2 * place + 2]
             arms = f"{up.number} => {up.new}, {down.number} => {down.new}, _ => {name}"
-            functions.append(f"#[allow(non_snake_case)]\nfn slipped_{name}() -> Float {{ match crate::slips::on() {{ {arms} }} }}\n")
+            functions.append(f"fn slipped_{name}() -> Float {{ match crate::slips::on() {{ {arms} }} }}\n")
         return used + text[at:] + "".join(functions)

@@ -1,14 +1,13 @@
-// Which stored answers notice a slip, for tests/slips.py: the Rust's text, in which one slip is switched on, is run again on what is stored.
-// It stands beside tests/runs.rs and tests/matrix_answers.rs. The words are how many stored runs that notice a slip are wanted, and the files of the
-// stored runs, of the sheets' runs, and of the matrix cases;
+// Which stored answers notice a slip, for tests/slips.py: the Rust's text, in which one slip is switched on, is run
+// again on what is stored. It stands beside tests/runs.rs and tests/matrix_answers.rs. The words are how many stored
+// runs that notice a slip are wanted, and the files of the stored runs, of the sheets' runs, and of the matrix cases;
 // standard input has a line for each slip, its number and the lists that may notice it: rust, book, sheets, matrix.
 use crate::dense::StepInterpolant;
 use crate::ivp::FirstOrderSystem;
 use crate::matrix::Matrix;
 use crate::matrix_cases;
-use crate::program::{
-    begin, hash, patterns, read_line, solve, with, Host, Opening, DERIVATIVE, INTERRUPT, JACOBIAN, MARK, MODIFIED, REPORT,
-};
+use crate::program::{begin, hash, patterns, read_line, solve, with, Host, Opening};
+use crate::program::{DERIVATIVE, INTERRUPT, JACOBIAN, MARK, MODIFIED, REPORT};
 use crate::slips::{allow, plant, ticks};
 use crate::solout::{ControlFlag, SolOut};
 use std::cell::Cell;
@@ -182,7 +181,7 @@ impl SolOut for Silent {
     }
 }
 
-// The words that are printed of a sheet's run: status, x, the counts, the amounts; none where the Rust panics or goes on for ever.
+// The words that are printed of a sheet's run: status, x, the counts, the amounts; none where the Rust has no end.
 fn printed(opening: &Opening, host: &Host, most: u64) -> Option<Vec<u64>> {
     begin(opening);
     allow(most);
@@ -215,8 +214,8 @@ fn sheets(text: &str) -> Vec<Sheet> {
 
 // The first of these sheets that notices the slip; it is tried first the next time.
 fn sheet_notices(sheets: &mut [Sheet], book: Option<bool>) -> bool {
-    let notices = |s: &Sheet| book.is_none_or(|book| s.opening.chosen(11) == book) && printed(&s.opening, &s.host, s.most) != s.wanted;
-    let found = sheets.iter().position(notices);
+    let asked = |s: &Sheet| book.is_none_or(|book| s.opening.chosen(11) == book);
+    let found = sheets.iter().position(|s| asked(s) && printed(&s.opening, &s.host, s.most) != s.wanted);
     if let Some(place) = found {
         sheets[..=place].rotate_right(1);
     }
@@ -225,16 +224,26 @@ fn sheet_notices(sheets: &mut [Sheet], book: Option<bool>) -> bool {
 
 // --- All lists -----------------------------------------------------------------------------------
 
-// The lists by which a slip may be noticed.
-fn told(number: u32, lists: &str, runs: &[Stored], most: usize, sheets: &mut [Sheet], cases: &(String, String)) -> String {
+struct Lists {
+    runs: Vec<Stored>,
+    most: usize,
+    sheets: Vec<Sheet>,
+    // The matrix cases, and what is answered without a slip.
+    cases: String,
+    answers: String,
+}
+
+// What of these lists notices a slip: whether sheets and matrix answers do, and which runs.
+fn told(number: u32, names: &str, lists: &mut Lists) -> String {
     plant(number);
-    let named: Vec<&str> = lists.split(',').collect();
+    let named: Vec<&str> = names.split(',').collect();
     let asks = |run: &Stored| named.contains(&if run.opening.chosen(11) { "book" } else { "rust" });
-    let noticing = runs.iter().enumerate().filter(|(_, run)| asks(run) && run_notices(run));
-    let noticing: Vec<String> = noticing.take(most).map(|(place, _)| place.to_string()).collect();
+    let noticing = lists.runs.iter().enumerate().filter(|(_, run)| asks(run) && run_notices(run));
+    let noticing: Vec<String> = noticing.take(lists.most).map(|(place, _)| place.to_string()).collect();
     let book = (named.contains(&"rust") != named.contains(&"book")).then(|| named.contains(&"book"));
-    let sheet = named.contains(&"sheets") && sheet_notices(sheets, book);
-    let matrix = named.contains(&"matrix") && catch_unwind(|| matrix_cases::answers(&cases.0)).ok().as_ref() != Some(&cases.1);
+    let sheet = named.contains(&"sheets") && sheet_notices(&mut lists.sheets, book);
+    let answered = || catch_unwind(|| matrix_cases::answers(&lists.cases)).ok();
+    let matrix = named.contains(&"matrix") && answered().as_ref() != Some(&lists.answers);
     plant(0);
     format!("{number} {} {} {}", sheet as u8, matrix as u8, noticing.join(","))
 }
@@ -245,14 +254,13 @@ pub fn go() {
     let words: Vec<String> = std::env::args().skip(1).collect();
     let most = words[0].parse().expect("a number");
     let texts: Vec<String> = words[1..].iter().map(|file| std::fs::read_to_string(file).expect("a list")).collect();
-    let runs = stored_runs(&texts[0]);
-    let mut sheets = sheets(&texts[1]);
-    let cases = (texts[2].clone(), matrix_cases::answers(&texts[2]));
-    let astray = runs.iter().position(run_notices);
+    let (runs, sheets, answers) = (stored_runs(&texts[0]), sheets(&texts[1]), matrix_cases::answers(&texts[2]));
+    let mut lists = Lists { runs, most, sheets, cases: texts[2].clone(), answers };
+    let astray = lists.runs.iter().position(run_notices);
     println!("{}", astray.map_or("as stored".to_string(), |place| format!("without a slip run {place} is another")));
     for line in std::io::stdin().lines() {
         let line = line.expect("a line");
-        let (number, lists) = line.split_once(' ').expect("a slip with its lists");
-        println!("{}", told(number.parse().expect("a number"), lists, &runs, most, &mut sheets, &cases));
+        let (number, names) = line.split_once(' ').expect("a slip with its lists");
+        println!("{}", told(number.parse().expect("a number"), names, &mut lists));
     }
 }
