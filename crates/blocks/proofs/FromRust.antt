@@ -164,6 +164,10 @@ sided =
 abbrev pub normed : List ℕ
 normed = 0x3fda_d97b_5ff1_143e ∷ []
 
+-- radau.rs:552-559
+abbrev pub normSummed : List ℕ
+normSummed = 0x3ff3_6b42_7a3e_de6d ∷ []
+
 -- radau.rs:563-619
 abbrev pub paced : List ℕ
 paced =
@@ -248,6 +252,10 @@ moved =
 -- radau.rs:672-674, radau.rs:782-794
 abbrev pub rejected : List ℕ
 rejected = 0x3fb2_7b77_3bac_49de ∷ 0x3fe1_4df8_4bcb_e3a9 ∷ 0x3fb2_7b77_3bac_49de ∷ 1 ∷ []
+
+-- radau.rs:782-794
+abbrev pub rejectedFirst : List ℕ
+rejectedFirst = 0x3fb9_9999_9999_999a ∷ 0x3f8b_57a0_56b1_58a4 ∷ 0 ∷ []
 
 -- radau.rs:752-779
 abbrev pub renewed : List ℕ

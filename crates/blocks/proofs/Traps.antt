@@ -92,7 +92,7 @@ abbrev under : Float
 under = double 0x3fb7_0a3d_70a3_d70a ⊘ drawn .settings .uround
 
 guard-edge : (guardedAt edge ∷ guardedAt (neg edge) ∷ guardedAt under ∷ guardedAt nan ∷ []) ≡ rust.guarded
-unfolding attemptOf beganOf askStageOf absOf pick le neg mul div ofBits
+unfolding attemptOf beganOf askStageOf absOf pick lt le neg mul div ofBits
 guard-edge = refl
 
 -- an error of 1 is refined, one just below it or a NaN is not (radau.rs:649)
@@ -100,7 +100,7 @@ abbrev refinedAt : Float → ℕ
 refinedAt err = isWay 1 (wayOf (testedOf (drawn ▸ inControl (setFirst true)) err z rust.y rust.cont .core .step))
 
 refine-edge : (refinedAt one ∷ refinedAt (double 0x3fef_ffff_ffff_ffff) ∷ refinedAt nan ∷ []) ≡ rust.refined
-unfolding testedOf judgedOf pick le ofBits
+unfolding testedOf judgedOf pick lt le ofBits
 refine-edge = refl
 
 -- an error of 1 is accepted, one just above it or a NaN is not (radau.rs:676)
@@ -108,7 +108,7 @@ abbrev acceptedAt : Float → ℕ
 acceptedAt err = isWay 2 (wayOf (judgedOf drawn err z rust.y rust.cont .core .step))
 
 accept-edge : (acceptedAt one ∷ acceptedAt (double 0x3ff0_0000_0000_0001) ∷ acceptedAt nan ∷ []) ≡ rust.acceptedBy
-unfolding judgedOf pick le ofBits
+unfolding judgedOf pick lt le ofBits
 accept-edge = refl
 
 -- a round whose numbers are these
@@ -125,23 +125,23 @@ quarter = double 0x3fd0_0000_0000_0000
 
 -- a rate of 0.99 is divergence (radau.rs:571)
 rate-edge : roundAt 2 (double 0x3fef_ae14_7ae1_47ae) (drawn ▸ inNumbers (setDynold one)) ≡ rust.pacedLimit
-unfolding judgedRound pacedOf rateOf failedOf pick lt mul div ofBits toBits
+unfolding judgedRound pacedOf rateOf failedOf pick le lt mul div ofBits toBits
 rate-edge = refl
 
 -- a prediction of 1 is slow (radau.rs:575)
 slow-edge : roundAt 6 half (runBy half rust.xend one ▸ inNumbers (setDynold one) ▸ inNumbers (setThqold half)) ≡ rust.slowAtOne
 unfolding judgedRound pacedOf rateOf predictedOf slowedOf slowRound powerOf timesAt product keeps halve halvedRoot
-    rootOfForm rootOf units unitsInOne squareOf border reaches nearestRoot sqrtOf maxOf minOf loop pick isNan le lt sub mul
-    div ofBits toBits
+    rootOfForm rootOf units unitsInOne squareOf border reaches nearestRoot sqrtOf maxOf minOf loop pick isNan le lt
+    sub mul div ofBits toBits
 slow-edge = refl
 
 -- increments just at the tolerance are near enough, and so is a NaN (radau.rs:615)
 near-edge : roundAt 1 quarter (runBy quarter rust.xend one ▸ inNumbers (setFaccon one)) ≡ rust.nearAtTolerance
-unfolding judgedRound concludedOf maxOf pick isNan lt mul ofBits toBits
+unfolding judgedRound concludedOf maxOf pick isNan le lt mul ofBits toBits
 near-edge = refl
 
 near-nan : roundAt 1 nan drawn ≡ rust.nearByNan
-unfolding judgedRound concludedOf maxOf pick isNan lt mul ofBits toBits
+unfolding judgedRound concludedOf maxOf pick isNan le lt mul ofBits toBits
 near-nan = refl
 
 -- a step that ends just at the end point is aimed at it (radau.rs:764): from 1 with 0.5 to 1.5
@@ -170,8 +170,8 @@ keep-edge = refl
 
 -- it counts as 1e-10 (radau.rs:646)
 nan-error : (bitsOf (errorOf 2 rust.scal (rust.cont ! 0 ∷ nan ∷ [])) ∷ []) ≡ rust.erredNan
-unfolding errorOf errorAt maxOf units unitsInOne squareOf halve border reaches nearestRoot sqrtOf loop pick isNan lt add
-    mul div ofInt ofBits toBits
+unfolding errorOf errorAt maxOf units unitsInOne squareOf halve border reaches nearestRoot sqrtOf loop pick isNan le
+    lt add mul div ofInt ofBits toBits
 nan-error = refl
 
 abbrev alone : Run
