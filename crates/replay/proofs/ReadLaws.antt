@@ -65,14 +65,23 @@ module _ {from i word : ℕ} {before block : List ℕ} (filled : Filled from i b
 
 module _ {from end last i : ℕ} {before block : List ℕ} (is : last ≡ withinOf end (length before))
     (high : (i ≡ from) ⊎ (i ≤ last)) (filled : Filled from i before block) where
-  up : (i ≡ from) ⊎ (i ≤ withinOf end (length before))
-  up = subst (λ (n : ℕ). (i ≡ from) ⊎ (i ≤ n)) is high
-
   pub read-all : last ≤ i → WordsRead from end before block true
-  read-all h = record { to = i; high = up; filled = filled; answer = sym (le-leb _ _ (subst (λ (n : ℕ). n ≤ i) is h)) }
+  read-all h =
+      record {
+        to = i;
+        high = subst (λ (n : ℕ). (i ≡ from) ⊎ (i ≤ n)) is high;
+        filled = filled;
+        answer = sym (le-leb _ _ (subst (λ (n : ℕ). n ≤ i) is h));
+      }
 
   pub read-some : i < last → WordsRead from end before block false
-  read-some h = record { to = i; high = up; filled = filled; answer = sym (lt-leb _ _ (subst (λ (n : ℕ). i < n) is h)) }
+  read-some h =
+      record {
+        to = i;
+        high = subst (λ (n : ℕ). (i ≡ from) ⊎ (i ≤ n)) is high;
+        filled = filled;
+        answer = sym (lt-leb _ _ (subst (λ (n : ℕ). i < n) is h));
+      }
 
 -- ---- what stays of a lent block, whatever came: all that does not stand at the places that were asked for
 
