@@ -6,8 +6,10 @@
                                          sources, compiled by rustc
     tests/python_module.py run           on the archive; what is not proved yet is proved first
 
-`check` and `run` end with status 1 where something differs. What is missing (rt, rustc, a compiler of C) is said
-plainly, and what needs it is passed over. A FOLDER may follow, as for the other scripts; it is not looked at.
+What is missing (rt, rustc, a compiler of C) is said plainly, and what needs it is passed over. A FOLDER may follow, as
+for the other scripts; it is not looked at.
+
+Exit status: 0 nothing differs; 1 something does; 2 wrong use.
 
   - The numbers, parts and declarations of the module are those of the header, and so are its words for refusals.
   - Every sheet of crates/sheet_replay/stdin through `forecast` has the stored answer, and raises unless it succeeded.
@@ -25,6 +27,7 @@ import sys
 import warnings
 
 import c_program
+import command
 import rust_text
 import sheet_answers
 
@@ -348,13 +351,12 @@ def check_runs(module):
 
 
 def main(words):
-    if len(words) not in (1, 2) or words[0] not in ("write", "check", "run"):
-        sys.exit("usage: tests/python_module.py write|check|run [FOLDER]")
-    if words[0] == "write":
+    act, _ = command.act(__doc__, words, ("write", "check", "run"))
+    if act == "write":
         NUMBERS.write_text(numbers_text())
         return
     check_numbers()
-    linked = c_program.library(words[0])
+    linked = c_program.library(act)
     if not linked:
         return
     c_program.build_program("c_program", linked)

@@ -5,9 +5,10 @@ make of them.
     tests/samples.py write [FOLDER]   write proofs/FromRust.antt of crates/blocks and of crates/opening
     tests/samples.py check [FOLDER]   make both anew and compare them with what is stored
 
-`check` ends with status 1 at the first line that differs, and shows it. FOLDER holds the Rust's text;
-tests/rust_text.py says where it is looked for otherwise. Without the text, or without rustc, `write` refuses and `check`
-compares the operands alone.
+FOLDER holds the Rust's text; tests/rust_text.py says where it is looked for otherwise. Without the text, or without
+rustc, `write` refuses and `check` compares the operands alone.
+
+Exit status: 0 all is as stored; 1 a line differs, and is shown; 2 wrong use; 4 nothing was compared with the Rust.
 
 A program is made below target/, around the Rust's files of matrix/ (tests/rust_crate.py) and the lines that each sample
 names, taken as they stand but for powers, which go to document 01's routine (`POWERS` of tests/rust_solve.py). What it
@@ -20,6 +21,7 @@ import re
 import subprocess
 import sys
 
+import command
 import opening_cases
 import rust_crate
 import rust_solve
@@ -306,23 +308,22 @@ def compare(file, made):
 
 
 def main(words):
-    if len(words) not in (1, 2) or words[0] not in ("write", "check"):
-        sys.exit("usage: tests/samples.py write|check [FOLDER]")
-    folder = rust_text.find(words[1] if len(words) == 2 else None)
+    act, given = command.act(__doc__, words, ("write", "check"))
+    folder = rust_text.find(given)
     if not (folder and rust_crate.compiler()):
-        insist(words[0] == "check", "the answers can't be made")
+        insist(act == "check", "the answers can't be made")
         insist(operand_text() in stored("blocks").read_text(), "the stored operands are others")
-        print("the samples' operands are as stored; the answers are NOT compared with the Rust's own lines")
-        return
+        print("the samples' operands are as stored")
+        command.nothing_compared("the answers are not compared with the Rust's own lines")
     told = answers(folder)
     for crate in CRATES:
         text = file_text(crate, told[crate])
-        if words[0] == "write":
+        if act == "write":
             stored(crate).write_text(text)
         else:
             compare(stored(crate), text)
     count = sum(len(samples) for samples in CRATES.values())
-    state = "written" if words[0] == "write" else "as the Rust's own lines have them"
+    state = "written" if act == "write" else "as the Rust's own lines have them"
     print(f"{count} samples are {state}")
 
 

@@ -23,13 +23,12 @@ otherwise than is stored. The lists:
   openings  crates/opening_cases/stdin: refusals and what is set at the opening
   scalars   crates/scalar_vectors/stdin: the coefficients
 
-Ends with status 1 where no stored run notices a slip, and for `interpolate` and `bounds` no matrix answer, for the
+Exit status: 0 every slip is noticed or named; 2 wrong use; 4 nothing was planted, without the Rust's text or rustc; 1
+where no stored run notices a slip, and for `interpolate` and `bounds` no matrix answer, for the
 opening neither a run nor an opening, unless tests/slips_same.txt names it with a reason; where a slip that is named
 there is noticed after all; and where beside/README.md has other figures. With --sample it compares of these how many
-slips there are, and leaves sheets aside. Without the Rust's text, or without rustc, it says that nothing was
-planted."""
+slips there are, and leaves sheets aside."""
 
-import argparse
 import collections
 import hashlib
 import os
@@ -39,6 +38,7 @@ import subprocess
 import sys
 
 import matrix_answers
+import command
 import opening_cases
 import port
 import rust_crate
@@ -387,7 +387,7 @@ def counts_in_document(slips, known):
 
 
 def arguments(words):
-    usage = argparse.ArgumentParser(description=__doc__, formatter_class=argparse.RawDescriptionHelpFormatter)
+    usage = command.Arguments(__doc__)
     usage.add_argument("--each", action="store_true")
     usage.add_argument("--write", action="store_true")
     usage.add_argument("--sample", type=int, default=1)
@@ -400,8 +400,7 @@ def main(words):
     given = arguments(words)
     folder = rust_text.find(given.folder)
     if not (folder and rust_crate.compiler()):
-        print("so NO slips are planted")
-        return
+        command.nothing_compared("no slip was planted")
     texts, known = Texts(folder), named()
     texts.write(TARGET / "text")
     whole, every = given.sample == 1, list(texts.slips().values())
