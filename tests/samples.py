@@ -314,7 +314,7 @@ def main(words):
         insist(act == "check", "the answers can't be made")
         insist(operand_text() in stored("blocks").read_text(), "the stored operands are others")
         print("the samples' operands are as stored")
-        command.nothing_compared("the answers are not compared with the Rust's own lines")
+        rust_text.compared(folder)
     told = answers(folder)
     for crate in CRATES:
         text = file_text(crate, told[crate])

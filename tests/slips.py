@@ -400,7 +400,7 @@ def main(words):
     given = arguments(words)
     folder = rust_text.find(given.folder)
     if not (folder and rust_crate.compiler()):
-        command.nothing_compared("no slip was planted")
+        rust_text.compared(folder)
     texts, known = Texts(folder), named()
     texts.write(TARGET / "text")
     whole, every = given.sample == 1, list(texts.slips().values())
