@@ -6,8 +6,8 @@ make of them.
     tests/samples.py check [FOLDER]   make both anew and compare them with what is stored
 
 `check` ends with status 1 at the first line that differs, and shows it. FOLDER holds the Rust's text;
-tests/rust_text.py says where it is looked for otherwise. Without the text, or without rustc, `write` refuses and `check`
-compares the operands alone.
+tests/rust_text.py says where it is looked for otherwise. Without the text, or without rustc, `write` refuses and
+`check` compares the operands alone.
 
 A program is made below target/, around the Rust's files of matrix/ (tests/rust_crate.py) and the lines that each sample
 names, taken as they stand but for powers, which go to document 01's routine (`POWERS` of tests/rust_solve.py). What it
