@@ -7,34 +7,27 @@ use mathlib.Core.Bool.{Bool, true, false}
 use mathlib.Core.List.{List, [], _∷_}
 use lib.Ieee.{Float}
 use lib.Ieee as ieee
-use Rattle.matrix.specs.Elimination as matrixElimination
-use Rattle.blocks.specs.Jacobian as blocksJacobian
 use Rattle.blocks.specs.Matrices as blocksMatrices
-use Rattle.matrix.specs.Linear as matrixLinear
 use Rattle.blocks.specs.Newton as blocksNewton
-use Rattle.matrix.specs.Substitution as matrixSubstitution
 use Rattle.opening.specs.Opening as openingOpening
 use Rattle.blocks.specs.Judge as blocksJudge
 use Rattle.words.specs.Grid.{at, put}
 use Rattle.words.specs.Loop.{loop, pick}
-use Rattle.scalar.specs.Coefficients.{entryOf}
 use Rattle.scalar.specs.Halving.{halve}
 use Rattle.scalar.specs.Order.{absOf, maxOf, minOf, clampOf, signumOf}
 use Rattle.scalar.specs.Patterns.{units, unitsInOne}
 use Rattle.scalar.specs.Products.{timesAt, powerOf, product}
 use Rattle.scalar.specs.Root.{keeps, halvedRoot, rootOfForm, rootOf}
 use Rattle.scalar.specs.Sqrt.{border, reaches, nearestRoot, sqrtOf}
-use Rattle.scalar.specs.Steps.{Remains}
 use Rattle.matrix.specs.Complex.{atComplex, putComplex, entryComplex, setComplex, sizeComplex, negatedComplex, plusComplex, timesComplex, squareComplex, reciprocalComplex, overComplex}
-use Rattle.matrix.specs.Elimination.{betterAt, pivotRow, swapped, scaledAt, eliminated, passWith, passed, lastTested, single, worked, answered}
+use Rattle.matrix.specs.Elimination.{passWith, passed, lastTested, single, worked, answered}
 use Rattle.matrix.specs.Linear.{divided, forward, takeAt, back, linSolveOf}
 use Rattle.matrix.specs.LinearComplex.{dividedComplex, addComplexAt, forwardComplex, backComplex, linSolveComplexOf}
 use Rattle.matrix.specs.Lu.{updateAt, updated, reciprocal, multiplier, isZero, luDecompOf}
-use Rattle.matrix.specs.LuComplex.{addedComplex, realAt, imaginaryAt, generalAt, updatedComplex, multiplierComplex, isZeroComplex, luDecompComplexOf}
+use Rattle.matrix.specs.LuComplex.{updatedComplex, multiplierComplex, isZeroComplex, luDecompComplexOf}
 use Rattle.matrix.specs.Substitution.{exchanged, forwardAt, substituted, solved}
 use Rattle.state.specs.Memory.{amountsFit, newtonFit, givenFit, factorsFit, differencesFit, zeros, noughts}
 use Rattle.state.specs.Pivots.{strayAt, stray}
-use Rattle.state.specs.Result.{resultAt}
 use Rattle.state.specs.Settings.{orElse, orNone}
 use Rattle.opening.specs.Admission.{askingAt, answersReport, unfitOf}
 use Rattle.opening.specs.Opening.{nind1Of, shapeOf, wishedStep, firstStepOf, fixedOf, firstRun, massKept, clearedOf, byVerdict, openOf}
@@ -50,7 +43,7 @@ use Rattle.blocks.specs.Matrices.{failedOf, buildAt, buildRow, builtOf, complex
 use Rattle.blocks.specs.Newton.{transformAt, massSumAt, massSums, addSums, massAddAt, rightSides, solvedOf, normAt, dynoOf, updatedOf, concludedOf, slowRound, slowedOf, predictedOf, rateOf, pacedOf, judgedRound, roundOf, againOf}
 use Rattle.blocks.specs.Report.{isDue, askReport, reportedOf, isInterrupt, hnewOf, grownOf, renewedOf, arrivedOf}
 use Rattle.blocks.specs.Scale.{scaleAt, scaledOf, divideAt, weightedOf}
-use Rattle.history.specs.History.{nextPoint, Allowed, Follows, FollowsOpened}
+use Rattle.history.specs.History.{nextPoint}
 use Rattle.history.specs.Host.{isEnd, partAt, filled, modified, wrote}
 use Rattle.scalar.specs.SquareRoot.{squareOf}
 use Rattle.words.specs.Words.{double}
@@ -138,17 +131,14 @@ host j = does (j .point .request)
 abbrev pub end : Journal
 end = after start (actions host 14 start)
 
-starts : Starts (openOf sample) start
-unfolding Starts at put loop pick entryOf halve absOf maxOf minOf clampOf signumOf units unitsInOne timesAt powerOf product keeps halvedRoot rootOfForm rootOf border reaches nearestRoot sqrtOf Remains atComplex putComplex entryComplex setComplex sizeComplex negatedComplex plusComplex timesComplex squareComplex reciprocalComplex overComplex betterAt pivotRow swapped scaledAt matrixElimination.columnAt blocksJacobian.columnAt eliminated passWith passed matrixElimination.passAt blocksMatrices.passAt lastTested single worked answered divided matrixLinear.addAt blocksNewton.addAt forward takeAt back linSolveOf dividedComplex addComplexAt forwardComplex backComplex linSolveComplexOf updateAt updated reciprocal multiplier isZero luDecompOf addedComplex realAt imaginaryAt generalAt updatedComplex multiplierComplex isZeroComplex luDecompComplexOf exchanged forwardAt matrixSubstitution.backAt blocksNewton.backAt substituted solved amountsFit newtonFit givenFit factorsFit differencesFit zeros noughts strayAt stray resultAt orElse orNone askingAt answersReport unfitOf nind1Of shapeOf wishedStep firstStepOf fixedOf firstRun massKept clearedOf openingOpening.acceptedOf blocksJudge.acceptedOf byVerdict openOf verdictOf badNumber placeOf massGiven rtolGiven atolGiven partitionFails givenZero givenBelow nextOf turnAt listTurnAt scalarTurns convertedOf newtonTolOf startedOf returnedOf concludeOf repliedOf calledOf advanceBy stageSumAt askStageOf guessed guessAt guessOf beganOf attemptOf massAt jacAt rtolAt atolAt combined defectAt defectOf rowAt rowSum sideAt sidesOf solvedFirst errorAt errorOf plusAt sumAt askJacobianBy perturbation askColumnOf columnOf facOf between quotOf predictiveQuot moveAt movedOf rejectedOf judgedOf testedOf estimateOf refinedOf failedOf buildAt buildRow builtOf complexTriedOf realTriedOf triedOf passesOf transformAt massSumAt massSums addSums massAddAt rightSides solvedOf normAt dynoOf updatedOf concludedOf slowRound slowedOf predictedOf rateOf pacedOf judgedRound roundOf againOf isDue askReport reportedOf isInterrupt hnewOf grownOf renewedOf arrivedOf scaleAt scaledOf divideAt weightedOf nextPoint Allowed Follows FollowsOpened isEnd partAt filled modified wrote ieee.span ieee.climb ieee.size ieee.odd ieee.units ieee.round ieee.neg ieee.sum ieee.add ieee.sub ieee.mul ieee.div ieee.lt ieee.eq ieee.le ieee.ne ieee.ofInt ieee.isNan ieee.ofFields ieee.ofBits ieee.nanBits ieee.toBits ieee.toUnsigned ieee.fits squareOf
-starts = (refl, refl, refl)
-
-fair : plays host 14 start ≡ true
-unfolding plays sameLength ofKind next at put loop pick entryOf halve absOf maxOf minOf clampOf signumOf units unitsInOne timesAt powerOf product keeps halvedRoot rootOfForm rootOf border reaches nearestRoot sqrtOf Remains atComplex putComplex entryComplex setComplex sizeComplex negatedComplex plusComplex timesComplex squareComplex reciprocalComplex overComplex betterAt pivotRow swapped scaledAt matrixElimination.columnAt blocksJacobian.columnAt eliminated passWith passed matrixElimination.passAt blocksMatrices.passAt lastTested single worked answered divided matrixLinear.addAt blocksNewton.addAt forward takeAt back linSolveOf dividedComplex addComplexAt forwardComplex backComplex linSolveComplexOf updateAt updated reciprocal multiplier isZero luDecompOf addedComplex realAt imaginaryAt generalAt updatedComplex multiplierComplex isZeroComplex luDecompComplexOf exchanged forwardAt matrixSubstitution.backAt blocksNewton.backAt substituted solved amountsFit newtonFit givenFit factorsFit differencesFit zeros noughts strayAt stray resultAt orElse orNone askingAt answersReport unfitOf nind1Of shapeOf wishedStep firstStepOf fixedOf firstRun massKept clearedOf openingOpening.acceptedOf blocksJudge.acceptedOf byVerdict openOf verdictOf badNumber placeOf massGiven rtolGiven atolGiven partitionFails givenZero givenBelow nextOf turnAt listTurnAt scalarTurns convertedOf newtonTolOf startedOf returnedOf concludeOf repliedOf calledOf advanceBy stageSumAt askStageOf guessed guessAt guessOf beganOf attemptOf massAt jacAt rtolAt atolAt combined defectAt defectOf rowAt rowSum sideAt sidesOf solvedFirst errorAt errorOf plusAt sumAt askJacobianBy perturbation askColumnOf columnOf facOf between quotOf predictiveQuot moveAt movedOf rejectedOf judgedOf testedOf estimateOf refinedOf failedOf buildAt buildRow builtOf complexTriedOf realTriedOf triedOf passesOf transformAt massSumAt massSums addSums massAddAt rightSides solvedOf normAt dynoOf updatedOf concludedOf slowRound slowedOf predictedOf rateOf pacedOf judgedRound roundOf againOf isDue askReport reportedOf isInterrupt hnewOf grownOf renewedOf arrivedOf scaleAt scaledOf divideAt weightedOf nextPoint Allowed Follows FollowsOpened isEnd partAt filled modified wrote ieee.span ieee.climb ieee.size ieee.odd ieee.units ieee.round ieee.neg ieee.sum ieee.add ieee.sub ieee.mul ieee.div ieee.lt ieee.eq ieee.le ieee.ne ieee.ofInt ieee.isNan ieee.ofFields ieee.ofBits ieee.nanBits ieee.toBits ieee.toUnsigned ieee.fits squareOf
-fair = refl
+-- what the checker computes: the opening is accepted and leaves the talk there; the host is fair at every point; the
+-- 14th advance answers with the end. All definitions on the way are unfolded.
+ran : Starts (openOf sample) start × (plays host 14 start ≡ true) × (end .point .request ≡ request.Ended Success)
+unfolding Starts plays sameLength ofKind actions after next at put loop pick halve absOf maxOf minOf clampOf signumOf units unitsInOne timesAt powerOf product keeps halvedRoot rootOfForm rootOf border reaches nearestRoot sqrtOf atComplex putComplex entryComplex setComplex sizeComplex negatedComplex plusComplex timesComplex squareComplex reciprocalComplex overComplex passWith passed blocksMatrices.passAt lastTested single worked answered divided blocksNewton.addAt forward takeAt back linSolveOf dividedComplex addComplexAt forwardComplex backComplex linSolveComplexOf updateAt updated reciprocal multiplier isZero luDecompOf updatedComplex multiplierComplex isZeroComplex luDecompComplexOf exchanged forwardAt blocksNewton.backAt substituted solved amountsFit newtonFit givenFit factorsFit differencesFit zeros noughts strayAt stray orElse orNone askingAt answersReport unfitOf nind1Of shapeOf wishedStep firstStepOf fixedOf firstRun massKept clearedOf openingOpening.acceptedOf blocksJudge.acceptedOf byVerdict openOf verdictOf badNumber placeOf massGiven rtolGiven atolGiven partitionFails givenZero givenBelow nextOf turnAt listTurnAt scalarTurns convertedOf newtonTolOf startedOf returnedOf concludeOf repliedOf calledOf advanceBy stageSumAt askStageOf guessed guessAt guessOf beganOf attemptOf massAt jacAt rtolAt atolAt combined defectAt defectOf rowAt rowSum sideAt sidesOf solvedFirst errorAt errorOf plusAt sumAt askJacobianBy perturbation askColumnOf columnOf facOf between quotOf predictiveQuot moveAt movedOf rejectedOf judgedOf testedOf estimateOf refinedOf failedOf buildAt buildRow builtOf complexTriedOf realTriedOf triedOf passesOf transformAt massSumAt massSums addSums massAddAt rightSides solvedOf normAt dynoOf updatedOf concludedOf slowRound slowedOf predictedOf rateOf pacedOf judgedRound roundOf againOf isDue askReport reportedOf isInterrupt hnewOf grownOf renewedOf arrivedOf scaleAt scaledOf divideAt weightedOf nextPoint isEnd partAt filled modified wrote ieee.span ieee.climb ieee.size ieee.odd ieee.units ieee.round ieee.neg ieee.sum ieee.add ieee.sub ieee.mul ieee.div ieee.lt ieee.eq ieee.le ieee.ne ieee.ofInt ieee.isNan ieee.ofFields ieee.ofBits ieee.nanBits ieee.toBits ieee.toUnsigned ieee.fits squareOf
+ran = ((refl, refl, refl), refl, refl)
 
 pub success-journal : JournalOf sample end
-success-journal = computed sample start host 14 starts fair
+success-journal = computed sample start host 14 (ran .0) (ran .1)
 
 pub success-exists : end .point .request ≡ request.Ended Success
-unfolding actions after next at put loop pick entryOf halve absOf maxOf minOf clampOf signumOf units unitsInOne timesAt powerOf product keeps halvedRoot rootOfForm rootOf border reaches nearestRoot sqrtOf Remains atComplex putComplex entryComplex setComplex sizeComplex negatedComplex plusComplex timesComplex squareComplex reciprocalComplex overComplex betterAt pivotRow swapped scaledAt matrixElimination.columnAt blocksJacobian.columnAt eliminated passWith passed matrixElimination.passAt blocksMatrices.passAt lastTested single worked answered divided matrixLinear.addAt blocksNewton.addAt forward takeAt back linSolveOf dividedComplex addComplexAt forwardComplex backComplex linSolveComplexOf updateAt updated reciprocal multiplier isZero luDecompOf addedComplex realAt imaginaryAt generalAt updatedComplex multiplierComplex isZeroComplex luDecompComplexOf exchanged forwardAt matrixSubstitution.backAt blocksNewton.backAt substituted solved amountsFit newtonFit givenFit factorsFit differencesFit zeros noughts strayAt stray resultAt orElse orNone askingAt answersReport unfitOf nind1Of shapeOf wishedStep firstStepOf fixedOf firstRun massKept clearedOf openingOpening.acceptedOf blocksJudge.acceptedOf byVerdict openOf verdictOf badNumber placeOf massGiven rtolGiven atolGiven partitionFails givenZero givenBelow nextOf turnAt listTurnAt scalarTurns convertedOf newtonTolOf startedOf returnedOf concludeOf repliedOf calledOf advanceBy stageSumAt askStageOf guessed guessAt guessOf beganOf attemptOf massAt jacAt rtolAt atolAt combined defectAt defectOf rowAt rowSum sideAt sidesOf solvedFirst errorAt errorOf plusAt sumAt askJacobianBy perturbation askColumnOf columnOf facOf between quotOf predictiveQuot moveAt movedOf rejectedOf judgedOf testedOf estimateOf refinedOf failedOf buildAt buildRow builtOf complexTriedOf realTriedOf triedOf passesOf transformAt massSumAt massSums addSums massAddAt rightSides solvedOf normAt dynoOf updatedOf concludedOf slowRound slowedOf predictedOf rateOf pacedOf judgedRound roundOf againOf isDue askReport reportedOf isInterrupt hnewOf grownOf renewedOf arrivedOf scaleAt scaledOf divideAt weightedOf nextPoint Allowed Follows FollowsOpened isEnd partAt filled modified wrote ieee.span ieee.climb ieee.size ieee.odd ieee.units ieee.round ieee.neg ieee.sum ieee.add ieee.sub ieee.mul ieee.div ieee.lt ieee.eq ieee.le ieee.ne ieee.ofInt ieee.isNan ieee.ofFields ieee.ofBits ieee.nanBits ieee.toBits ieee.toUnsigned ieee.fits squareOf
-success-exists = refl
+success-exists = ran .2

@@ -1,6 +1,6 @@
--- Places where a port goes astray, each as a claim that goes through the definition it guards: tests at the very number where
--- they change, NaNs, and Identity's zeros. What is expected stands in FromRust, made by the Rust's own lines, but for the
--- claims about Identity, whose entries are read as 1.0 and 0.0 (matrix/index.rs:17-25).
+-- Places where a port goes astray, each as a claim that goes through the definition it guards: tests at the very number
+-- where they change, NaNs, and Identity's zeros. What is expected stands in FromRust, made by the Rust's own lines, but
+-- for `nan-accepted` and the claims about Identity, whose entries are read as 1.0 and 0.0 (matrix/index.rs:17-25).
 use Prim.Native.Nat.{ℕ}
 use mathlib.Core.Path.{_≡_, refl}
 use mathlib.Core.Bool.{Bool, true, false}
@@ -36,7 +36,8 @@ use Rattle.blocks.specs.Matrices.{buildAt, failedOf}
 use Rattle.blocks.specs.Attempt.{askStageOf, beganOf, attemptOf}
 use Rattle.blocks.specs.Newton.{sums, massSumAt, massSums, rateOf, pacedOf, predictedOf, slowedOf, slowRound}
 use Rattle.blocks.specs.Newton.{concludedOf, judgedRound}
-use Rattle.blocks.specs.Estimate.{defectAt, defectOf, rowAt, rowSum, sideAt, sidesOf, solvedFirst, errorAt, errorOf}
+use Rattle.blocks.specs.Estimate.{defectAt, defectOf, rowAt, rowSum, sideAt, sidesOf, solvedFirst}
+use Rattle.blocks.specs.Estimate.{errorAt, errorOf}
 use Rattle.blocks.specs.Judge.{judgedOf, testedOf, estimateOf}
 use Rattle.blocks.specs.Report.{hnewOf, grownOf, renewedOf, arrivedOf}
 use Rattle.blocks.proofs.FromRust as rust
@@ -129,7 +130,8 @@ unfolding judgedRound pacedOf rateOf failedOf pick le lt mul div ofBits toBits
 rate-edge = refl
 
 -- a prediction of 1 is slow (radau.rs:575)
-slow-edge : roundAt 6 half (runBy half rust.xend one ▸ inNumbers (setDynold one) ▸ inNumbers (setThqold half)) ≡ rust.slowAtOne
+slow-edge : roundAt 6 half (runBy half rust.xend one ▸ inNumbers (setDynold one) ▸ inNumbers (setThqold half))
+    ≡ rust.slowAtOne
 unfolding judgedRound pacedOf rateOf predictedOf slowedOf slowRound powerOf timesAt product keeps halve halvedRoot
     rootOfForm rootOf units unitsInOne squareOf border reaches nearestRoot sqrtOf maxOf minOf loop pick isNan le lt
     sub mul div ofBits toBits
@@ -190,7 +192,7 @@ alone =
 abbrev unit : List Float
 unit = one ∷ []
 
--- so an attempt whose derivative f0 is a NaN is accepted, through the solve, the error and both tests: one amount, E1 = 1
+-- so an attempt whose f0 is a NaN is accepted, through the solve, the error and both tests: one amount, E1 = 1
 nan-accepted : wayOf
     (estimateOf alone unit unit (0 ∷ []) (nan ∷ []) unit unit (one ∷ one ∷ one ∷ one ∷ [])
     (newton unit unit unit unit unit unit) .core .step)
@@ -203,7 +205,7 @@ nan-accepted = refl
 
 -- ---- Identity's zeros are multiplied out
 
--- beside an infinity or a NaN the sums are NaN, in the right sides (radau.rs:529-537) and in the estimate (radau.rs:630-633)
+-- beside an infinity or a NaN the sums are NaN: in the right sides (radau.rs:529-537), the estimate (radau.rs:630-633)
 infinity-spreads : massSums Identity 2 [] (three (one ∷ inf false ∷ []) (one ∷ nan ∷ []) (one ∷ one ∷ [])) 0
     ≡ sums nan nan (neg one)
 unfolding massSums massSumAt massAt loop pick sub mul neg ofBits

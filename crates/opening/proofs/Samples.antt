@@ -1,6 +1,6 @@
--- A scalar tolerance of 1e-6, with 1e-9 beside it, through the conversion itself: about 1e-5 after one turn, 4.6e-5 after
--- two. Under the Rust rule n amounts turn it n times, under the book rule once (01, 'Places where a port goes astray').
--- What is said stands in FromRust, made by the Rust's own lines.
+-- A scalar tolerance of 1e-6, with 1e-9 beside it, through the conversion itself: about 1e-5 after one turn, 4.6e-5
+-- after two. Under the Rust rule n amounts turn it n times, under the book rule once (01, 'Places where a port goes
+-- astray'). What is said stands in FromRust, made by the Rust's own lines.
 use Prim.Native.Nat.{ℕ}
 use mathlib.Core.Path.{_≡_, refl}
 use mathlib.Core.List.{List, [], _∷_}
@@ -43,24 +43,25 @@ abbrev scalarBy : Rule → ℕ → Conversion
 scalarBy r n = convertedOf r n (Scalars small smaller) [] [] .conversion
 
 pub scalar-once : told (scalarBy rule.Rust 1 .tolerances) ≡ rust.turnedOnce
-unfolding convertedOf scalarTurns turnAt powerOf timesAt product keeps halve halvedRoot rootOfForm rootOf loop pick le mul
-    div ofBits toBits
+unfolding convertedOf scalarTurns turnAt powerOf timesAt product keeps halve halvedRoot rootOfForm rootOf loop pick le
+    mul div ofBits toBits
 scalar-once = refl
 
 pub scalar-twice : told (scalarBy rule.Rust 2 .tolerances) ≡ rust.turnedTwice
-unfolding convertedOf scalarTurns turnAt powerOf timesAt product keeps halve halvedRoot rootOfForm rootOf loop pick le mul
-    div ofBits toBits
+unfolding convertedOf scalarTurns turnAt powerOf timesAt product keeps halve halvedRoot rootOfForm rootOf loop pick le
+    mul div ofBits toBits
 scalar-twice = refl
 
 -- by the book once, however many amounts
 pub scalar-book : (n : ℕ) → told (scalarBy rule.Book n .tolerances) ≡ rust.turnedOnce
-unfolding convertedOf scalarTurns turnAt powerOf timesAt product keeps halve halvedRoot rootOfForm rootOf loop pick le mul
-    div ofBits toBits
+unfolding convertedOf scalarTurns turnAt powerOf timesAt product keeps halve halvedRoot rootOfForm rootOf loop pick le
+    mul div ofBits toBits
 scalar-book n = refl
 
 -- the Newton tolerance comes from rtol after its turn
 pub newton-tolerance : (bitsOf (newtonTolOf number.Absent (defaultsOf .uround) (scalarBy rule.Rust 1 .tolst)) ∷ [])
     ≡ rust.newtonTolerance
 unfolding convertedOf scalarTurns turnAt newtonTolOf powerOf timesAt product keeps halve halvedRoot rootOfForm rootOf
-    units unitsInOne squareOf border reaches nearestRoot sqrtOf maxOf minOf loop pick isNan le lt mul div ofBits toBits
+    units unitsInOne squareOf border reaches nearestRoot sqrtOf maxOf minOf loop pick isNan le lt mul div ofBits
+    toBits
 newton-tolerance = refl
