@@ -360,6 +360,10 @@ NOTICING = [
         spoiled=[(8, 20, 1000000.0), (44, 20, NOT_A_NUMBER), (24, 3, NOT_A_NUMBER)],
     ),
     Run(
+        "cubic", [-1.1645090084494054], 0.3798850454428301, xend=-1.0, rtol=1.4315745518030636e-06,
+        atol=0.7154355372731651, max_steps=2, newton_maxiter=2, first_step=1.0, host=True, factor=1.1,
+    ),
+    Run(
         "cubic", [1.0], 1.0, rtol=0.01, atol=0.01, max_steps=3, max_step=0.015917831017502406,
         first_step=0.013264859181252007,
     ),
