@@ -1,4 +1,4 @@
-//! The Rust's runs through this crate: the 361 of crates/run_replay/stdin (laid out as tests/stored_runs.py says). The
+//! The Rust's runs through this crate: the 440 of crates/run_replay/stdin (laid out as tests/stored_runs.py says). The
 //! system and the `SolOut` answer each call as the Rust's host did, and see that it is the call that the Rust made:
 //! which function, at which x, with an interpolant or not. All settings, masses, lists of tolerances, Jacobians of the
 //! system's own, marks, modified points and interrupts come there.
@@ -255,7 +255,7 @@ fn every_run_makes_the_rusts_calls_and_ends_as_it_did() {
         statuses[status as usize] += 1;
         shortened += run.shortened.get();
     }
-    assert_eq!(runs, 361);
+    assert_eq!(runs, 440);
     assert!(shortened > 0, "no step was shortened");
     assert!([0, 1, 2, 3, 5].iter().all(|status| statuses[*status] > 0), "{statuses:?}");
 }
