@@ -16,12 +16,10 @@ use Rattle.opening.specs.Opening.{shapeOf}
 use Rattle.opening.specs.Admission.{askingAt, answersReport, admissionRows}
 use Rattle.opening.proofs.RowLaws.{NoneHolds}
 use Rattle.blocks.specs.Events.{Event, Logged}
-use Rattle.blocks.specs.Matrices.{runOf}
 use Rattle.blocks.specs.Advance.{Stepped, Called, repliedOf, passedOf}
-use Rattle.blocks.specs.Needs.{FactorsLong, MemoryLong}
+use Rattle.blocks.specs.Needs.{MemoryLong}
 use Rattle.history.specs.Host.{Action}
 use Rattle.history.specs.History.{Point}
-use Rattle.blocks.proofs.Settled.{settled}
 use Rattle.account.specs.Journal.{Fair, Journal}
 use Rattle.account.specs.Reading.{one}
 use Rattle.blocks.proofs.Whole.{wholeOf}
@@ -29,8 +27,8 @@ use Rattle.blocks.proofs.Ways.{Position, replied, asked, Closed}
 use Rattle.blocks.proofs.Everyway.{everyway}
 use Rattle.account.proofs.Matches.{Matches, kindOf, kindAt, placeAt, matches-kind}
 use Rattle.account.proofs.Counted.{Counted, counted-start, counted-end, counted-closed}
-use Rattle.account.proofs.Lengths.{replied-kept, advance-long}
-use Rattle.account.proofs.PivotsKept.{replied-same, called-given, advance-pivots}
+use Rattle.account.proofs.Lengths.{advance-long}
+use Rattle.account.proofs.PivotsKept.{called-given, advance-pivots}
 use Rattle.account.proofs.Bounds.{Within, WithinAt, Ceilings, bounds-fit, bounds-closed, bounds-first}
 use Rattle.account.proofs.Lands.{Lands, Reports, lands-first, lands-next, lands-closed}
 use Rattle.account.proofs.Admits.{Bounded, admits}
@@ -122,22 +120,12 @@ module _ (o : Opening) (none : NoneHolds (openingRows o)) where
     given-same : kept ≡ there .memory .given
     given-same = called-given (passedOf there .core .step) (passedOf there .core .memory)
 
-    there-shaped : runOf (there .step) .shape ≡ r .shape
-    there-shaped = replied-kept (o .n) (r .shape) (order-is (j .point) h) (r .stage) (a .reply) r (handed j a) refl handed-long .0
-
-    there-factors : FactorsLong (r .shape .n) (there .memory .factors)
-    there-factors =
-        subst (λ (f : Factors). FactorsLong (r .shape .n) f) (sym (replied-same (r .stage) (a .reply) r (handed j a)))
-        (subst (λ (k : ℕ). FactorsLong k (handed j a .factors)) (sym (order-is (j .point) h)) (handed-long .factors))
-
     -- so what every way keeps holds of it
     pub everywhere : {P : List Event → Position → Type 0} → Closed (a .reply) (kept .mass) (kept .jac) P
         → P [] (replied (r .stage) r) → P (l .log) (asked (l .core .call))
     everywhere {P} c p =
-        everyway r (a .reply) (handed j a)
-        (subst (λ (k : Given). Closed (a .reply) (k .mass) (k .jac) P) given-same c)
-        (in-kind .0) (settled r (a .reply) (handed j a) passes)
-        (subst (λ (k : ℕ). 1 ≤ k) (sym (order-is (j .point) h)) (order-within o none .0)) there-shaped there-factors p
+        everyway r (a .reply) (handed j a) passes
+        (subst (λ (k : Given). Closed (a .reply) (k .mass) (k .jac) P) given-same c) p
 
     pub counted : Counted r (l .log) (l .core .call)
     counted = counted-end r (l .log) (l .core .call) (everywhere (counted-closed r (a .reply) (kept .mass) (kept .jac)) (counted-start r))

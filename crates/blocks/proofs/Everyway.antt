@@ -28,7 +28,10 @@ use Rattle.state.specs.declared.run.Stage.the-variants as stage
 use Rattle.state.specs.declared.talk.Reply.{Reply}
 use Rattle.state.specs.declared.talk.Reply.the-variants as reply
 use Rattle.state.specs.Memory.{Memory, Newton, Factors, factors, Differences}
-use Rattle.opening.specs.Admission.{askingAt}
+use Rattle.state.specs.declared.talk.Verdict.the-variants.{Passed}
+use Rattle.opening.specs.Rows.{verdictOf}
+use Rattle.opening.specs.Admission.{askingAt, admissionRows}
+use Rattle.opening.proofs.RowLaws.{verdict-first}
 use Rattle.blocks.specs.declared.step.Round.{Round}
 use Rattle.blocks.specs.declared.step.Round.the-variants as round
 use Rattle.blocks.specs.declared.step.Step.{Step}
@@ -47,8 +50,12 @@ use Rattle.blocks.specs.Jacobian.{askJacobianBy, askColumnOf, Columned, 
 use Rattle.blocks.specs.Advance.{Stepped, startedOf, returnedOf, concludeOf, repliedOf, passedOf, calledOf}
 use Rattle.blocks.specs.Needs.{FactorsLong}
 use Rattle.blocks.proofs.Whole.{wholeOf}
+use Rattle.blocks.proofs.AdmittedLaws.{admitted}
+use Rattle.blocks.proofs.Settled.{settled}
+use Rattle.blocks.proofs.FactorsKept.{replied-same}
 use Rattle.blocks.proofs.Decompositions.{Long, set-long, set-square}
-use Rattle.blocks.proofs.Passes.{Kept, pass-kept}
+use Rattle.blocks.proofs.Passes.{pass-kept}
+use Rattle.blocks.proofs.Passes as passes
 use Rattle.blocks.proofs.Tries.{built, e1Stop, e2Stop, error-column, no-error, real-answers, complex-answers}
 use Rattle.blocks.proofs.Ways.{Position, replied, reporting, arrived, main, matrices, attempt, failing, newton, estimate, judging, asked, iterated, slowed, isModified, Closed}
 
@@ -147,7 +154,7 @@ module _ {p : Reply} {mass jac : List Float} {P : List Event → Position → Ty
   -- the factors keep their lengths from pass to pass, for the run's own shape
   module _ (shape : Shape) (low : 1 ≤ shape .n) where
     abbrev Fits : Logged Tried → Type 0
-    Fits = Kept (Square (shape .n)) set-square shape (Long (shape .n)) (λ ip k m _ q. set-long ip k m q)
+    Fits = passes.Kept (Square (shape .n)) set-square shape (Long (shape .n)) (λ ip k m _ q. set-long ip k m q)
 
     fit-factors : (l : Logged Tried) → Fits l → FactorsLong (runOf (l .core .step) .shape .n) (l .core .factors)
     fit-factors l k =
@@ -349,19 +356,106 @@ module _ {p : Reply} {mass jac : List Float} {P : List Event → Position → Ty
   replied-leads stage.DerivativeAgain r m e h = arrived-leads (c .later-again h)
   replied-leads (stage.Ended s) r m e h = never e
 
--- ---- the whole advance
+-- ---- what a run is opened with, which no rule changes
 
-module _ (r : Run) (p : Reply) (m : Memory) where
+abbrev pub Kept : Run → Run → Type 0
+Kept r q = (q .settings ≡ r .settings) × ((q .shape ≡ r .shape) × (q .fixed ≡ r .fixed))
+
+unfoldable pub KeptAt : Run → List Event → Position → Type 0
+KeptAt r es (replied s q) = Kept r q
+KeptAt r es (reporting s q) = Kept r q
+KeptAt r es (arrived q) = Kept r q
+KeptAt r es (main q) = Kept r q
+KeptAt r es (matrices q) = Kept r q
+KeptAt r es (attempt q) = Kept r q
+KeptAt r es (failing q) = Kept r q
+KeptAt r es (newton q) = Kept r q
+KeptAt r es (estimate q) = Kept r q
+KeptAt r es (judging q) = Kept r q
+KeptAt r es (asked c) = Kept r (c .run)
+
+pub kept-closed : (r : Run) (p : Reply) (mass jac : List Float) → Closed p mass jac (KeptAt r)
+unfolding KeptAt
+kept-closed r p mass jac =
+    record {
+      first-filled = λ w. w;
+      first-report = λ w. w;
+      later-report = λ w. w;
+      interrupted = λ _ w. w;
+      modified = λ x _ w. w;
+      first-told = λ mark _ _ w. w;
+      later-told = λ mark _ _ w. w;
+      first-again = λ w. w;
+      later-again = λ w. w;
+      success = λ _ w. w;
+      aims = λ hnew hhfac jac _ _ w. w;
+      onward = λ hnew h hhfac decomp jac _ _ w. w;
+      host-asked = λ _ _ w. w;
+      origin-asked = λ _ _ w. w;
+      jacobian-kept = λ _ w. w;
+      host-filled = λ w. w;
+      origin-filled = λ w. w;
+      column-filled = λ c _ w. w;
+      columns-filled = λ c _ w. w;
+      matrices-kept = λ _ w. w;
+      real-stopped = λ f k _ _ w. w;
+      complex-stopped = λ f k _ _ _ w. w;
+      decomposed = λ f _ _ _ w. w;
+      sixth = λ _ w. w;
+      another = λ h hhfac _ w. w;
+      limited = λ _ w. w;
+      shortened = λ _ _ w. w;
+      begins = λ faccon theta x _ _ w. w;
+      first-stage = λ x w. w;
+      second-stage = λ x w. w;
+      not-near = λ theta thqold faccon dynold w. w;
+      near = λ theta thqold faccon dynold w. w;
+      diverges = λ theta thqold faccon dynold _ w. w;
+      slow-rust = λ theta thqold faccon dynold dyth h hhfac _ _ w. w;
+      slow-book = λ theta thqold faccon dynold dyth h hhfac _ _ w. w;
+      used-up = λ _ w. w;
+      another-round = λ x _ w. w;
+      refines = λ w. w;
+      estimated = λ w. w;
+      refined = λ w. w;
+      accepts = λ err hnew hacc erracc _ w. w;
+      fails-first = λ err hnew h hhfac _ _ w. w;
+      fails-later = λ err hnew h hhfac _ _ w. w;
+      accepted-filled = λ offered w. w;
+    }
+
+kept-step : (r : Run) (es : List Event) (s : Step) → KeptAt r es (stepAt s) → Kept r (runOf s)
+unfolding KeptAt
+kept-step r es (step.Asked k) w = w
+kept-step r es (step.Main q) w = w
+kept-step r es (step.Matrices q) w = w
+kept-step r es (step.Attempt q) w = w
+
+-- ---- the whole advance, of a run that is admitted
+
+module _ (r : Run) (p : Reply) (m : Memory) (admits : verdictOf (admissionRows r p m) ≡ Passed) where
   -- where the reply leads: the passes work there
   abbrev there : Stepped
   there = repliedOf (r .stage) p r m .core
 
-  pub everyway : {P : List Event → Position → Type 0} → Closed p (there .memory .given .mass) (there .memory .given .jac) P
-      → askingAt (r .stage) .ended ≡ false
-      → passesOn (passedOf there .core .step) ≡ false
-      → 1 ≤ r .shape .n → runOf (there .step) .shape ≡ r .shape → FactorsLong (r .shape .n) (there .memory .factors)
+  going : askingAt (r .stage) .ended ≡ false
+  going = verdict-first (admissionRows r p m) .1 .0 admits 19 (omega arith)
+
+  shaped : runOf (there .step) .shape ≡ r .shape
+  unfolding KeptAt
+  shaped =
+      let there-kept = replied-leads (kept-closed r p [] []) {es = []} (r .stage) r m going (refl, (refl, refl)) in
+      kept-step r _ (there .step) there-kept .1 .0
+
+  factors-long : FactorsLong (r .shape .n) (there .memory .factors)
+  factors-long =
+      subst (FactorsLong (r .shape .n)) (sym (replied-same (r .stage) p r m)) (admitted r p m admits .long .factors)
+
+  pub everyway : {P : List Event → Position → Type 0}
+      → Closed p (there .memory .given .mass) (there .memory .given .jac) P
       → P [] (replied (r .stage) r)
       → P (wholeOf r p m .log) (asked (wholeOf r p m .core .call))
-  everyway c going settled low shaped long h =
-      called-leads c (passedOf there .core .step) (passedOf there .core .memory) settled
-      (passes-lead c (r .shape) low (there .step) _ shaped long (replied-leads c (r .stage) r m going h))
+  everyway c h =
+      called-leads c (passedOf there .core .step) (passedOf there .core .memory) (settled r p m admits)
+      (passes-lead c (r .shape) (admitted r p m admits .fit .low) (there .step) _ shaped factors-long
+      (replied-leads c (r .stage) r m going h))

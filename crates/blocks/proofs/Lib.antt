@@ -20,6 +20,7 @@ pub mod Decompositions
 pub mod Passes
 pub mod Anew
 pub mod Tries
+pub mod FactorsKept
 pub mod Ways
 pub mod Everyway
 pub mod FromRust
