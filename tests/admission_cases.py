@@ -4,8 +4,9 @@
     tests/admission_cases.py write   write crates/admission_cases/stdin and stdout
     tests/admission_cases.py check   make both anew and compare them with what is stored
 
-`check` ends with status 1 at the first line that differs, and shows it. The Rust has no such tests, so nothing here is held
-against it.
+The Rust has no such tests, so nothing here is held against it.
+
+Exit status: 0 nothing differs; 1 a line differs, and the first is shown; 2 wrong use.
 
 How the verdicts are made. Nothing here is a translation of the port. UNFIT below has the clauses of 01's paragraph 'Unfit means
 one of', each in its own words, on whole numbers without bounds and Python's floats; what it takes from rows 1, 2 and 4 to 8 of
@@ -28,6 +29,7 @@ always 7ff8000000000000.
 
 import sys
 
+import command
 import rust_text
 from draw import INFINITY, LARGEST, NAN, SIGN, SMALLEST, pattern_of
 from scalar_vectors import number
@@ -382,11 +384,10 @@ def summary(cases):
 
 
 def main(words):
-    if len(words) != 1 or words[0] not in ("write", "check"):
-        sys.exit("usage: tests/admission_cases.py write|check")
+    name, _ = command.act(__doc__, words, ("write", "check"), more=0)
     cases = every_case()
     insist(len(cases) <= MOST_CASES, f"{len(cases)} cases are more than the program reads")
-    if words[0] == "write":
+    if name == "write":
         STDIN.write_text("".join(cases))
         STDOUT.write_text(summary(cases))
     compare(STDIN, "".join(cases))

@@ -110,7 +110,7 @@ static void opens(const char *words, struct opening o, uint64_t number) {
     double memory[ELCHEPUR_DOUBLES(2)], at[ELCHEPUR_AT] = {9, 9};
     size_t pivots[ELCHEPUR_PIVOTS(2)] = {9, 9, 9, 9};
     uint64_t state[ELCHEPUR_STATE], told[ELCHEPUR_TOLD] = {9, 9, 9};
-    struct elchepur_memory m = parts_of(2, memory, pivots);
+    struct elchepur_memory m = elchepur_host_parts(2, memory, pivots);
     for (size_t k = 0; k < ELCHEPUR_DOUBLES(2); k++) memory[k] = 0.5;
     for (size_t k = 0; k < ELCHEPUR_STATE; k++) state[k] = 9;
     same(words,

@@ -1,9 +1,12 @@
-// A host in C: it solves models of reactions through include/elchepur.h, and prints what document 01's program `decay` prints.
+// A host in C: it solves models of reactions through include/elchepur_host.h, and prints what document 01's program
+// `decay` prints.
 //
-//     c_program differences|host    standard input has sheets that are well formed, one after the other
+//     c_program differences|host [POINTS]    standard input has sheets that are well formed, one after the other
 //
-// The Jacobian is made by the solver's differences, or by this host: by differences of its own, with a step of 2^-20 for every amount.
-// tests/c_program.py builds it and compares what it prints with the Rust's answers.
+// The Jacobian is made by the solver's differences, or by this host: by differences of its own, with a step of 2^-20
+// for every amount. With POINTS it also prints the amounts at so many points between the ends, by dense output, each in
+// a line `at`, with NaN where a shortened step leaves a point out. tests/c_program.py builds it and compares what it
+// prints with the Rust's answers.
 #include "c_host.h"
 
 #define MOST_REACTIONS 64
@@ -17,6 +20,8 @@ struct model {
     double rates[MOST_REACTIONS];
     // Two reactants and two products of each; species from 1, 0 is none.
     size_t species[MOST_REACTIONS][4];
+    // How many points are wanted between the ends, and how many were had.
+    size_t points, had;
 };
 
 // --- A sheet -------------------------------------------------------------------------------------
@@ -57,9 +62,11 @@ static int read_model(struct model *model) {
 
 // --- What a host does ----------------------------------------------------------------------------
 
-// Document 01: derivatives start at +0; in order, v is the rate times each reactant present; v is subtracted at each reactant, then added at
-// each product.
-static void derivative(const struct model *model, const double *y, double *dy) {
+// Document 01: derivatives start at +0; in order, v is the rate times each reactant present; v is subtracted at each
+// reactant, then added at each product.
+static int derivative(void *user, double x, const double *y, double *dy) {
+    const struct model *model = user;
+    (void)x;
     for (size_t i = 0; i < model->n; i++) dy[i] = 0.0;
     for (size_t r = 0; r < model->reactions; r++) {
         const size_t *species = model->species[r];
@@ -71,87 +78,76 @@ static void derivative(const struct model *model, const double *y, double *dy) {
         for (size_t k = 2; k < 4; k++)
             if (species[k]) dy[species[k] - 1] += v;
     }
+    return 0;
 }
 
-static void jacobian(const struct model *model, const double *y, double *jac) {
+static int jacobian(void *user, double x, const double *y, double *jac) {
+    const struct model *model = user;
     size_t n = model->n;
     double here[ELCHEPUR_MOST], there[ELCHEPUR_MOST], moved[ELCHEPUR_MOST];
-    derivative(model, y, here);
+    derivative(user, x, y, here);
     for (size_t column = 0; column < n; column++) {
         memcpy(moved, y, n * sizeof *y);
         moved[column] += 1.0 / 1048576.0;
-        derivative(model, moved, there);
+        derivative(user, x, moved, there);
         for (size_t row = 0; row < n; row++) jac[row * n + column] = (there[row] - here[row]) * 1048576.0;
     }
+    return 0;
 }
 
-static void fill(const struct model *model, uint64_t place, const struct elchepur_memory *m) {
-    switch (place) {
-    case ELCHEPUR_PLACE_Y_TO_F0: derivative(model, m->y, m->f0); break;
-    case ELCHEPUR_PLACE_CONT_TO_Z1: derivative(model, m->cont, m->z1); break;
-    case ELCHEPUR_PLACE_CONT_TO_Z2: derivative(model, m->cont, m->z2); break;
-    case ELCHEPUR_PLACE_CONT_TO_Z3: derivative(model, m->cont, m->z3); break;
-    case ELCHEPUR_PLACE_CONT_TO_F1: derivative(model, m->cont, m->f1); break;
-    case ELCHEPUR_PLACE_Y_TO_F_ORIGIN: derivative(model, m->y, m->f_origin); break;
-    case ELCHEPUR_PLACE_Y_PERTURBED_TO_F_PERTURBED: derivative(model, m->y_perturbed, m->f_perturbed); break;
-    default: stop("a derivative has no place", place);
-    }
+static void print_amounts(const double *y, size_t n) {
+    for (size_t i = 0; i < n; i++) printf(" %016" PRIx64, bits_of(y[i]));
+    printf("\n");
 }
 
-// Does what is asked, and gives the reply.
-static uint64_t answered(const struct model *model, const uint64_t *told, const struct elchepur_memory *m) {
-    switch (told[ELCHEPUR_TOLD_KIND]) {
-    case ELCHEPUR_KIND_DERIVATIVE:
-        fill(model, told[ELCHEPUR_TOLD_PLACE], m);
-        return ELCHEPUR_REPLY_FILLED;
-    case ELCHEPUR_KIND_JACOBIAN:
-        jacobian(model, m->y, m->jac);
-        return ELCHEPUR_REPLY_FILLED;
-    default:
-        return ELCHEPUR_REPLY_CONTINUE;
+// The points that the step has passed, in their order.
+static uint64_t report(void *user, struct elchepur_report *at) {
+    struct model *model = user;
+    double step = (model->xend - model->x0) / (double)(model->points + 1), y[ELCHEPUR_MOST];
+    for (; model->had < model->points; model->had++) {
+        double xi = model->x0 + step * (double)(model->had + 1);
+        if (at->x == model->x0 || !(step > 0.0 ? xi <= at->x : xi >= at->x)) break;
+        for (size_t i = 0; i < at->n; i++) y[i] = elchepur_sqrt(-1.0);
+        if (elchepur_host_covers(at, xi)) elchepur_host_amounts(at, xi, y);
+        printf("at %016" PRIx64, bits_of(xi));
+        print_amounts(y, at->n);
     }
+    return ELCHEPUR_REPLY_CONTINUE;
 }
 
 // --- A run ---------------------------------------------------------------------------------------
 
-static void print_result(const uint64_t *state, const struct elchepur_memory *m) {
-    uint64_t counts[ELCHEPUR_RESULT_NUMBERS], refused;
-    double floats[ELCHEPUR_RESULT_FLOATS];
-    if ((refused = elchepur_result(state, counts, floats))) stop("a result was refused", refused);
-    printf("status %" PRIu64 " accepted %" PRIu64 " rejected %" PRIu64, counts[ELCHEPUR_RESULT_STATUS], counts[ELCHEPUR_RESULT_ACCEPTED], counts[ELCHEPUR_RESULT_REJECTED]);
-    printf(" total %" PRIu64 " ode %" PRIu64 " jac %" PRIu64 " lu %" PRIu64 "\n", counts[ELCHEPUR_RESULT_TOTAL], counts[ELCHEPUR_RESULT_ODE], counts[ELCHEPUR_RESULT_JAC], counts[ELCHEPUR_RESULT_LU]);
-    printf("x %016" PRIx64 "\ny", bits_of(floats[ELCHEPUR_RESULT_X]));
-    for (size_t i = 0; i < m->n; i++) printf(" %016" PRIx64, bits_of(m->y[i]));
-    printf("\n");
+static void print_result(const struct elchepur_outcome *outcome, size_t n) {
+    static const char *const words[] = {"status", "accepted", "rejected", "total", "ode", "jac", "lu"};
+    static const size_t places[] = {
+        ELCHEPUR_RESULT_STATUS, ELCHEPUR_RESULT_ACCEPTED, ELCHEPUR_RESULT_REJECTED, ELCHEPUR_RESULT_TOTAL,
+        ELCHEPUR_RESULT_ODE, ELCHEPUR_RESULT_JAC, ELCHEPUR_RESULT_LU};
+    for (size_t k = 0; k < sizeof places / sizeof *places; k++)
+        printf("%s%s %" PRIu64, k ? " " : "", words[k], outcome->numbers[places[k]]);
+    printf("\nx %016" PRIx64 "\ny", bits_of(outcome->floats[ELCHEPUR_RESULT_X]));
+    print_amounts(outcome->reached, n);
 }
 
-static void solve(const struct model *model, int host) {
+static void solve(struct model *model, int makes_jacobian) {
     static double doubles[ELCHEPUR_DOUBLES(ELCHEPUR_MOST)];
     static size_t pivots[ELCHEPUR_PIVOTS(ELCHEPUR_MOST)];
-    uint64_t numbers[ELCHEPUR_NUMBERS], state[ELCHEPUR_STATE], told[ELCHEPUR_TOLD], refused;
-    double floats[ELCHEPUR_FLOATS], at[ELCHEPUR_AT];
-    struct elchepur_memory m = parts_of(model->n, doubles, pivots);
-    elchepur_default_settings(numbers, floats);
-    numbers[ELCHEPUR_NUMBER_MAX_STEPS] = model->max_steps;
-    numbers[ELCHEPUR_NUMBER_RULE] = model->rule;
-    numbers[ELCHEPUR_NUMBER_MASS] = 0;
-    numbers[ELCHEPUR_NUMBER_SOURCE] = !host;
-    memcpy(m.y, model->amounts, model->n * sizeof *m.y);
-    refused = elchepur_open(numbers, floats, model->n, model->x0, model->xend, 0, model->rtol, model->atol, state, told, at, ELCHEPUR_PARTS(m));
-    if (refused) {
-        printf("refused %" PRIu64 "\n", refused);
-        return;
-    }
-    while (told[ELCHEPUR_TOLD_KIND] != ELCHEPUR_KIND_ENDED) {
-        uint64_t reply = answered(model, told, &m);
-        if ((refused = elchepur_advance(state, reply, 0.0, told, at, ELCHEPUR_PARTS(m)))) stop("an advance was refused", refused);
-    }
-    print_result(state, &m);
+    struct elchepur_memory m = elchepur_host_parts(model->n, doubles, pivots);
+    struct elchepur_host host = {model, derivative, makes_jacobian ? jacobian : NULL, model->points ? report : NULL};
+    struct elchepur_problem problem =
+        elchepur_host_problem(model->n, model->x0, model->xend, model->amounts, model->rtol, model->atol);
+    struct elchepur_outcome outcome;
+    problem.numbers[ELCHEPUR_NUMBER_MAX_STEPS] = model->max_steps;
+    problem.numbers[ELCHEPUR_NUMBER_RULE] = model->rule;
+    model->had = 0;
+    if (elchepur_host_run(&problem, &host, &m, &outcome) == ELCHEPUR_HOST_REFUSED)
+        printf("refused %" PRIu64 "\n", outcome.refused);
+    else print_result(&outcome, model->n);
 }
 
 int main(int count, char **words) {
     static struct model model;
-    if (count != 2) stop("usage: c_program differences|host", 0);
+    if (count != 2 && count != 3) stop("usage: c_program differences|host [POINTS]", 0);
+    if (count == 3) model.points = strtoul(words[2], NULL, 10);
     while (read_model(&model)) solve(&model, !strcmp(words[1], "host"));
     return 0;
 }

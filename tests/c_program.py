@@ -5,8 +5,13 @@
                                        not edited since; else on their very sources, the contracts taken out, compiled by rustc
     tests/c_program.py run [FOLDER]    the same on the archive; what is not proved yet is proved first
 
-Both end with status 1 where something differs. FOLDER holds the Rust's text; tests/rust_text.py says where it is looked for otherwise. What is
-missing (rt, rustc, a compiler of C or C++, nm, the Rust's text) is said plainly, and what needs it is passed over.
+FOLDER holds the Rust's text; tests/rust_text.py says where it is looked for otherwise. What is missing (rt, rustc, a
+compiler of C or C++, nm, the Rust's text) is said plainly, and what needs it is passed over. What the sources alone
+were compiled into is called UNPROVED.
+
+Exit status: 0 nothing differs; 1 something differs, or the archive lacks the kit's mark of a proved crate; 2 wrong
+use; 4 nothing was compared: no program in C could be built, or the runs with a Jacobian of the host's own had no Rust
+beside them.
 
 The header: each function that the two mark `extern "C"` must be declared with the types that Rattle gives its parameters, and no other
 function; each place in the table of coefficients must have the name that stands there. The archive must define the same functions and no others.
@@ -17,25 +22,30 @@ The programs:
     make the Jacobian, masses, marks and modified points among them;
   - tests/c_sheets.c hands every sheet of crates/sheet_replay/stdin over, those that are refused too, and prints what is printed of it;
   - tests/c_program.c is a host of its own: it runs every sheet of crates/sheet_replay/stdin, with the answers stored there, and once more with a Jacobian of
-    the host's own, with the answers that the Rust gives then."""
+    the host's own, with the answers that the Rust gives then.
+The last three run on include/elchepur_host.h, which has what every host writes again, and whose example must print what it says there:
+  - tests/c_hosted.c replays the stored runs of the Rust once more, through its callbacks;
+  - tests/c_endings.c brings about every way in which a run can end."""
 
 import re
 import shutil
 import subprocess
 import sys
 
+import command
 import exported
+import marks
 import port
-import rust_crate
 import rust_text
 import sheet_answers
 
 ROOT = rust_text.ROOT
 HEADER = ROOT / "include" / "elchepur.h"
+HOST_HEADER = ROOT / "include" / "elchepur_host.h"
 TARGET = ROOT / "target" / "c"
 ARCHIVE = TARGET / "libelchepur.a"
 STAMPS = ROOT / "target" / "stamp"  # where rt notes what it proved
-PROGRAMS = ("c_calls", "c_replay", "c_program", "c_sheets")
+PROGRAMS = ("c_calls", "c_replay", "c_program", "c_sheets", "c_hosted", "c_endings")
 # No product and sum may become one operation: the Rust's host has two.
 FLAGS = ["-std=c99", "-O2", "-ffp-contract=off", "-Wall", "-Wextra", "-pedantic", "-Werror"]
 
@@ -151,7 +161,9 @@ def is_proved():
 
 
 def check_archive():
-    """The archive defines the header's functions and no others."""
+    """The archive is of proved crates, and defines the header's functions and no others."""
+    marks.insist(ARCHIVE)
+    print(f"the archive is proved, in the logic {marks.logics(ARCHIVE)[0][:16]}")
     if not has("nm", "the names in the archive are NOT compared with the header"):
         return
     defined = {line.split()[-1] for line in said(["nm", "-g", "--defined-only", ARCHIVE]).splitlines() if " T " in line}
@@ -195,19 +207,39 @@ def sources_compiled():
 # --- The programs --------------------------------------------------------------------------------
 
 
-def has(command, what):
-    """Whether a command is there; said where it is not."""
-    if not shutil.which(command):
-        print(f"there is no {command}, so {what}")
-    return bool(shutil.which(command))
+def has(program, what):
+    """Whether a program is there; said where it is not."""
+    if not shutil.which(program):
+        print(f"there is no {program}, so {what}")
+    return bool(shutil.which(program))
+
+
+def build_program(name, library):
+    TARGET.mkdir(parents=True, exist_ok=True)
+    said(["cc", *FLAGS, "-I", HEADER.parent, ROOT / "tests" / f"{name}.c", *library, "-o", TARGET / name])
 
 
 def build(library):
-    TARGET.mkdir(parents=True, exist_ok=True)
     for name in PROGRAMS:
-        said(["cc", *FLAGS, "-I", HEADER.parent, ROOT / "tests" / f"{name}.c", *library, "-o", TARGET / name])
-    if has("c++", "the header is NOT tried in C++"):
+        build_program(name, library)
+    example("cc", library)
+    if has("c++", "the headers are NOT tried in C++"):
         said(["c++", "-x", "c++", "-Wall", "-Wextra", "-pedantic", "-Werror", "-fsyntax-only", HEADER])
+        example("c++", library)
+
+
+def example(compiler, library):
+    """Build and run the example of the header for hosts: it prints what stands there."""
+    text = HOST_HEADER.read_text().split("*/")[0]
+    code = "\n".join(line.removeprefix(" *     ") for line in text.splitlines() if line.startswith(" *     "))
+    insist("int main(void)" in code, "the header for hosts has no example")
+    source = TARGET / f"example.{'c' if compiler == 'cc' else 'cpp'}"
+    source.write_text(code + "\n")
+    flags = ["-Wall", "-Wextra", "-pedantic", "-Werror", *(["-std=c99"] if compiler == "cc" else [])]
+    said([compiler, *flags, "-I", HEADER.parent, source, *library, "-o", TARGET / "example"])
+    printed = said([TARGET / "example"])
+    shown = re.findall(r"`([\d.]+: [\d.]+)`", text)
+    insist(shown and printed.splitlines() == shown, f"the example of the header for hosts says {shown} and prints\n{printed}")
 
 
 def first_other(wanted, got):
@@ -225,6 +257,8 @@ def run_sheets(sheets, wanted, way):
 def run_programs(folder):
     print(said([TARGET / "c_calls"]), end="")
     print(said([TARGET / "c_replay"], stdin=(ROOT / "crates" / "run_replay" / "stdin").open()), end="")
+    print(said([TARGET / "c_hosted"], stdin=(ROOT / "crates" / "run_replay" / "stdin").open()), end="")
+    print(said([TARGET / "c_endings"]), end="")
     records = sheet_answers.records_of(sheet_answers.STORED.read_bytes())
     got = said([TARGET / "c_sheets"], stdin=sheet_answers.STORED.open("rb"))
     wanted = "".join(answer for _, answer in records)
@@ -233,9 +267,7 @@ def run_programs(folder):
     formed = [(data, answer) for data, answer in records if not answer.startswith(("refused 20", "refused 21"))]
     run_sheets([data for data, _ in formed], "".join(answer for _, answer in formed), "differences")
     print(f"the {len(formed)} of them that are well formed have them through a host in C too")
-    if not (folder and rust_crate.compiler()):
-        print("so the runs with a Jacobian of the host's own are NOT compared")
-        return
+    rust_text.compared(folder)
     sheets = [data for data, answer in formed if not answer.startswith("refused")]
     answers, _ = sheet_answers.answers_of_rust(folder, sheets, host=True)
     run_sheets(sheets, "".join(answer for _, answer in answers), "host")
@@ -248,19 +280,20 @@ def library(way):
         return None
     if way == "run" or is_proved():
         return proved_archive() if has("rt", "the archive is NOT built") else None
-    print("export or printout is not proved here, or was edited since: the programs in C run on their sources, compiled by rustc; `tests/c_program.py run` proves them")
+    print("UNPROVED: export or printout is not proved here, or was edited since; the programs run on their sources,")
+    print("compiled by rustc. `tests/c_program.py run` proves them")
     return sources_compiled() if has("rustc", "they are NOT run") else None
 
 
 def main(words):
-    if len(words) not in (1, 2) or words[0] not in ("check", "run"):
-        sys.exit("usage: tests/c_program.py check|run [FOLDER]")
-    folder = rust_text.find(words[1] if len(words) == 2 else None)
+    name, folder = command.act(__doc__, words, ("check", "run"))
+    folder = rust_text.find(folder)
     check_header()
-    linked = library(words[0])
-    if linked:
-        build(linked)
-        run_programs(folder)
+    linked = library(name)
+    if not linked:
+        command.nothing_compared("no program in C is run")
+    build(linked)
+    run_programs(folder)
 
 
 if __name__ == "__main__":

@@ -1,10 +1,7 @@
-// Replays the stored runs of the Rust's own `solve` (crates/run_replay/stdin, laid out as tests/stored_runs.py says) through include/elchepur.h:
-// every reply of the Rust's host goes to elchepur_advance, and every request, with all 22 parts, and every result must be the Rust's.
+// Replays the stored runs of the Rust's own `solve` through include/elchepur.h: every reply of the Rust's host goes to
+// elchepur_advance, and every request, with all 22 parts, and every result must be the Rust's.
 // Beside each right reply it tries what is to be refused, and sees that nothing was written.
-#include "c_host.h"
-
-// The bits of a run's choices.
-enum { MAX_STEP, MIN_STEP, NEWTON_TOL, FIRST_STEP, NIND1, NIND2, NIND3, PREDICTIVE, DENSE_OUTPUT, FULL, HOST, BOOK, LISTS };
+#include "c_stored.h"
 
 struct run {
     struct elchepur_memory m;
@@ -14,49 +11,7 @@ struct run {
     size_t pivots[ELCHEPUR_PIVOTS(ELCHEPUR_MOST)];
 };
 
-static uint64_t runs, requests, refusals;
-
-static void same(const char *words, uint64_t got, uint64_t wanted) {
-    if (got == wanted) return;
-    fprintf(stderr, "run %" PRIu64 ", request %" PRIu64 " of all: %s is %" PRIx64 " and is to be %" PRIx64 "\n", runs, requests, words, got, wanted);
-    exit(1);
-}
-
-static uint64_t word(void) {
-    uint64_t read;
-    if (scanf("%" SCNx64, &read) != 1) stop("the stored runs end within a run", runs);
-    return read;
-}
-
-static void words_into(double *part, size_t count) {
-    for (size_t i = 0; i < count; i++) part[i] = double_of(word());
-}
-
-// --- All parts as one word -----------------------------------------------------------------------
-
-// As tests/runs.rs has it.
-static uint64_t with_word(uint64_t hash, uint64_t word) {
-    hash += word;
-    hash += hash << 25;
-    return hash + (hash >> 31);
-}
-
-static uint64_t with_part(uint64_t hash, const double *part, size_t count) {
-    for (size_t i = 0; i < count; i++) hash = with_word(hash, bits_of(part[i]));
-    return hash;
-}
-
-static uint64_t hash_of(const struct elchepur_memory *m) {
-    size_t n = m->n, nn = n * n;
-    const double *before[] = {m->y, m->f0, m->scal, m->cont, m->z1, m->z2, m->z3, m->f1, m->f2, m->f3, m->rtol, m->atol, m->mass, m->jac, m->e1, m->e2r, m->e2i};
-    size_t counts[] = {n, n, n, 4 * n, n, n, n, n, n, n, n, n, nn, nn, nn, nn, nn};
-    uint64_t hash = 0;
-    for (size_t k = 0; k < sizeof counts / sizeof *counts; k++) hash = with_part(hash, before[k], counts[k]);
-    for (size_t i = 0; i < 2 * n; i++) hash = with_word(hash, m->ip1[i]);
-    hash = with_part(hash, m->y_perturbed, n);
-    hash = with_part(hash, m->f_perturbed, n);
-    return with_part(hash, m->f_origin, n);
-}
+static uint64_t refusals;
 
 // --- What is refused -----------------------------------------------------------------------------
 
@@ -64,7 +19,7 @@ static struct elchepur_memory copied(const struct run *run, struct run *copy) {
     size_t n = run->m.n;
     memcpy(copy->doubles, run->doubles, ELCHEPUR_DOUBLES(n) * sizeof(double));
     memcpy(copy->pivots, run->pivots, ELCHEPUR_PIVOTS(n) * sizeof(size_t));
-    return parts_of(n, copy->doubles, copy->pivots);
+    return elchepur_host_parts(n, copy->doubles, copy->pivots);
 }
 
 // An advance that is to be refused leaves everything as it was.
@@ -135,39 +90,25 @@ static void wrong_replies(const struct run *run) {
 
 // --- A run ---------------------------------------------------------------------------------------
 
-static void set_choices(struct run *run, uint64_t choices) {
-    uint64_t *numbers = run->numbers;
-    numbers[ELCHEPUR_NUMBER_PREDICTIVE] = choices >> PREDICTIVE & 1;
-    numbers[ELCHEPUR_NUMBER_DENSE_OUTPUT] = choices >> DENSE_OUTPUT & 1;
-    numbers[ELCHEPUR_NUMBER_MASS] = choices >> FULL & 1;
-    numbers[ELCHEPUR_NUMBER_SOURCE] = !(choices >> HOST & 1);
-    numbers[ELCHEPUR_NUMBER_RULE] = choices >> BOOK & 1;
-    for (size_t k = MAX_STEP; k <= FIRST_STEP; k++) numbers[ELCHEPUR_NUMBER_MAX_STEP_GIVEN + k] = choices >> k & 1;
-    for (size_t k = NIND1; k <= NIND3; k++) numbers[ELCHEPUR_NUMBER_NIND1_GIVEN + 2 * (k - NIND1)] = choices >> k & 1;
-}
-
 // Reads an opening and opens it. Gives the number of its requests.
 static uint64_t opened(struct run *run, size_t n) {
-    double x0 = double_of(word()), xend = double_of(word()), rtol, atol;
-    uint64_t choices = word(), count;
+    static struct stored_opening read;
+    struct elchepur_problem *problem = &read.problem;
+    struct elchepur_memory *m = &run->m;
+    read_opening(&read, n);
     memset(run, 0, sizeof *run);
-    run->m = parts_of(n, run->doubles, run->pivots);
-    set_choices(run, choices);
-    run->numbers[ELCHEPUR_NUMBER_MAX_STEPS] = word();
-    run->numbers[ELCHEPUR_NUMBER_NEWTON_MAXITER] = word();
-    words_into(run->floats, ELCHEPUR_FLOATS);
-    rtol = double_of(word());
-    atol = double_of(word());
-    for (size_t k = 0; k < 3; k++) run->numbers[ELCHEPUR_NUMBER_NIND1 + 2 * k] = word();
-    count = word();
-    words_into(run->m.y, n);
-    if (choices >> FULL & 1) words_into(run->m.mass, n * n);
-    if (choices >> LISTS & 1) {
-        words_into(run->m.rtol, n);
-        words_into(run->m.atol, n);
-    }
-    same("an opening", elchepur_open(run->numbers, run->floats, n, x0, xend, choices >> LISTS & 1, rtol, atol, run->state, run->told, run->at, ELCHEPUR_PARTS(run->m)), 0);
-    return count;
+    *m = elchepur_host_parts(n, run->doubles, run->pivots);
+    memcpy(run->numbers, problem->numbers, sizeof run->numbers);
+    memcpy(run->floats, problem->floats, sizeof run->floats);
+    memcpy(m->y, read.y, n * sizeof *m->y);
+    if (problem->mass) memcpy(m->mass, read.mass, n * n * sizeof *m->mass);
+    if (problem->rtols) memcpy(m->rtol, read.rtol, n * sizeof *m->rtol);
+    if (problem->atols) memcpy(m->atol, read.atol, n * sizeof *m->atol);
+    same("an opening",
+         elchepur_open(run->numbers, run->floats, n, problem->x0, problem->xend, problem->rtols != NULL, problem->rtol,
+                       problem->atol, run->state, run->told, run->at, ELCHEPUR_PARTS(*m)),
+         0);
+    return read.count;
 }
 
 // Reads what was asked, and compares the request that is open with it. Gives the Rust's reply.
@@ -189,9 +130,9 @@ static uint64_t met(const struct run *run) {
 }
 
 static double *part_to_fill(const struct run *run) {
-    const struct elchepur_memory *m = &run->m;
-    double *parts[] = {m->jac, m->f0, m->z1, m->z2, m->z3, m->f1, m->f_origin, m->f_perturbed};
-    return parts[run->told[ELCHEPUR_TOLD_PLACE]];
+    const double *from;
+    if (run->told[ELCHEPUR_TOLD_KIND] == ELCHEPUR_KIND_JACOBIAN) return run->m.jac;
+    return elchepur_host_place(&run->m, run->told[ELCHEPUR_TOLD_PLACE], &from);
 }
 
 // Reads the Rust's reply, writes what it wrote, and advances.

@@ -1,12 +1,17 @@
 #!/usr/bin/env python3
-"""Holds the definitions to the lines of the Rust: every line of `solve` past its copies, of `interpolate` and of the difference
-`jac` is cited by one definition, or is in the table of docs/DIFFERENCES.md with a reason; none is missing, none is there twice.
+"""Holds the definitions to the lines of the Rust: every line of `solve` past its copies, of `interpolate`, of the
+coefficients, of the difference `jac`, of lu.rs and linear.rs and of `bounds` is cited by one definition, or is in the
+table of docs/DIFFERENCES.md with a reason; none is missing, none is there twice.
 
-    tests/lines.py check [FOLDER]   complain and end with status 1 where that isn't so
+    tests/lines.py check [FOLDER]   complain where that isn't so
     tests/lines.py list [FOLDER]    the table: lines of the Rust, the definition or the reason, its file
     tests/lines.py self-test        try the script on small texts and on edits of the repository's own
 
-FOLDER holds the Rust's text; tests/rust_text.py says where it is looked for otherwise. Without it only the numbers are compared.
+FOLDER holds the Rust's text; tests/rust_text.py says where it is looked for otherwise. Without it only the numbers
+are compared.
+
+Exit status: 0 all is so; 1 something is not; 2 wrong use; 4 the numbers are right, and nothing was compared with the
+Rust.
 
 A citation stands in square brackets in a comment, and the definition below it is what those lines became:
 
@@ -22,13 +27,20 @@ import collections
 import re
 import sys
 
+import command
 import rust_text
 
 ROOT = rust_text.ROOT
 TABLE = "docs/DIFFERENCES.md"
 HEADING = "## Lines of the Rust that no definition stands for"
-# the Rust's file below src/, the first line and the last
-SPANS = {"radau.rs": ("methods/radau.rs", 134, 812), "ivp.rs": ("ivp.rs", 67, 107)}
+# the Rust's file below src/, and the first line and the last of each part of it that is held
+SPANS = {
+    "radau.rs": ("methods/radau.rs", [(134, 846)]),
+    "ivp.rs": ("ivp.rs", [(67, 107)]),
+    "lu.rs": ("matrix/lu.rs", [(1, 306)]),
+    "linear.rs": ("matrix/linear.rs", [(1, 215)]),
+    "dense.rs": ("dense.rs", [(71, 79), (132, 140)]),
+}
 
 CITED = re.compile(r"\[(?:(again|alike) )?([\w/]+\.rs):(\d+)(?:-(\d+))?\]")
 LIKE_CITED = re.compile(r"\[[^\]]*\.rs\b[^\]]*\]?")
@@ -40,6 +52,7 @@ KINDS = {
     "brace": re.compile(r"\s*}(?: else {)?$"),
     "second name of a setting": re.compile(r"\s*let \w+ = self\.\w+;$"),
     "declared without a value": re.compile(r"\s*let (?:mut )?\w+(?:: \w+)?;$"),
+    "names of other files": re.compile(r"use [\w:{}, ]+;$"),
 }
 
 # `kind` is "", "again", "alike" or "left"; `what` is a definition's name, or a reason; `origin` is the range that is repeated
@@ -129,14 +142,19 @@ def runs(numbers):
     return [lines_of(*ends) for ends in found]
 
 
+def spans_of(rust, parts):
+    return f"{rust} " + " and ".join(lines_of(*part) for part in parts)
+
+
 def partition(ranges, spans):
     for r in ranges:
         if r.rust not in spans:
             yield f"{r.where}: {named(r)}: {r.rust} is not among {', '.join(spans)}"
-        elif not spans[r.rust][1] <= r.first <= r.last <= spans[r.rust][2]:
-            yield f"{r.where}: {named(r)} is no range within {lines_of(*spans[r.rust][1:])}"
-    for rust, (_, low, high) in spans.items():
-        owners = {k: [r for r in ranges if r.rust == rust and r.first <= k <= r.last] for k in range(low, high + 1)}
+        elif not any(low <= r.first <= r.last <= high for low, high in spans[r.rust][1]):
+            yield f"{r.where}: {named(r)} is no range within {spans_of(r.rust, spans[r.rust][1])}"
+    for rust, (_, parts) in spans.items():
+        held = [k for low, high in parts for k in range(low, high + 1)]
+        owners = {k: [r for r in ranges if r.rust == rust and r.first <= k <= r.last] for k in held}
         for ends in runs(k for k in owners if not owners[k]):
             yield f"{rust}:{ends} is cited nowhere"
         for ends in runs(k for k in owners if len(owners[k]) > 1):
@@ -193,7 +211,7 @@ def repository(given):
     specs = {str(p.relative_to(ROOT)): p.read_text() for p in sorted(ROOT.glob("crates/*/specs/**/*.antt"))}
     document = (ROOT / TABLE).read_text() if (ROOT / TABLE).is_file() else ""
     folder = rust_text.find(given)
-    rust = folder and {name: (folder / "src" / path).read_text().split("\n") for name, (path, _, _) in SPANS.items()}
+    rust = folder and {name: (folder / "src" / path).read_text().split("\n") for name, (path, _) in SPANS.items()}
     return specs, document, rust, SPANS
 
 
@@ -205,11 +223,12 @@ def check(given):
         return 1
     count = collections.Counter(r.kind for r in ranges)
     names = {(r.where.split(":")[0], r.what) for r in ranges if r.kind != "left"}
-    spans = " and ".join(f"{rust} {low}-{high}" for rust, (_, low, high) in SPANS.items())
+    spans = ", ".join(spans_of(rust, parts) for rust, (_, parts) in SPANS.items())
     print(
         f"{spans}: each line once, by {count['']} citations of {len(names)} definitions, {count['again']} repeated texts, "
-        f"{count['alike']} alike, {count['left']} ranges left behind" + ("" if world[2] else "; not held to the Rust's text")
+        f"{count['alike']} alike, {count['left']} ranges left behind"
     )
+    rust_text.compared(world[2], compiled=False)
     return 0
 
 
@@ -226,7 +245,8 @@ def show(given):
 
 
 RUST = {"a.rs": ["", "// sum", "s = 0;", "for i {", "    s += i;", "}", "", "// sum", "s = 0;", "t = s;", "let u;"]}
-SMALL = {"a.rs": ("a.rs", 1, 11)}
+SMALL = {"a.rs": ("a.rs", [(1, 11)])}
+PARTED = {"a.rs": ("a.rs", [(2, 6), (8, 11)])}
 GOOD = """-- a head (a.rs:1-11)
 use Nothing
 
@@ -249,7 +269,7 @@ TRIALS = [
     ("a table that is gone", GOOD, "# Head\n", "there is no heading"),
     ("definitions that are gone", "", ROWS, "a.rs:2-6 is cited nowhere"),
     ("another file", GOOD.replace("[a.rs:10]", "[b.rs:10]"), ROWS, "b.rs is not among a.rs"),
-    ("past the end", GOOD.replace("[a.rs:10]", "[a.rs:10-12]"), ROWS, "is no range within 1-11"),
+    ("past the end", GOOD.replace("[a.rs:10]", "[a.rs:10-12]"), ROWS, "is no range within a.rs 1-11"),
     ("ends exchanged", GOOD.replace("[a.rs:5-6]", "[a.rs:6-5]"), ROWS, "is no range within"),
     ("two in one comment", GOOD.replace("[a.rs:10]", "[a.rs:10] [a.rs:11]"), ROWS.replace("| a.rs: 11 | declared without a value |\n", ""), "2 ranges of its own"),
     ("a repetition alone", GOOD.replace("[a.rs:10]", "[again a.rs:10]"), ROWS, "0 ranges of its own"),
@@ -264,10 +284,19 @@ TRIALS = [
 ]
 
 
+# the same texts where only two parts of the file are held
+PARTS = [
+    ("two parts", GOOD, ROWS.replace("| a.rs: 1, 7 | blank |\n", ""), None),
+    ("a line between the parts", GOOD, ROWS.replace("1, 7", "7"), "a.rs:7 is no range within a.rs 2-6 and 8-11"),
+    ("a gap in the second part", GOOD.replace("[a.rs:10]", ""), ROWS.replace("1, 7", "8"), "a.rs:10 is cited nowhere"),
+]
+
+
 def self_test():
     failed = 0
-    for name, spec, document, expected in TRIALS:
-        faults = read({"Spec.antt": spec}, document, RUST, SMALL)[1]
+    trials = [(SMALL, *trial) for trial in TRIALS] + [(PARTED, *trial) for trial in PARTS]
+    for spans, name, spec, document, expected in trials:
+        faults = read({"Spec.antt": spec}, document, RUST, spans)[1]
         right = not faults if expected is None else any(expected in fault for fault in faults)
         failed += not right
         print(f"{'right' if right else 'WRONG'}: {name}: {'; '.join(faults) or 'no complaint'}")
@@ -289,10 +318,6 @@ def self_test():
     return 1 if failed or missed else 0
 
 
-MODES = {"check": check, "list": show}
-words = sys.argv[1:]
-if words == ["self-test"]:
-    sys.exit(self_test())
-if not words or words[0] not in MODES or len(words) > 2:
-    sys.exit(__doc__)
-sys.exit(MODES[words[0]](words[1] if len(words) > 1 else None))
+MODES = {"check": check, "list": show, "self-test": lambda _: self_test()}
+name, given = command.act(__doc__, sys.argv[1:], MODES)
+sys.exit(MODES[name](given))

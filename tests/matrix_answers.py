@@ -4,11 +4,12 @@
     tests/matrix_answers.py write [FOLDER]   write crates/matrix_replay/stdin and stdout
     tests/matrix_answers.py check [FOLDER]   make both anew and compare them with what is stored
 
-`check` ends with status 1 at the first line that differs, and shows it.
+FOLDER holds the Rust's text; tests/rust_text.py says where it is looked for otherwise. The answers are those of the
+Rust's own files, compiled unchanged around a program of ours (tests/rust_crate.py, tests/matrix_answers.rs). Without
+the text, or without rustc, `write` refuses, and `check` passes over the Rust's answers and compares all the rest.
 
-FOLDER holds the Rust's text; tests/rust_text.py says where it is looked for otherwise. The answers are those of the Rust's own
-files, compiled unchanged around a program of ours (tests/rust_crate.py, tests/matrix_answers.rs). Without the text, or without
-rustc, `write` refuses, and `check` passes over the Rust's answers and compares all the rest.
+Exit status: 0 nothing differs; 1 a line differs, and the first is shown; 2 wrong use; 4 nothing was compared with the
+Rust.
 
 The cases of refusals are no answers of the Rust's: what the numbers 1, 16, 18 and 19 stand for is taken from document 01, and a
 refusal writes nothing. They come last, and have a row of their own in the summary. In a few of them, decompositions with number 16,
@@ -33,6 +34,7 @@ decomposition, matrix, imaginary parts and pivots; else the two parts of the rig
 import subprocess
 import sys
 
+import command
 import rust_crate
 import rust_text
 from draw import INFINITY, NAN, ONE, SIGN, SPECIALS, ZERO, Draw, pattern_of
@@ -629,17 +631,15 @@ def check(folder):
         lines, rows = made(folder)
     else:
         lines, rows = made_from_stored(stored)
-        print("so the Rust's answers are NOT compared")
     compare("stdin", stored, lines)
     compare("stdout", stored_lines(SUMMARY), summary(rows))
     print(f"{len(rows)} cases are as stored")
+    rust_text.compared(folder)
 
 
 def main(words):
-    if len(words) not in (1, 2) or words[0] not in ("write", "check"):
-        sys.exit("usage: tests/matrix_answers.py write|check [FOLDER]")
-    folder = rust_text.find(words[1] if len(words) == 2 else None)
-    (write if words[0] == "write" else check)(folder)
+    name, folder = command.act(__doc__, words, ("write", "check"))
+    (write if name == "write" else check)(rust_text.find(folder))
 
 
 if __name__ == "__main__":

@@ -62,9 +62,8 @@ fn told(out: &mut String, answer: u8, doubles: &[&[f64]], pivots: &[usize]) {
     }
 }
 
-pub fn run() {
-    let mut text = String::new();
-    std::io::stdin().read_to_string(&mut text).expect("the cases");
+// The lines of all answers to these cases.
+pub fn answers(text: &str) -> String {
     let lines = &mut text.lines();
     let mut out = String::new();
     let (mut ar, mut ai, mut ip) = (Vec::new(), Vec::new(), Vec::new());
@@ -122,5 +121,11 @@ pub fn run() {
             other => panic!("{other} is no kind"),
         }
     }
-    std::io::stdout().write_all(out.as_bytes()).expect("room for the answers");
+    out
+}
+
+pub fn run() {
+    let mut text = String::new();
+    std::io::stdin().read_to_string(&mut text).expect("the cases");
+    std::io::stdout().write_all(answers(&text).as_bytes()).expect("room for the answers");
 }

@@ -1,43 +1,37 @@
 #!/usr/bin/env python3
-"""Every offered function, and by which theorem two outcomes that its contract allows for one input coincide.
+"""Every offered function, and the theorem that its contract settles its call: it asks nothing, and two outcomes that it
+allows for one input coincide.
 
     tests/offered.py list     the table: each function, the theorem, its file
-    tests/offered.py check    complain, and end with status 1, where a contract doesn't settle its outcome; first the script is tried on contracts that don't
+    tests/offered.py check    complain, and end with status 1, where a function has no such theorem; first the script is
+                              tried on theorems that are about something else
 
-A function is offered where another crate can name it: it is `pub`, and so is each module on the way to it. The outcome of a call is its result and, at exit,
-every part lent to be written. A contract has no `requires`, and settles the outcome in one of these ways:
+A function is offered where another crate can name it: it is `pub`, and so is each module on the way to it. Its theorem
+is NAME-once of its crate's proofs/Determinism.antt, and states `Settles` (crates/words/specs/Contract.antt) of what the
+kit reads off that very function, its `Kinds` and `Reads`. So the kit ties the theorem to the contract in src/: where a
+contract asks something or leaves a part open, the crate is not proved. Here it is seen that no theorem is missing.
 
-    one equation of the outcome with a definition that reads arguments and parts at entry, as r ≡ D: `one-outcome` is the theorem
-    several of them, or one of a record that the outcome stands in: a theorem NAME-once of the crate's proofs/Determinism.antt, whose two premises are the
-        contract, with variables for the outcome and for what was given, and which says of each variable for the outcome that it is the same in both
-    a relation: a theorem of RELATIONS below, which is read in the same way
-
-What a theorem calls by one variable may be a record that the contract writes out; then it is one whose fields are all given, so that equal records have equal parts."""
+Exit status: 0 every offered function has its theorem; 1 one has none; 2 wrong use."""
 
 import pathlib
 import re
 import sys
 
+import command
+
 ROOT = pathlib.Path(__file__).resolve().parent.parent
-ONE_OUTCOME = ("one-outcome", "crates/words/proofs/Outcome.antt")
-# The definitions of an advance stand apart from its code, and so does the theorem.
-STANDS_IN = {"radau": "blocks"}
-RELATIONS = {
-    "forecast::bytes::forecast": ("one-forecast", "crates/forecast/proofs/Theorem.antt"),
-    "printout::sheets::elchepur_forecast": ("one-printout", "crates/printout/proofs/Theorem.antt"),
-}
-# What these read from standard input or write to standard output, no contract can say.
+SETTLES = "use Rattle.words.specs.Contract.{Settles}"
+FILE = "crates/{}/proofs/Determinism.antt"
+# What these answer depends on standard input, which is no argument: their contracts are relations.
 UNSETTLED = {
-    "replay::told::write_summary": "writes to standard output",
     "replay::word::read_word": "reads standard input",
     "replay::word::read_words": "reads standard input",
     "replay::word::read_block": "reads standard input",
 }
 
-FUNCTION = re.compile(r'^ *pub (?:extern "C" )?fn (\w+)(?:<[^>]*>)?\(([^)]*)\)(?: -> ([^\n{]*[^\s{]))?\s*((?:(?:requires|ensures)\b[^\n]*\n\s*)*)\{', re.M)
+FUNCTION = re.compile(r'^( *)pub (?:extern "C" )?fn (\w+)\b', re.M)
 MENTIONED = re.compile(r"\bpub\b[^\n]*\bfn (\w+)")
-ENSURES = re.compile(r"ensures(?: \w+)? \{ λ (\w+)\. ⌜ (.*) ⌝ \}")
-IMPORTED = re.compile(r"^(?:ghost )?use Rattle·(\w+)(?:·specs\.specs|\.specs)\.([\w.]+)\.\{([^}]*)\}", re.M)
+OWNER = re.compile(r"^impl (\w+) \{", re.M)
 
 
 class Complaint(Exception):
@@ -49,112 +43,11 @@ def insist(fact, words):
         raise Complaint(words)
 
 
-# ---- terms: a name, or a tuple of terms that are applied; a projection stands before what it is taken from
-
-def term(tokens):
-    items, at = [], 0
-    while at < len(tokens):
-        token = tokens[at]
-        if token == "(":
-            end = closing(tokens, at)
-            items.append(term(tokens[at + 1 : end]))
-            at = end
-        elif token.startswith(".") and len(token) > 1:
-            items = [(token, single(items))]
-        else:
-            items.append(token.strip("«»"))
-        at += 1
-    return single(items)
-
-
-def single(items):
-    return items[0] if len(items) == 1 else tuple(items)
-
-
-def closing(tokens, at):
-    depth = 0
-    for place in range(at, len(tokens)):
-        depth += {"(": 1, "{": 1, ")": -1, "}": -1}.get(tokens[place], 0)
-        if depth == 0:
-            return place
-    raise Complaint("a bracket is not closed")
-
-
-def tokens_of(text):
-    return re.findall(r"[(){}]|[^\s(){}]+", text)
-
-
-def parted(tokens, sign):
-    """The tokens between the signs that stand in no bracket."""
-    parts, at = [[]], 0
-    while at < len(tokens):
-        end = closing(tokens, at) if tokens[at] in "({" else at
-        if tokens[at] == sign:
-            parts.append([])
-        else:
-            parts[-1] += tokens[at : end + 1]
-        at = end + 1
-    return parts
-
-
-def facts(tokens):
-    """The facts of a product."""
-    return [fact(part) for part in parted(tokens, "×")]
-
-
-def fact(tokens):
-    """An equation, its sign before its two sides, where no condition stands before it; or any other term."""
-    if tokens and tokens[0] == "(" and closing(tokens, 0) == len(tokens) - 1:
-        tokens = tokens[1:-1]
-    sides = parted(tokens, "≡")
-    alone = len(sides) == 2 and all(len(parted(tokens, sign)) == 1 for sign in "→⊎")
-    return ("≡", *map(term, sides)) if alone else term(tokens)
-
-
-def is_equation(it):
-    return it[0] == "≡"
-
-
 # ---- offered functions
 
-class Function:
-    def __init__(self, name, text, found):
-        self.name = name
-        self.crate = name.split("::")[0]
-        self.own, parameters, result, clauses = found.groups()
-        pairs = [pair.strip().partition(":") for pair in re.split(r",(?![^\[]*\])", parameters) if pair.strip()]
-        self.given = {left.split()[-1].lstrip("&") for left, _, _ in pairs}
-        self.written = {left.split()[-1] for left, _, kind in pairs if kind.strip().startswith("&mut") or left.startswith("&mut")}
-        self.result = bool(result)
-        self.clauses = [line.strip() for line in clauses.strip().split("\n") if line.strip()]
-        self.homes = homes(text)
-
-    def contract(self):
-        """The facts that the contract states, and the name that it has for the result."""
-        stated, name = [], None
-        for clause in self.clauses:
-            found = ENSURES.fullmatch(clause)
-            insist(found, f"has a contract in a form that is not expected: {clause[:80]}")
-            insist(name in (None, found.group(1)), "has two names for its result")
-            name = found.group(1)
-            stated += facts(tokens_of(found.group(2)))
-        insist(stated, "has no contract")
-        insist(name not in self.given, f"has {name} for its result and for an argument")
-        return stated, name
-
-    def outcome(self, name):
-        return {("now", (".exit", part)) for part in self.written} | ({name} if self.result else set())
-
-
-def homes(text):
-    """The file that each imported definition stands in."""
-    return {
-        name.strip(): ROOT / "crates" / crate / "specs" / (module.replace(".", "/") + ".antt") for crate, module, names in IMPORTED.findall(text) for name in names.split(",")
-    }
-
-
 def module_file(folder, path):
-    return next((file for file in (folder.joinpath(*path).with_suffix(".rt"), folder.joinpath(*path, "mod.rt")) if file.is_file()), None)
+    files = (folder.joinpath(*path).with_suffix(".rt"), folder.joinpath(*path, "mod.rt"))
+    return next((file for file in files if file.is_file()), None)
 
 
 def modules(folder, path=()):
@@ -168,193 +61,126 @@ def modules(folder, path=()):
         yield from modules(folder, (*path, part))
 
 
+def functions(text):
+    """The public functions of a module, each with the type that it is a method of before it, where it is one."""
+    found = list(FUNCTION.finditer(text))
+    insist(len(found) == len(MENTIONED.findall(text)), "has a function in a form that is not expected")
+    for it in found:
+        owner = [impl.group(1) for impl in OWNER.finditer(text, 0, it.start())][-1:] if it.group(1) else []
+        yield (*owner, it.group(2))
+
+
 def offered():
+    """The offered functions, each by its crate and by its path there."""
     for root in sorted(ROOT.glob("crates/*/src/lib.rt")):
-        crate = root.parent.parent.name
         for path, text in modules(root.parent):
-            read = list(FUNCTION.finditer(text))
-            insist(len(read) == len(MENTIONED.findall(text)), f"{crate}::{'::'.join(path)} has a function in a form that is not expected")
-            for found in read:
-                yield Function("::".join((crate, *path, found.group(1))), text, found)
-
-
-# ---- records whose fields are all given
-
-def makes_record(file, name):
-    """Whether the file defines `name a b = record { x = a; y = b }`, each argument in one field."""
-    found = re.search(rf"^{re.escape(name)} ([^=\n]+) = record \{{ ([^}}\n]*) \}}$", file.read_text(), re.M) if file and file.is_file() else None
-    if not found:
-        return False
-    fields = [field.partition("=")[2].strip() for field in found.group(2).split(";") if field.strip()]
-    return sorted(found.group(1).split()) == sorted(fields)
-
-
-def parts_of(function, outcome, it):
-    """The parts of the outcome that a term holds, where it is one of them, a part lent to be read, or a record of such terms."""
-    if it in outcome:
-        return {it}
-    if isinstance(it, tuple) and len(it) == 2 and it[0] == "now" and it[1][0] == ".entry" and it[1][1] not in function.written:
-        return set()
-    insist(isinstance(it, tuple) and makes_record(function.homes.get(it[0]), it[0]), f"has on the left what doesn't settle its parts: {shown(it)[:80]}")
-    return set().union(*(parts_of(function, outcome, part) for part in it[1:]))
-
-
-def shown(it):
-    return it if isinstance(it, str) else "(" + " ".join(map(shown, it)) + ")"
-
-
-def reads(it, outcome):
-    return it in outcome or isinstance(it, tuple) and (it[0] == ".exit" or any(reads(part, outcome) for part in it))
+            for own in functions(text):
+                yield root.parent.parent.name, (*path, *own)
 
 
 # ---- theorems
 
-def statement(text, name):
-    """The variables, the two premises and the conclusion of a theorem."""
-    found = re.search(rf"^( *)pub {re.escape(name)} : (.*?)\n(?=\1(?:unfolding |{re.escape(name)}\b))", text, re.M | re.S)
-    insist(found, f"has no theorem {name}")
-    header = re.findall(r"^module _ (.*?) where$", text[: found.start()], re.M)[-1:] if found.group(1) else []
-    variables = {variable for names in re.findall(r"[({]([^(){}:]+) : ", " ".join([*header, found.group(2)])) for variable in names.split()}
-    *given, one, other, conclusion = parted(tokens_of(found.group(2)), "→")
-    insist(len(given) < 2, f"has a theorem {name} with further premises")
-    return variables, facts(one), facts(other), facts(conclusion)
+def text_in(file):
+    return (ROOT / file).read_text() if (ROOT / file).is_file() else ""
 
 
-def bind(variables, pattern, it, bound, named):
-    """Reads a term as an instance of a pattern, and notes the names that both have."""
-    if pattern in variables:
-        insist(bound.setdefault(pattern, it) == it, f"is no instance of the theorem at {pattern}")
-        return
-    alike = isinstance(pattern, tuple) and isinstance(it, tuple) and len(pattern) == len(it)
-    insist(alike or pattern == it, f"is no instance of the theorem: {shown(it)[:60]} for {shown(pattern)[:60]}")
-    if alike:
-        for inner, part in zip(pattern, it):
-            bind(variables, inner, part, bound, named)
-    else:
-        named.add(it)
-
-
-def instance(function, stated, outcome, text, name):
-    """Sees that the theorem, read for this contract, says of each part of the outcome that it is the same twice."""
-    variables, one, other, conclusion = statement(text, name)
-    insist(len(stated) == len(one) == len(other), f"states {len(stated)} facts, {name} has {len(one)} and {len(other)}")
-    first, second, named = {}, {}, set()
-    for it, pattern, again in zip(stated, one, other):
-        bind(variables, pattern, it, first, named)
-        bind(variables, again, it, second, named)
-    there = homes(text)
-    for it in named:
-        insist(there.get(it) == function.homes.get(it), f"takes {it} from another file than {name}")
-    same = {it[1:] for it in conclusion if is_equation(it)}
-    settled = set()
-    for variable, it in first.items():
-        if reads(it, outcome):
-            twin = [twin for twin in second if (variable, twin) in same]
-            insist(len(twin) == 1 and second[twin[0]] == it and twin[0] not in first, f"has a theorem that doesn't say {variable} is the same twice")
-            settled |= parts_of(function, outcome, it)
-        else:
-            insist(second.get(variable, it) == it, f"is no instance of the theorem at {variable}")
-    insist(variables == {*first, *second}, f"has a theorem that asks for more: {', '.join(sorted(variables - {*first, *second}))}")
-    return settled
-
-
-def theorem(function, text_of=lambda file: (ROOT / file).read_text() if (ROOT / file).is_file() else ""):
-    """The theorem by which two outcomes coincide, and its file; or that there is none, and why."""
-    insist(not any(clause.startswith("requires") for clause in function.clauses), "asks something of its caller")
-    if function.name in UNSETTLED:
-        return "none", UNSETTLED[function.name]
-    stated, name = function.contract()
-    outcome = function.outcome(name)
-    insist(outcome, "has no outcome")
-    if function.name in RELATIONS:
-        by, file = RELATIONS[function.name]
-        settled = instance(function, stated, outcome, text_of(file), by)
-    else:
-        equations = [it for it in stated if is_equation(it) and reads(it[1], outcome)]
-        insist(not any(reads(right, outcome) for _, _, right in equations), "has a right side that reads the outcome")
-        bare = {left for _, left, _ in equations}
-        if len(equations) == 1 and bare == outcome:
-            return ONE_OUTCOME
-        by, file = function.own.replace("_", "-") + "-once", f"crates/{STANDS_IN.get(function.crate, function.crate)}/proofs/Determinism.antt"
-        settled = instance(function, equations, outcome, text_of(file), by)
-    insist(settled == outcome, f"leaves open {', '.join(sorted(shown(part) for part in outcome - settled))}")
+def theorem(crate, path, text_of=text_in):
+    """The theorem that the contract settles its call, and its file; or that there is none, and why."""
+    name = "::".join((crate, *path))
+    if name in UNSETTLED:
+        return "none", UNSETTLED[name]
+    by, file = path[-1].replace("_", "-") + "-once", FILE.format(crate)
+    text = text_of(file)
+    module = re.escape(f"use Rattle.{crate}.proofs.{'.'.join(path)} as ")
+    alias = re.findall(rf"^{module}(\S+)$", text, re.M)
+    insist(len(alias) == 1, f"is not named once in {file}")
+    stated = re.findall(rf"^pub {re.escape(by)}\s*:((?:.|\n(?!{re.escape(by)}\b))*)\n{re.escape(by)}\b", text, re.M)
+    insist(len(stated) == 1, f"has no theorem {by}")
+    parts = ("Kinds.ps", "Kinds.r", "Reads.Asked", "Reads.Post")
+    wanted = ["Settles", *(f"{alias[0]}.{part}" for part in parts)]
+    insist(stated[0].split() == wanted, f"has a theorem {by} of something else")
+    brought = re.findall(r"^use \S+ as (\S+)$|^(?:abbrev |unfoldable |pub )*(\S+) :", text, re.M)
+    insist([each for pair in brought for each in pair].count(alias[0]) == 1, f"shares the name {alias[0]} in {file}")
+    named = re.findall(r"\bSettles\b *[,}:]", text)
+    insist(len(named) == 1 and f"\n{SETTLES}\n" in text, f"has another `Settles` in {file}")
     listed = text_of(str(pathlib.PurePosixPath(file).parent / "Lib.antt"))
-    insist(f"pub mod {pathlib.PurePosixPath(file).stem}\n" in listed, f"has its theorem in {file}, which is not listed beside it")
+    insist("pub mod Determinism\n" in listed, f"has its theorem in {file}, which is not listed beside it")
     return by, file
 
 
-# ---- contracts that settle nothing, and theorems that don't apply: each must be complained of
+# ---- theorems that don't apply: each must be complained of
 
 LIBRARY = "pub mod Determinism\n"
-PAIR = """pub held-once : (n : ℕ) (a₀ : List Float) {r s : ℕ} {a b : List Float}
-    → (r ≡ sizeOf n a₀) × (a ≡ leftOf n a₀) → (s ≡ sizeOf n a₀) × (b ≡ leftOf n a₀) → (r ≡ s) × (a ≡ b)
-held-once n a₀ = each-of-two
+HELD = f"""-- A sample.
+{SETTLES}
+use Rattle.samples.proofs.part.held as held
+use Rattle.samples.proofs.part.kept as kept
+
+pub held-once : Settles held.Kinds.ps held.Kinds.r held.Reads.Asked held.Reads.Post
+held-once κs a = (tt, λ o p. one-result (o .1))
 """
-ONE = "pub held-once : (n : ℕ) (a₀ : List Float) {r s : ℕ} → r ≡ sizeOf n a₀ → s ≡ sizeOf n a₀ → r ≡ s\nheld-once n a₀ = one-outcome\n"
-RIGHT = "(r ≡ sizeOf n (now (a .entry))) × (now (a .exit) ≡ leftOf n (now (a .entry)))"
-HEAD = "pub fn held(n: usize, a: &mut [f64]) -> u64\n"
+KEPT = "samples·proofs.proofs.part.held"
 SAMPLES = [
-    ("no contract", HEAD, [], PAIR),
-    ("a demand", HEAD, ["requires { ⌜ n ≤ 3 ⌝ }", RIGHT], PAIR),
-    ("a bound alone", "pub fn held(n: usize) -> u64\n", ["r ≤ n"], PAIR),
-    ("an equation on a condition", "pub fn held(n: usize) -> u64\n", ["n ≤ 3 → r ≡ sizeOf n"], ONE),
-    ("an equation as a condition", "pub fn held(n: usize) -> u64\n", ["r ≡ sizeOf n → n ≤ 3"], ONE),
-    ("one of two equations", "pub fn held(n: usize) -> u64\n", ["r ≡ sizeOf n ⊎ r ≡ 0"], ONE),
-    ("a result that may be anything", "pub fn held(n: usize) -> u64\n", ["r ≡ r"], PAIR),
-    ("a right side that reads the part at exit", HEAD, ["(r ≡ sizeOf n (now (a .exit))) × (now (a .exit) ≡ leftOf n (now (a .entry)))"], PAIR),
-    ("a part of which nothing is said", HEAD, ["r ≡ sizeOf n (now (a .entry))"], ONE),
-    ("a result of which nothing is said", HEAD, ["now (a .exit) ≡ sizeOf n (now (a .entry))"], ONE),
-    ("a result seen through a function", "pub fn held(n: usize) -> u64\n", ["parity r ≡ parity n"], PAIR),
-    ("another definition than the theorem's", HEAD, [RIGHT.replace("sizeOf", "lengthOf")], PAIR),
-    ("a definition of the same name from elsewhere", HEAD, [RIGHT], "use Rattle.dense.specs.Interpolate.{sizeOf}\n" + PAIR),
-    ("other arguments than the theorem's", HEAD, [RIGHT.replace("leftOf n", "leftOf 0")], PAIR),
-    ("a theorem that forgets a part", HEAD, [RIGHT], PAIR.replace(" × (a ≡ b)\n", "\n")),
-    ("a theorem of one outcome", HEAD, [RIGHT], PAIR.replace("(s ≡", "(r ≡").replace("(r ≡ s)", "(r ≡ r)")),
-    ("a theorem whose second input is an outcome", HEAD, [RIGHT], PAIR.replace("(s ≡ sizeOf n a₀)", "(s ≡ sizeOf n b)")),
-    ("a theorem on a condition", HEAD, [RIGHT], PAIR.replace("(n : ℕ)", "(n : ℕ) (p : n ≤ 32)")),
-    ("a theorem with a premise more", HEAD, [RIGHT], PAIR.replace("    → (r", "    → n ≤ 32 → (r")),
-    ("a theorem by another name", HEAD, [RIGHT], PAIR.replace("held", "kept")),
+    ("no theorem", HELD.replace("held-once", "kept-once")),
+    ("a private theorem", HELD.replace("pub held-once", "held-once")),
+    ("another function's contract", HELD.replace("held.Reads.Post", "kept.Reads.Post")),
+    ("what another function asks", HELD.replace("held.Reads.Asked", "kept.Reads.Asked")),
+    ("another function under this one's name", HELD.replace("part.held as", "part.other as")),
+    ("a function of that name in another module", HELD.replace("proofs.part.held as", "proofs.whole.held as")),
+    ("a function of that name in another crate", HELD.replace(KEPT, "others.proofs.part.held")),
+    ("two functions under one name", HELD.replace("kept as kept", "kept as held")),
+    ("a name that is defined anew", HELD.replace("\npub held", "\nabbrev held : Type 0\n\npub held")),
+    ("a premise more", HELD.replace(": Settles", ": (n : ℕ) → Settles")),
+    ("another conclusion", HELD.replace(": Settles", ": Allows")),
+    ("a definition of that name from elsewhere", HELD.replace("words.specs.Contract", "samples.specs.Contract")),
+    ("a definition of that name beside it", HELD.replace("\npub held", "\nabbrev Settles : Type 0\n\npub held")),
 ]
 
 
-def sample(head, clauses, text):
-    lines = "".join(f"    {clause}\n" if clause.startswith("requires") else f"    ensures {{ λ r. ⌜ {clause} ⌝ }}\n" for clause in clauses)
-    source = f"{head}{lines}{{\n"
-    found = FUNCTION.search(source)
-    insist(found, "a sample is not read")
-    return theorem(Function("samples::held", source, found), lambda file: LIBRARY if file.endswith("Lib.antt") else text)
+def sample(text, library=LIBRARY):
+    return theorem("samples", ("part", "held"), lambda file: library if file.endswith("Lib.antt") else text)
+
+
+def complained(attempt):
+    try:
+        attempt()
+    except Complaint:
+        return True
+    return False
 
 
 def tried():
     """Sees that the right sample passes and that every wrong one is complained of."""
-    sample(HEAD, [RIGHT], PAIR)
-    for what, *wrong in SAMPLES:
-        try:
-            sample(*wrong)
-        except Complaint:
-            continue
-        sys.exit(f"offered: {what} passes")
+    sample(HELD)
+    sample(HELD.replace("once : Settles", "once\n    : Settles"))
+    for what, wrong in SAMPLES:
+        insist(wrong != HELD and complained(lambda: sample(wrong)), f"{what} passes")
+    insist(complained(lambda: sample(HELD, "pub mod Wrong\n")), "a file that is not listed passes")
+    insist(complained(lambda: list(functions("pub const fn held() {}\n"))), "a function in another form passes")
+    method = "impl Held {\n    pub fn of() {}\n}\npub fn by() {}\n"
+    insist(list(functions(method)) == [("Held", "of"), ("by",)], "a method is misread")
 
 
 def main():
-    if sys.argv[1:] not in (["list"], ["check"]):
-        sys.exit(__doc__)
+    act, _ = command.act(__doc__, sys.argv[1:], ("list", "check"), more=0)
     tried()
     rows, complaints = [], []
-    for function in offered():
+    for crate, path in offered():
+        name = "::".join((crate, *path))
         try:
-            rows.append((function.name, *theorem(function)))
+            rows.append((name, *theorem(crate, path)))
         except Complaint as complaint:
-            complaints.append(f"{function.name} {complaint}")
-    complaints += [f"{name} is listed here and is not offered" for name in {*RELATIONS, *UNSETTLED} - {row[0] for row in rows}]
-    if sys.argv[1] == "list":
+            complaints.append(f"{name} {complaint}")
+    complaints += [f"{name} is listed here and is not offered" for name in UNSETTLED.keys() - {row[0] for row in rows}]
+    if act == "list":
         for name, by, where in rows:
             print(f"{name:45} {by:35} {where}")
     for complaint in complaints:
         print(f"offered: {complaint}")
-    directly = sum(row[1] == ONE_OUTCOME[0] for row in rows)
-    open_ = sum(row[1] == "none" for row in rows)
-    print(f"{len(rows)} offered functions ask nothing: by `one-outcome` {directly} have one outcome for one input, by theorems of their own {len(rows) - directly - open_}; {open_} read standard input or write standard output")
+    unsettled = sum(by == "none" for _, by, _ in rows)
+    settled = len(rows) - unsettled
+    print(f"{len(rows)} offered functions: of {settled} a theorem over the contract itself says that it asks nothing")
+    print(f"and allows one outcome for one input; {unsettled} read standard input, by relations")
     sys.exit(1 if complaints else 0)
 
 

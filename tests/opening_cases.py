@@ -4,8 +4,11 @@
     tests/opening_cases.py write [FOLDER]   write crates/opening_cases/stdin and stdout
     tests/opening_cases.py check [FOLDER]   make both anew and compare them with what is stored
 
-`check` ends with status 1 at the first line that differs, and shows it. Both hold the answers against the Rust's own lines
-where these and rustc are there. FOLDER holds the Rust's text; tests/rust_text.py says where it is looked for otherwise.
+Both hold the answers against the Rust's own lines where these and rustc are there. FOLDER holds the Rust's text;
+tests/rust_text.py says where it is looked for otherwise.
+
+Exit status: 0 nothing differs; 1 a line differs, and the first is shown; 2 wrong use; 4 nothing was compared with the
+Rust.
 
 How the answers are made. Nothing here is a translation of the port. Which row refuses is worked out from the words of document
 01's table (`ROWS` below), on whole numbers and Python's floats. What an accepted opening answers follows radau.rs 177-264:
@@ -42,6 +45,7 @@ import shutil
 import subprocess
 import sys
 
+import command
 import rust_text
 from draw import INFINITY, LARGEST, NAN, ONE, SIGN, SMALLEST, SMALLEST_NORMAL, UNIT, Draw, pattern_of
 from scalar_vectors import larger, number, smaller, two_thirds
@@ -809,12 +813,9 @@ def wanted_of_rust(o, row):
 
 
 def compare_rust(cases, folder):
-    """Holds the answers against the Rust's own lines, and says plainly where that can't be done."""
+    """Holds the answers against the Rust's own lines, where that can be done."""
     compiler = shutil.which("rustc")
-    if not compiler:
-        print("there is no rustc")
     if not (folder and compiler):
-        print("so the answers are NOT compared with the Rust's own lines")
         return
     judged = [(o, row) for o in cases.values() if (row := rust_row(o)) is not None]
     text = "".join(" ".join(f"{word:016x}" for word in rust_words(o)) + "\n" for o, _ in judged)
@@ -858,13 +859,13 @@ def check(cases):
 
 
 def main(words):
-    if len(words) not in (1, 2) or words[0] not in ("write", "check"):
-        sys.exit("usage: tests/opening_cases.py write|check [FOLDER]")
+    name, folder = command.act(__doc__, words, ("write", "check"))
     cases = every_case()
     insist(len(cases) <= MOST_CASES, f"{len(cases)} cases are more than the program reads")
-    folder = rust_text.find(words[1] if len(words) == 2 else None)
+    folder = rust_text.find(folder)
     compare_rust(cases, folder)
-    (write if words[0] == "write" else check)(cases)
+    (write if name == "write" else check)(cases)
+    rust_text.compared(folder)
 
 
 if __name__ == "__main__":

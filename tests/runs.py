@@ -4,8 +4,10 @@
     tests/runs.py check [FOLDER]     run both and compare every request
     tests/runs.py branches [FOLDER]  print how often each branch of the Rust is taken, and each of the advance
 
-`check` ends with status 1 where a run differs, and shows where. FOLDER holds the Rust's text; tests/rust_text.py says where it
-is looked for otherwise. Without the text, or without rustc, `check` says that nothing was compared.
+FOLDER holds the Rust's text; tests/rust_text.py says where it is looked for otherwise.
+
+Exit status: 0 nothing differs; 1 a run differs, and it is shown where; 2 wrong use; 4 nothing was compared: the
+Rust's text or rustc is not there.
 
 How a run is had. A crate is made below target/rust/runs around the Rust's own files: tests/rust_solve.py says what of them is changed. Each power goes to
 document 01's power routine (tests/powers.rs has the halving written plainly).
@@ -17,8 +19,8 @@ another kind, a state that is unfit, and past the end any reply: 15, 13 and 14, 
 import subprocess
 import sys
 
+import command
 import port
-import rust_crate
 import rust_solve
 import rust_text
 from draw import pattern_of
@@ -340,11 +342,357 @@ def runs_of_noise():
     return found
 
 
+# Each notices a slip in the Rust's text that no other stored run notices (tests/slips.py). They were found by drawing
+# openings and hosts, and by moving one number to where the Rust goes another way.
+NOTICING = [
+    Run(
+        "constant", [1.4075782613523384, 2.0, 1.0], 1.0, 1.0, 22.908461556444617, rtol=1.1550442095597626e-05,
+        atol=3.276276525514382e-10, max_steps=8, scale_min=0.001, scale_max=1000000.0, first_step=0.125, nind2=1,
+        nind3=0, predictive=False, mass=[0.0, 0.0, 0.0, 0.0, 0.0, 0.0, 0.0, 0.0, 0.0],
+        spoiled=[(13, 1, 1.0), (40, 1, -0.0), (17, 2, NOT_A_NUMBER)],
+    ),
+    Run(
+        "constant", [0.5], 1.669246383097098e-164, rtol=2.3546159771763715e-05, atol=0.00019869365820076733,
+        max_steps=2, max_step=0.1, newton_tol=0.0, first_step=1.5, nind2=0, nind3=0, host=True,
+        spoiled=[(1, 3, 1000.0)],
+    ),
+    Run(
+        "constant", [0.0], 9.803146248550826e-165, rtol=0.9548044277593682, atol=0.0006206315996743471,
+        max_steps=6, newton_tol=5e-324, first_step=0.25, dense_output=False, host=True, factor=2.0,
+        spoiled=[(8, 20, 1000000.0), (44, 20, NOT_A_NUMBER), (24, 3, NOT_A_NUMBER)],
+    ),
+    Run(
+        "cubic", [-1.1645090084494054], 0.3798850454428301, xend=-1.0, rtol=1.4315745518030636e-06,
+        atol=0.7154355372731651, max_steps=2, newton_maxiter=2, first_step=1.0, host=True, factor=1.1,
+    ),
+    Run(
+        "cubic", [1.0], 1.0, rtol=0.01, atol=0.01, max_steps=3, max_step=0.015917831017502406,
+        first_step=0.013264859181252007,
+    ),
+    Run(
+        "cubic", [1.0], 1.0, rtol=0.01, atol=0.01, max_steps=8, newton_maxiter=4, max_step=0.05290976671130266,
+        first_step=0.04582259444687793, spoiled=[(11, 3, -1000000.0)],
+    ),
+    Run(
+        "forced", [1.0], 1.0, xend=0.2525014858483433, rtol=0.01, atol=0.01, max_steps=8, newton_maxiter=2,
+        first_step=0.23884702362929622, nind2=1, spoiled=[(13, 1, 100.0)],
+    ),
+    Run(
+        "forced", [2.0], 4.476349858280224, rtol=9.148542103033465e-08, atol=0.00010910613790111253, max_steps=4,
+        min_step=0.1, newton_tol=0.04828878743730142, first_step=0.25, nind2=1, nind3=0, dense_output=False,
+        host=True, mass=[0.0], factor=0.7,
+    ),
+    Run(
+        "forced", [2.0], 0.5899878249795002, xend=-1.0, rtol=1.1526697189276518e-05, atol=8.73622301311689e-09,
+        max_steps=8, newton_maxiter=1, uround=1.1904226052408615e-08, newton_tol=0.0, nind2=1, nind3=0,
+        predictive=False, mass=[1.0],
+        reports=[moved(0.2625118160762505), moved(0.47205487380902544), modified(0.01, 0.1)],
+        spoiled=[(43, 1, 0.0)],
+    ),
+    Run(
+        "forced", [1.0], 1.0, xend=0.4799601589629867, rtol=0.01, atol=0.01, max_steps=8, newton_maxiter=2,
+        first_step=0.2947498890421514, nind2=1, spoiled=[(9, 3, 10.0)],
+    ),
+    Run(
+        "index2", [0.0, 0.0], rtol=0.08078828502323455, atol=0.0919009085291476, max_steps=3,
+        uround=1.9122932745992478e-13, scale_min=0.9, scale_max=1.1, newton_tol=0.0, first_step=0.5, nind1=1,
+        nind2=1, dense_output=False, host=True, mass=[1.0, 0.0, 0.0, 0.0], spoiled=[(18, 1, 1000.0)],
+    ),
+    Run(
+        "index3", [0.0, 0.0, 0.0], rtol=[1.8096564940695488e-08, 0.010601189674159676, 0.02962817298474534],
+        atol=[7.645299152081125e-09, 0.0001644319282903311, 7.789708800567361e-08], max_steps=10,
+        newton_maxiter=4, max_step=0.3444159272609677, nind1=1, nind2=1, nind3=1, predictive=False,
+        dense_output=False, host=True, mass=[1.0, 0.0, 0.0, 0.0, 1.0, 0.0, 0.0, 0.0, 0.0],
+        spoiled=[(13, 3, 7.407463621981464), (12, 1, 1.0)],
+    ),
+    Run(
+        "linear", [-1.0], -1000.0, xend=-1.0, rtol=0.0012068884931805558, max_steps=6, newton_maxiter=3,
+        newton_tol=1000000000.0, first_step=0.21430735301496107, nind2=1, nind3=0, host=True, mass=[1.0],
+        factor=0.9, reports=[modified(0.01, 0.1), INTERRUPT], spoiled=[(15, 20, NOT_A_NUMBER)],
+    ),
+    Run(
+        "linear", [0.0, 0.0], 0.3, 1.0, 0.2, -0.5, xend=-4.0, max_steps=2, first_step=0.19880831673162935,
+        host=True, mass=[1.0, 1.0, 0.0, 1.0], factor=1.8578062109858262,
+    ),
+    Run(
+        "linear", [0.5], -11.422511183570158, xend=1.0513749873197713, rtol=0.0005933715090356143,
+        atol=3.312558277998567e-08, max_steps=8, newton_maxiter=6, scale_min=0.9, scale_max=1.1,
+        first_step=1.5996301470976177e-06, host=True, factor=0.3,
+        reports=[modified(0.0, 1.0), moved(0.6839312220843649), moved(0.7611414386007059), INTERRUPT],
+    ),
+    Run(
+        "linear", [1.0], -1.0, max_steps=4, newton_tol=1000000000.0, mass=[0.0],
+        spoiled=[(0, 1, 0.001001), (3, 3, 0.0), (6, 1, 0.001001)],
+    ),
+    Run(
+        "linear", [1.0], -1.0, max_steps=4, scale_max=1000000.0, newton_tol=1000000000.0, mass=[0.0],
+        spoiled=[(0, 1, 0.0010009999999999997), (3, 3, 0.0), (6, 1, 0.0)],
+    ),
+    Run(
+        "linear", [1.0], -1.0, max_steps=4, newton_tol=1.0, mass=[0.0],
+        spoiled=[(3, 3, 7.0), (6, 3, 0.006999999999999998)],
+    ),
+    Run(
+        "linear", [1.0], -1.0, max_steps=3, newton_maxiter=3, max_step=0.275, newton_tol=-0.0, first_step=0.25,
+        mass=[0.0],
+        spoiled=[(0, 1, 0.0), (3, 3, 1.0), (6, 3, 0.0), (9, 1, 0.0), (10, 3, 1.0), (13, 3, 0.9), (16, 3, 0.8), (19, 99, 0.0)],
+    ),
+    Run("linear", [1.0], -1.0, max_steps=4, newton_tol=1.0, mass=[0.0], spoiled=[(3, 3, 1.0), (6, 3, 0.001)]),
+    Run(
+        "linear", [1.0], -1.0, max_steps=4, newton_tol=1.0, mass=[0.0],
+        spoiled=[(3, 3, 1.0), (6, 3, 0.9899999999999999)],
+    ),
+    Run(
+        "mild_noise", [0.5, 0.0], 92980.0, 0.07913114091920069, xend=10.0, rtol=3.1939134828201555e-05,
+        atol=1.7075543221503465e-06, max_steps=4, scale_min=0.01, scale_max=100.0, min_step=0.1, nind2=1,
+        nind3=1, predictive=False, host=True, mass=[5e-324, 0.0, 0.0, 1.0], factor=0.0,
+        reports=[CONTINUE, modified(-0.1, 1.0)],
+    ),
+    Run(
+        "noise", [0.0, -0.8873619519200093, -1.0], 81488.0, max_steps=1, safety_factor=0.8154623491047129,
+        nind2=0, nind3=0, dense_output=False, reports=[moved(0.2851394914136285)],
+    ),
+    Run(
+        "noise", [-1.0, 2.0], 51399.0, rtol=[8.72974667380172e-07, 7.4888150122716875e-06],
+        atol=[1.2007787956680693e-06, 0.004497174907243097], max_steps=4, safety_factor=0.7581833874294666,
+        newton_tol=1000000000.0, first_step=0.001683136059955876, nind2=1, nind3=0, mass=[1.0, 0.0, 0.0, 0.0],
+        reports=[moved(0.9225176306975846), CONTINUE],
+        spoiled=[(14, 20, 1000000.0), (20, 1, -1000000.0), (3, 6, -1000000.0)],
+    ),
+    Run(
+        "robertson", [1.0, 0.0, 0.0], 0.0, max_steps=6, scale_min=0.01, scale_max=100.0,
+        first_step=0.011537638822704423, nind2=0, nind3=1, predictive=False,
+        reports=[CONTINUE, modified(0.0, 1.0), modified(-0.1, 1.0)],
+    ),
+    Run("rotation", [1.0, 0.5, 0.25], 2.0, xend=0.25, max_steps=4, first_step=0.5, nind2=2, host=True),
+    Run(
+        "square", [2.0], -3.5713052833388046, rtol=0.8860218580845964, atol=9.577762005205305e-06, max_steps=8,
+        max_step=0.1, newton_tol=0.009393745408302604, first_step=0.5, nind2=1, nind3=0, predictive=False,
+        mass=[5e-324], spoiled=[(31, 1, 5.536328354553163), (0, 2, -1.4893883670913546), (46, 6, -1000000.0)],
+    ),
+    Run(
+        "zero", [1.0], xend=10.0, max_steps=4, scale_min=0.0001, scale_max=1000000.0, first_step=0.05, host=True,
+        spoiled=[(6, 1, 30000000.0)],
+    ),
+    Run(
+        "zero", [1.0, 1.0], xend=100.0, max_steps=3, first_step=6.5, nind2=1, host=True,
+        mass=[5e-324, 0.0, 0.0, 5e-324],
+    ),
+    Run(
+        "zero", [1.0], xend=10.0, max_steps=3, safety_factor=0.8, scale_min=1e-07, scale_max=1000000.0,
+        first_step=0.3, spoiled=[(6, 1, 1e+20)],
+    ),
+    Run("zero", [1.0], x0=1.1, xend=2.1, max_steps=1, uround=0.0013, first_step=0.014300000000000002),
+    Run(
+        "zero", [1.0], xend=0.50005, max_steps=4, scale_min=0.0001, scale_max=1000000.0, max_step=0.5,
+        first_step=0.5,
+    ),
+    Run("zero", [1.0], x0=0.1, max_steps=6, max_step=0.3, first_step=0.3, dense_output=False, reports=[mark(0.4)]),
+    Run(
+        "constant", [1.0], 4.542497366459236e-160, xend=0.5435928955848864, rtol=5.63949210703925e-07,
+        atol=0.00012251034911709864, max_steps=6, newton_maxiter=5, uround=1e-06, scale_min=0.5, scale_max=1.3,
+        newton_tol=5e-324, nind2=0, nind3=0, book=True, mass=[0.26164996219656955],
+        reports=[modified(-0.1, 1.5), CONTINUE, mark(0.390575043260596)],
+        spoiled=[(43, 1, 1000.0), (29, 2, 0.001)],
+    ),
+    Run(
+        "constant", [0.0], 4.285740320851619e-165, x0=0.16861659587320244, xend=-1.0,
+        rtol=1.4141700545474276e-08, atol=0.0004528687299554, max_steps=10, newton_maxiter=5, newton_tol=1e-162,
+        first_step=0.5, predictive=False, dense_output=False, host=True, book=True, mass=[-0.07241778239631036],
+        factor=0.99,
+    ),
+    Run(
+        "cubic", [1.0], 1.0, rtol=0.01, atol=0.01, max_steps=3, max_step=0.03355915416734428,
+        first_step=0.027965961806120238, book=True,
+    ),
+    Run(
+        "cubic", [1.0], 1.0, rtol=0.01, atol=0.01, max_steps=3, max_step=0.035915460210848904,
+        first_step=0.02992955017570742, book=True,
+    ),
+    Run(
+        "cubic", [1.0], 1.0, rtol=0.01, atol=0.01, max_steps=8, newton_maxiter=10, max_step=0.03638847718613322,
+        first_step=0.03503874560017588, nind2=1, book=True, spoiled=[(23, 6, 1000.0)],
+    ),
+    Run(
+        "cubic", [2.0], 2.5631419403080273, xend=0.8960553773195885, rtol=0.0033650420446706447,
+        atol=0.001595805404948062, max_steps=3, scale_min=0.001, scale_max=1000000.0, newton_tol=1e+300,
+        first_step=0.5, predictive=False, host=True, book=True, factor=1.0398945950264282,
+    ),
+    Run(
+        "cubic", [1.0, 2.0, 2.0], 5.466712910784259, max_steps=1, uround=4.1815770184919245e-15, max_step=0.3,
+        first_step=0.5, book=True, mass=[5e-324, 0.0, 0.0, 0.0, 1.0, 0.0, 0.0, 0.0, 1.0],
+    ),
+    Run(
+        "cubic", [1.0], 1.0, rtol=0.01, atol=0.01, max_steps=8, max_step=0.03842671998133458,
+        first_step=0.03718058807454526, book=True, spoiled=[(10, 20, 1000.0)],
+    ),
+    Run(
+        "cubic", [0.5], 1.5649200465216426, xend=1.0543678381211048, max_steps=5, first_step=0.125, nind2=0,
+        nind3=1, book=True, spoiled=[(45, 3, INF), (32, 1, -1000000.0), (39, 20, 1.0)],
+    ),
+    Run("forced", [1.0], 50.0, max_steps=3, book=True, reports=[CONTINUE, moved(-INF)]),
+    Run("forced", [1.0], 50.0, max_steps=12, book=True, reports=[INTERRUPT]),
+    Run(
+        "forced", [1.0], 1.0, xend=0.33060767683668996, rtol=0.01, atol=0.01, max_steps=8, newton_maxiter=2,
+        first_step=0.2862481946125218, book=True, spoiled=[(10, 3, 1000.0)],
+    ),
+    Run(
+        "forced", [0.0, 1.0], 7131.553700576165, xend=0.3, rtol=[1.1392122538764811e-07, 0.014668176451561302],
+        atol=[3.0376431664640795e-08, 1.593554810861168e-07], max_steps=5, uround=0.0015932531070125585,
+        first_step=0.3, nind2=2, nind3=0, predictive=False, host=True, book=True, mass=[1.0, 0.0, 0.0, 1.0],
+        factor=2.0, reports=[CONTINUE, INTERRUPT, moved(0.40308974775613216), CONTINUE],
+        spoiled=[(44, 2, 1e-160)],
+    ),
+    Run(
+        "index3", [0.0, 0.0, 0.0], xend=0.3, rtol=4.008714383350679e-06, atol=0.08951491719121295, max_steps=4,
+        scale_max=1000000.0, newton_tol=1000000000.0, first_step=0.125, nind1=1, nind2=1, nind3=1, book=True,
+        mass=[1.0, 0.0, 0.0, 0.0, 1.0, 0.0, 0.0, 0.0, 0.0], spoiled=[(8, 6, 1.0)],
+    ),
+    Run(
+        "linear", [1.0], -1.0, max_steps=3, newton_maxiter=3, max_step=0.275, newton_tol=-0.0, first_step=0.25,
+        book=True, mass=[0.0],
+        spoiled=[(0, 1, 0.0), (3, 3, 1.0), (6, 3, 0.0), (9, 1, 0.0), (10, 3, 1.0), (13, 3, 0.5), (16, 3, 0.25), (19, 99, 0.0)],
+    ),
+    Run(
+        "linear", [0.0, 0.0], 1.0, 2.6810828736277523, -0.5, 0.0, xend=4.0, max_steps=1, first_step=1.0,
+        host=True, book=True, mass=[0.0, 1.0, 0.0, -0.0],
+    ),
+    Run(
+        "linear", [0.0, 0.0], 1.0, 0.0, 0.0, 1.0, xend=-4.0, max_steps=2, first_step=0.5195307314203781,
+        host=True, book=True, factor=0.7109248852514963,
+    ),
+    Run(
+        "linear", [0.0], 1.0, xend=-4.0, max_steps=2, first_step=0.7681004245165232, host=True, book=True,
+        factor=0.4808581193691462,
+    ),
+    Run(
+        "linear", [1.0], -1.0, max_steps=4, scale_max=1000000.0, newton_tol=1000000000.0, book=True, mass=[0.0],
+        spoiled=[(0, 1, 0.0010009999999999997), (3, 3, 0.0), (6, 1, 0.0)],
+    ),
+    Run(
+        "linear", [0.0, 0.0], 1.0, 1.0, 1.0, 0.2, xend=-4.0, max_steps=2, first_step=0.7681004245165232,
+        host=True, book=True, mass=[2.0, 1.0, 1.0, 1.0], factor=-3.4905368986292986,
+    ),
+    Run(
+        "linear", [1.0], -1.0, max_steps=4, newton_tol=1000000000.0, book=True, mass=[0.0],
+        spoiled=[(0, 1, 0.0020019999999999994), (3, 3, 0.0), (6, 1, 0.0010009999999999997)],
+    ),
+    Run(
+        "linear", [1.0], -1.0, max_steps=4, newton_tol=1e-09, book=True, mass=[0.0],
+        spoiled=[(3, 3, 1.625), (6, 3, 1.60875)],
+    ),
+    Run(
+        "linear", [0.0, 0.0], 0.0, 1.0, 1.0, 0.0, xend=-4.0, max_steps=2, first_step=0.9723690905735037,
+        host=True, book=True, mass=[1.0, -1.0, 0.5, 1.0], factor=-2.757268715777924,
+    ),
+    Run(
+        "linear", [1.0], -1.0, max_steps=3, newton_maxiter=3, max_step=0.011, newton_tol=-0.0, first_step=0.01,
+        book=True, mass=[0.0],
+        spoiled=[(0, 1, 0.0), (3, 3, 1.0), (6, 3, 0.0), (9, 1, 0.0), (10, 3, 1.0), (13, 3, 2.0), (19, 99, 0.0)],
+    ),
+    Run(
+        "linear", [1.0], -1.0, max_steps=4, newton_tol=1000000000.0, book=True, mass=[0.0],
+        spoiled=[(0, 1, 0.001001), (3, 3, 0.0), (6, 1, 0.001001)],
+    ),
+    Run(
+        "linear", [1.0], -1.0, max_steps=4, newton_tol=1.0, book=True, mass=[0.0],
+        spoiled=[(3, 3, 1.1), (6, 3, 0.0011)],
+    ),
+    Run(
+        "linear", [1.0], -1.0, max_steps=4, newton_tol=0.001, book=True, mass=[0.0],
+        spoiled=[(3, 3, 1000.0), (6, 3, 989.9999999999999)],
+    ),
+    Run(
+        "linear", [1.0], -1.0, max_steps=4, newton_tol=1.0, book=True, mass=[0.0],
+        spoiled=[(3, 3, 1.0), (6, 3, 0.001)],
+    ),
+    Run(
+        "linear", [1.0], -1.0, rtol=0.01, atol=0.01, max_steps=4, scale_min=0.5, scale_max=1.1, newton_tol=1e-30,
+        first_step=0.2, nind2=1, book=True,
+    ),
+    Run(
+        "mild_noise", [-1.0], 59834.0, 0.00021005020284019701, xend=1.9647680988292044,
+        rtol=0.0008260707042900795, max_steps=5, safety_factor=0.366031387423871, first_step=1.9647680988292044,
+        host=True, book=True, factor=0.7, spoiled=[(23, 3, 1.0)],
+    ),
+    Run(
+        "robertson", [1.0, 0.0, 0.0], 0.0, xend=0.8046517250089231, max_steps=1, newton_maxiter=3,
+        min_step=0.04023258625044616, first_step=0.00046150283236146635, book=True,
+        spoiled=[(48, 20, 0.0), (41, 2, 0.001)],
+    ),
+    Run(
+        "robertson", [1.0, 0.0, 0.0], 0.0, x0=-0.3998374414816559, rtol=9.29187982535405e-08,
+        atol=0.012363140168495866, max_steps=8, newton_maxiter=4, predictive=False, host=True, book=True,
+        spoiled=[(11, 6, 0.0), (22, 20, -1000000.0)],
+    ),
+    Run("rotation", [1.0, 0.5], 1.0, xend=4.0, max_steps=2, first_step=1.0, nind3=1, host=True, book=True),
+    Run("rotation", [1.0, 0.5, 0.25], 2.0, xend=0.25, max_steps=4, first_step=0.5, nind2=2, host=True, book=True),
+    Run(
+        "square", [0.1576809249524196, 2.0, 0.0], 0.347662114239502, xend=1.3618226647195644, max_steps=4,
+        uround=9.497361824124589e-06, scale_max=1000000.0, first_step=2.0427339970793463, book=True,
+    ),
+    Run(
+        "square", [0.5, 1.0, 2.0], 1.4620436886916854, xend=-1.0,
+        rtol=[5.743556849231637e-07, 0.09948192483993137, 2.795550173763086e-07],
+        atol=[0.0005610218619200959, 0.0006691076911300148, 2.079583768698044e-09], max_steps=8,
+        dense_output=False, host=True, book=True, factor=0.7, spoiled=[(19, 6, 1.0)],
+    ),
+    Run(
+        "steep", [1.0], 1.7210500498242076, 0.9, max_steps=3, newton_maxiter=4, uround=0.0057160625874959564,
+        first_step=0.23387723108061895, host=True, book=True, factor=1.3,
+    ),
+    Run(
+        "steep", [1.0], 9295.996176018818, 0.9391674593801538, xend=0.35000835532148755, max_steps=8,
+        newton_maxiter=1, first_step=0.12116350127292703, nind2=1, host=True, book=True,
+    ),
+    Run(
+        "steep", [0.0, 2.0], 14212.741862384022, 0.6765009340349658, x0=0.11560722646397692,
+        xend=8.4664676249588, rtol=3.5105335835251784e-08, atol=0.0103202958990961, max_steps=3,
+        newton_maxiter=2, first_step=0.25, nind2=1, nind3=0, host=True, book=True, mass=[5e-324, 0.0, 0.0, 1.0],
+        reports=[CONTINUE, CONTINUE], spoiled=[(40, 2, 1000000.0)],
+    ),
+    Run(
+        "vdp", [2.0, -0.6], 1.8582320899807747, xend=-1.0, max_steps=1, newton_tol=0.0,
+        first_step=0.05756895207985482, nind2=0, nind3=0, dense_output=False, host=True, book=True,
+        mass=[0.0, 0.0, 0.0, 0.0], factor=0.99,
+    ),
+    Run(
+        "zero", [1.0, 1.0], xend=100.0, max_steps=3, first_step=7.0, nind2=1, host=True, book=True,
+        mass=[5e-324, 0.0, 0.0, 5e-324],
+    ),
+    Run(
+        "zero", [1.0], x0=-0.25, xend=0.3, max_steps=6, max_step=0.3, first_step=0.3, dense_output=False,
+        book=True, reports=[mark(0.04999999999999999)],
+    ),
+    Run(
+        "zero", [1.0], xend=10.0, max_steps=4, safety_factor=0.7, scale_min=0.0001, scale_max=1000000.0,
+        first_step=0.3, host=True, book=True, spoiled=[(6, 1, 30000000.0)],
+    ),
+    Run(
+        "zero", [1.0], max_steps=5, max_step=0.25, first_step=0.25, dense_output=False, book=True,
+        reports=[CONTINUE, INTERRUPT],
+    ),
+    Run(
+        "zero", [1.0], xend=10.0, max_steps=3, safety_factor=0.8, scale_min=1e-07, scale_max=1000000.0,
+        first_step=0.3, book=True, spoiled=[(6, 1, 1e+21)],
+    ),
+    Run("zero", [1.0], x0=1.0, xend=2.0, max_steps=1, uround=0.003, first_step=0.030000000000000002, book=True),
+    Run(
+        "zero", [1.0], xend=0.300003, max_steps=4, scale_min=0.0001, scale_max=1000000.0, max_step=0.3,
+        first_step=0.3, book=True,
+    ),
+    Run(
+        "zero", [1.0], max_steps=5, max_step=0.25, first_step=0.25, dense_output=False, book=True,
+        reports=[CONTINUE, mark(0.25)],
+    ),
+]
+
+
 def every_run():
     found = [run for run, _ in FIGURES]
     for make in (runs_of_reports, runs_of_systems, runs_of_settings, runs_of_masses, runs_of_newton, runs_of_limits, runs_of_noise):
         found += make()
-    return found
+    return found + NOTICING
 
 
 # --- What the Rust answers -----------------------------------------------------------------------
@@ -445,9 +793,7 @@ def replayed(folder, runs):
 
 
 def check(folder):
-    if not (folder and rust_crate.compiler()):
-        print("so the runs of the Rust are NOT compared with the advance")
-        return
+    rust_text.compared(folder)
     runs = every_run()
     answers, counts = answers_of(build(folder), runs)
     try_figures(answers)
@@ -459,7 +805,7 @@ def check(folder):
 
 
 def branches(folder):
-    insist(folder and rust_crate.compiler(), "without the Rust's text and rustc nothing is run")
+    rust_text.compared(folder)
     runs = every_run()
     counts, ours = answers_of(build(folder), runs)[1], replayed(folder, runs)[1]
     print("\n".join(table(counts)))
@@ -470,9 +816,8 @@ def branches(folder):
 
 def main(words):
     acts = {"check": check, "branches": branches}
-    if len(words) not in (1, 2) or words[0] not in acts:
-        sys.exit("usage: tests/runs.py check|branches [FOLDER]")
-    acts[words[0]](rust_text.find(words[1] if len(words) == 2 else None))
+    name, folder = command.act(__doc__, words, acts)
+    acts[name](rust_text.find(folder))
 
 
 if __name__ == "__main__":

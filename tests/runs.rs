@@ -81,29 +81,29 @@ pub struct Asked {
 #[derive(Default)]
 pub struct Trace {
     pub asked: Vec<Asked>,
-    parts: Parts,
-    place: u64,
+    pub parts: Parts,
+    pub place: u64,
 }
 
 thread_local! {
     pub static TRACE: RefCell<Trace> = RefCell::default();
 }
 
-fn with<T>(act: impl FnOnce(&mut Trace) -> T) -> T {
+pub fn with<T>(act: impl FnOnce(&mut Trace) -> T) -> T {
     TRACE.with(|t| act(&mut t.borrow_mut()))
 }
 
 // The kinds of request and of reply.
-const DERIVATIVE: u64 = 1;
-const JACOBIAN: u64 = 2;
-const REPORT: u64 = 3;
+pub const DERIVATIVE: u64 = 1;
+pub const JACOBIAN: u64 = 2;
+pub const REPORT: u64 = 3;
 const ENDED: u64 = 4;
 const NO_REPLY: u64 = 0;
 const FILLED: u64 = 1;
-const CONTINUE: u64 = 2;
-const INTERRUPT: u64 = 3;
-const MODIFIED: u64 = 4;
-const MARK: u64 = 5;
+pub const CONTINUE: u64 = 2;
+pub const INTERRUPT: u64 = 3;
+pub const MODIFIED: u64 = 4;
+pub const MARK: u64 = 5;
 
 impl Trace {
     // A request is asked with the parts as they stand. `flag` is the offer of coefficients or the status.
@@ -122,7 +122,7 @@ impl Trace {
     }
 }
 
-fn patterns(part: &[f64]) -> Vec<u64> {
+pub fn patterns(part: &[f64]) -> Vec<u64> {
     part.iter().map(|&x| pattern(x)).collect()
 }
 
@@ -281,7 +281,7 @@ const BETA: f64 = 3.050_430_199_247_410_5;
 
 impl Host {
     // The derivative of the model: no operation but + - * / and comparisons, so that every machine has the same bits.
-    fn formula(&self, x: f64, y: &[f64], d: &mut [f64]) {
+    pub fn formula(&self, x: f64, y: &[f64], d: &mut [f64]) {
         let (n, p) = (y.len(), &self.p);
         match self.model.as_str() {
             "zero" => d.fill(0.0),
@@ -601,23 +601,22 @@ macro_rules! solver {
 }
 
 macro_rules! solved {
-    ($module:ident, $o:expr, $host:expr) => {{
+    ($module:ident, $o:expr, $system:expr, $reports:expr) => {{
         let solver = solver!($module, $o);
-        let (x0, xend, y, rtol, atol) = (
-            $o.float(1),
-            $o.float(2),
-            $o.y(),
-            $o.tolerance(0),
-            $o.tolerance(1),
-        );
-        let reports = Some(&mut Reports($host));
-        let done = if $o.chosen(10) {
-            solver.solve(&Making($host), x0, &y, xend, rtol, atol, reports)
-        } else {
-            solver.solve(&Plain($host), x0, &y, xend, rtol, atol, reports)
-        };
+        let (rtol, atol) = ($o.tolerance(0), $o.tolerance(1));
+        let reports = Some($reports);
+        let done = solver.solve($system, $o.float(1), &$o.y(), $o.float(2), rtol, atol, reports);
         done.expect("an opening that the Rust takes");
     }};
+}
+
+// The Rust's `solve`, under the Rust rule or changed to the book rule.
+pub fn solve<F: FirstOrderSystem, S: SolOut>(opening: &Opening, system: &F, reports: &mut S) {
+    if opening.chosen(11) {
+        solved!(radau_book, opening, system, reports);
+    } else {
+        solved!(radau_rust, opening, system, reports);
+    }
 }
 
 fn told_of(word: &str) -> Told {
@@ -665,8 +664,8 @@ pub fn read_line(line: &str) -> (Opening, Host) {
     (opening, host)
 }
 
-// Runs the Rust's `solve`, under the Rust rule or changed to the book rule, and gives what was asked.
-pub fn traced(opening: &Opening, host: &Host) -> Vec<Asked> {
+// A new trace, in which nothing was asked yet.
+pub fn begin(opening: &Opening) {
     let (n, square) = (opening.n(), opening.n() * opening.n());
     branches::forget();
     with(|t| {
@@ -679,10 +678,15 @@ pub fn traced(opening: &Opening, host: &Host) -> Vec<Asked> {
             .mass()
             .map_or(vec![0; square], |mass| patterns(&mass));
     });
-    if opening.chosen(11) {
-        solved!(radau_book, opening, host);
+}
+
+// Runs the Rust's `solve`, and gives what was asked.
+pub fn traced(opening: &Opening, host: &Host) -> Vec<Asked> {
+    begin(opening);
+    if opening.chosen(10) {
+        solve(opening, &Making(host), &mut Reports(host));
     } else {
-        solved!(radau_rust, opening, host);
+        solve(opening, &Plain(host), &mut Reports(host));
     }
     with(|t| std::mem::take(&mut t.asked))
 }

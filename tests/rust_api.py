@@ -1,11 +1,15 @@
 #!/usr/bin/env python3
 """The crate of rust/ as a program in Rust sees it: its tests, its documents, and a program before and after its move from ivp.
 
-    tests/rust_api.py check [FOLDER]  on the archive, where `export` is proved and was not edited since; else on its very sources, compiled by rustc
+    tests/rust_api.py check [FOLDER]  on the archive, where it is proved and was not edited since; else on its very
+                                      sources, compiled by rustc, which the crate links only where that is allowed
     tests/rust_api.py run [FOLDER]    on the archive; what is not proved yet is proved first
 
-Both end with status 1 where something fails. FOLDER holds the Rust's text; tests/rust_text.py says where it is looked for otherwise. What is missing (cargo, rt,
+FOLDER holds the Rust's text; tests/rust_text.py says where it is looked for otherwise. What is missing (cargo, rt,
 clippy, rustfmt, the Rust's text) is said plainly, and what needs it is passed over.
+
+Exit status: 0 all is well; 1 something fails; 2 wrong use; 4 nothing was compared: cargo, rt or the Rust's text is
+not there.
 
 Run are `cargo test`, clippy and rustdoc with every warning an error, and rustfmt, all without a network. Then the program of rust/README.md: the lines
 before its move, in the place of those after it in rust/examples/moved.rs, are compiled against the Rust's own text and run, and both programs must print the same.
@@ -17,6 +21,7 @@ import subprocess
 import sys
 
 import c_program
+import command
 import rust_solve
 import rust_text
 
@@ -45,12 +50,16 @@ def archive(way):
     """The archive that the crate is linked with, or None, said plainly."""
     if way == "run" or c_program.is_proved():
         return c_program.proved_archive()[0] if c_program.has("rt", "the archive is NOT built") else None
-    print("export is not proved here, or was edited since: the crate runs on its sources, compiled by rustc; `tests/rust_api.py run` proves it")
+    print("UNPROVED: export is not proved here, or was edited since; the crate runs on its sources, compiled by rustc.")
+    print("`tests/rust_api.py run` proves it")
     return c_program.sources_compiled()[0]
 
 
 def cargo(words, linked, **more):
     environment = dict(os.environ, ELCHEPUR_ARCHIVE=str(linked), CARGO_NET_OFFLINE="true", **more)
+    environment.pop("ELCHEPUR_ALLOW_UNPROVED", None)
+    if linked != c_program.ARCHIVE:
+        environment["ELCHEPUR_ALLOW_UNPROVED"] = "1"
     return said(["cargo", *words], cwd=CRATE, env=environment)
 
 
@@ -157,19 +166,14 @@ def check_move(folder, linked):
 
 
 def main(words):
-    if len(words) not in (1, 2) or words[0] not in ("check", "run"):
-        sys.exit("usage: tests/rust_api.py check|run [FOLDER]")
-    folder = rust_text.find(words[1] if len(words) == 2 else None)
-    if not c_program.has("cargo", "the crate in rust/ is NOT tried"):
-        return
-    linked = archive(words[0])
+    name, folder = command.act(__doc__, words, ("check", "run"))
+    folder = rust_text.find(folder)
+    linked = archive(name) if c_program.has("cargo", "the crate in rust/ is NOT tried") else None
     if not linked:
-        return
+        command.nothing_compared("the crate in rust/ is not tried")
     check_crate(linked)
-    if folder:
-        check_move(folder, linked)
-    else:
-        print("so no program before its move is compiled")
+    rust_text.compared(folder)
+    check_move(folder, linked)
 
 
 if __name__ == "__main__":

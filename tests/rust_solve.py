@@ -355,17 +355,26 @@ TRACED = "mod ivp;\nmod methods;\nmod radau_rust;\nmod radau_book;\nmod branch_n
 UNTRACED = '#[path = "{source}/ivp.rs"]\nmod ivp;\nmod methods;\nmod radau_libm;\nmod radau_ours;'
 
 
-def make_crate(folder, target, program, extra, main):
-    """Writes the crate below `target` around our `program`, with `extra` items and this main function. Gives the path of its root."""
-    target.mkdir(parents=True, exist_ok=True)
-    source = (folder / "src").resolve()
+def solver_texts(folder):
+    """The files of the crate that hold the Rust's solver, changed so that it can be traced."""
+    source = folder / "src"
     radau = edited("radau.rs", (source / "methods" / "radau.rs").read_text(), SHIMS + POWERS + EDITS)
     insist("powf" not in radau and "powi" not in radau, "radau.rs takes a power that is not directed to 01's")
-    (target / "radau_rust.rs").write_text(with_constants(numbered(radau)))
-    (target / "radau_book.rs").write_text(numbered(edited("radau.rs", radau, BOOK_EDITS)))
-    (target / "ivp.rs").write_text(numbered(edited("ivp.rs", (source / "ivp.rs").read_text(), IVP_EDITS)))
+    return {
+        "radau_rust.rs": with_constants(numbered(radau)),
+        "radau_book.rs": numbered(edited("radau.rs", radau, BOOK_EDITS)),
+        "ivp.rs": numbered(edited("ivp.rs", (source / "ivp.rs").read_text(), IVP_EDITS)),
+    }
+
+
+def make_crate(folder, target, program, extra, main, texts=None):
+    """Writes the crate below `target` around our `program`, with `extra` items and this main function; the solver's files are `texts`, if given.
+    Gives the path of its root."""
+    target.mkdir(parents=True, exist_ok=True)
+    for name, text in (texts or solver_texts(folder)).items():
+        (target / name).write_text(text)
     (target / "branch_names.rs").write_text(name_table("BRANCHES", names_counted()) + name_table("NOTES", names_noted()))
-    return make_root(source, target, program, TRACED, extra, main)
+    return make_root((folder / "src").resolve(), target, program, TRACED, extra, main)
 
 
 def make_untraced(folder, target, program, extra, main):
@@ -388,10 +397,10 @@ def make_root(source, target, program, modules, extra, main):
     return root
 
 
-def compiled(root, name, words=()):
+def compiled(root, name, words=(), level="-O"):
     """Compiles the crate. Gives the program's path."""
     made = root.parent / name
-    run = ["rustc", "--edition", "2021", "-O", "--crate-name", name, str(root), "-o", str(made), *words]
+    run = ["rustc", "--edition", "2021", level, "--crate-name", name, str(root), "-o", str(made), *words]
     done = subprocess.run(run, capture_output=True, text=True)
     insist(done.returncode == 0, f"rustc does not take the Rust's files:\n{done.stderr}")
     return made

@@ -1,15 +1,19 @@
 """Where the Rust's text is: the folder that holds src/methods/radau.rs of the repository ivp, commit 6c3b952129.
 
-A script that needs it calls `find` with its own argument, or None. Then the environment's IVP_SOURCE is taken, else docs/src,
-else ../shared/docs/src, seen from the repository's root. A folder that was asked for and is not there is an error; where
-nothing was asked for and neither usual folder is there, `find` says so plainly and gives None, and the script passes over
-what it can't compare."""
+A script that needs it calls `find` with its own argument, or None. Then the environment's IVP_SOURCE is taken, else
+docs/src, else ../shared/docs/src, seen from the repository's root. A folder that was asked for and is not there is an
+error; where nothing was asked for and neither usual folder is there, `find` says so plainly and gives None; the
+script compares what it can without the text, and then calls `compared`, which ends it with status 4."""
 
 import os
 import pathlib
+import shutil
 import sys
 
+import command
+
 ROOT = pathlib.Path(__file__).resolve().parent.parent
+COMMIT = "6c3b952129"
 USUAL = (ROOT / "docs" / "src", ROOT.parent / "shared" / "docs" / "src")
 
 
@@ -29,3 +33,11 @@ def find(given):
             return folder
     print("the Rust's text is neither in docs/src nor in ../shared/docs/src")
     return None
+
+
+def compared(folder, compiled=True):
+    """Ends a script that compared nothing with the Rust: its text was not found, or can't be compiled."""
+    if not folder:
+        command.nothing_compared(f"set IVP_SOURCE to commit {COMMIT} of ivp")
+    if compiled and not shutil.which("rustc"):
+        command.nothing_compared("there is no rustc, which compiles the Rust's text")

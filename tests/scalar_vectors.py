@@ -4,10 +4,11 @@
     tests/scalar_vectors.py write [FOLDER]   write crates/scalar_vectors/stdin and stdout
     tests/scalar_vectors.py check [FOLDER]   make both anew and compare them with what is stored
 
-`check` ends with status 1 at the first line that differs, and shows it.
-
 FOLDER holds the Rust's text; tests/rust_text.py says where it is looked for otherwise. Without it `write` refuses,
 and `check` compares all but the 27 lines of coefficients.
+
+Exit status: 0 nothing differs; 1 a line differs, and the first is shown; 2 wrong use; 4 the coefficients were not
+compared.
 
 A line has 73 bytes: a letter, a space, two hex digits, then four fields of a space and 16 hex
 digits, then LF. The two digits are an order, an exponent or an index, else 00. The fields are
@@ -41,6 +42,7 @@ import re
 import struct
 import sys
 
+import command
 import rust_text
 from draw import INFINITY, LARGEST, NAN, ONE, SIGN, SMALLEST, SMALLEST_NORMAL, SPECIALS, UNIT, ZERO, Draw, pattern_of
 
@@ -493,19 +495,17 @@ def check(folder):
         rest = stored[len(lines) :]
         answers = [int(text[-16:], 16) for text in rest if re.fullmatch("k .*[0-9a-f]{16}", text)]
         lines += lines_of_coefficients((answers + [0] * len(COEFFICIENTS))[: len(COEFFICIENTS)])
-        print(f"so the answers of the {len(COEFFICIENTS)} coefficients are NOT compared")
     compare("stdin", stored, lines)
     compare("stdout", stored_text(SUMMARY).splitlines(), summary(lines))
     print(f"{len(lines)} vectors are as stored")
+    rust_text.compared(folder, compiled=False)
 
 
 def main(words):
-    if len(words) not in (1, 2) or words[0] not in ("write", "check"):
-        sys.exit("usage: tests/scalar_vectors.py write|check [FOLDER]")
+    name, folder = command.act(__doc__, words, ("write", "check"))
     try_rounding()
     try_examples()
-    folder = rust_text.find(words[1] if len(words) == 2 else None)
-    (write if words[0] == "write" else check)(folder)
+    (write if name == "write" else check)(rust_text.find(folder))
 
 
 if __name__ == "__main__":

@@ -5,9 +5,12 @@
     tests/sheet_answers.py check [FOLDER]    make all answers anew and compare them with what is stored
     tests/sheet_answers.py advance [FOLDER]  compare the same runs call by call with the advance of crates/radau
 
-`check` ends with status 1 at the first sheet whose answer differs, and shows it. FOLDER holds the Rust's text; tests/rust_text.py says where
-it is looked for otherwise. Without the text, or without rustc, `write` refuses, and `check` passes over the Rust's answers, with the sheets
-that they belong to compared all the same.
+FOLDER holds the Rust's text; tests/rust_text.py says where it is looked for otherwise. Without the text, or without
+rustc, `write` refuses, and `check` passes over the Rust's answers, with the sheets that they belong to compared all
+the same.
+
+Exit status: 0 nothing differs; 1 an answer differs, and the first is shown; 2 wrong use; 4 nothing was compared with
+the Rust.
 
 A record of the file is a line of ten bytes, then the sheet, then the answer. The line has the bytes of the sheet in four decimal digits, a space,
 the bytes of the answer in four, and LF. The file is one record after the other and ends with the last. An answer is what `decay` prints, LF after each line.
@@ -28,6 +31,7 @@ import struct
 import subprocess
 import sys
 
+import command
 import runs
 import rust_crate
 import rust_text
@@ -801,17 +805,17 @@ def check(folder):
         answers = made(folder)
     else:
         answers = made_from_stored(stored)
-        print("so the Rust's answers are NOT compared")
     try_answers(answers)
     for place, (old, new) in enumerate(zip(stored, answers.items()), 1):
         insist(old == new, f"record {place}\n  stored {old}\n  made   {new}")
     insist(len(stored) == len(answers), f"{len(stored)} sheets are stored, and {len(answers)} are made")
     insist(SUMMARY.read_text() == summary(answers), f"{SUMMARY} is not what the program is to print")
     print(f"{len(answers)} sheets have the answers that are stored: {told(answers)}")
+    rust_text.compared(folder)
 
 
 def advance(folder):
-    insist(folder and rust_crate.compiler(), "without the Rust's text and rustc nothing is run")
+    rust_text.compared(folder)
     said, _ = runs.replayed(folder, [run_of(data) for data in sheets_that_run()])
     insist(said.endswith(" 0 differ"), said)
     print(said)
@@ -819,9 +823,8 @@ def advance(folder):
 
 def main(words):
     acts = {"write": write, "check": check, "advance": advance}
-    if len(words) not in (1, 2) or words[0] not in acts:
-        sys.exit("usage: tests/sheet_answers.py write|check|advance [FOLDER]")
-    acts[words[0]](rust_text.find(words[1] if len(words) == 2 else None))
+    name, folder = command.act(__doc__, words, acts)
+    acts[name](rust_text.find(folder))
 
 
 if __name__ == "__main__":

@@ -3,16 +3,22 @@
 
     tests/sheet_tool.py
 
-Readable form to sheet to readable form to sheet gives the same bytes for 2,000 models that are drawn, with floats of any pattern, and for every
-special float at every place; decimals have the fewest digits that will do. Of each sheet of cylinders/ the readable form stands beside it.
-What is no readable form is refused at its line. On sheets with bytes changed at random, tools/sheet.py and the reader of
-tests/sheet_answers.py, which was written apart from it, refuse the same line. It ends with status 1 at the first thing that is not so."""
+Readable form to sheet to readable form to sheet gives the same bytes for 2,000 models that are drawn, with floats of
+any pattern, and for every special float at every place; decimals have the fewest digits that will do. Of each sheet
+of cylinders/ the readable form stands beside it. What is no readable form is refused at its line, with what to write
+instead. What `decay` prints of every stored sheet is written in words and decimals that read back to the same bits,
+and ends with the same status. On sheets with bytes changed at random, tools/sheet.py and the reader of
+tests/sheet_answers.py, which was written apart from it, refuse the same line.
+
+Exit status: 0 all is so; 1 something is not, and the first is shown; 2 wrong use."""
 
 import subprocess
 import sys
 
+import command
 from draw import INFINITY, LARGEST, NAN, SIGN, SMALLEST, SMALLEST_NORMAL, SPECIALS, Draw, pattern_of
-from sheet_answers import BASES, CYLINDERS, EXAMPLE, insist, number_of, refusal, rust_text, sheet, try_tool
+from sheet_answers import BASES, CYLINDERS, EXAMPLE, STORED, insist, number_of, records_of, refusal, rust_text
+from sheet_answers import sheet, try_tool
 
 TOOL = rust_text.ROOT / "tools" / "sheet.py"
 
@@ -150,6 +156,74 @@ def try_refusals():
             insist(False, f"{new} in the place of {old} is read")
 
 
+# Words of the plain form, what a person may write there, and what is to be written instead.
+INSTEAD = [
+    ("x0 0.0", "x0 .5", "write 0.5"),
+    ("x0 0.0", "x0 -.5e3", "write -0.5e3"),
+    ("x0 0.0", "x0 1,5", "write 1.5"),
+    ("x0 0.0", "x0 1d-3", "write 1e-3"),
+    ("x0 0.0", "x0 1_000", "write 1000"),
+    ("x0 0.0", "x0 inf", "write 0x7ff0000000000000"),
+    ("x0 0.0", "x0 NaN", "write 0x7ff8000000000000"),
+    ("x0 0.0", "x0 0X3FF0000000000000", "write 0x3ff0000000000000"),
+    ("x0 0.0", "x0 = 0.0", "write `x0 0.0`"),
+    ("max_steps 100", "max_steps 1e2", "write `max_steps 100000`"),
+    ("rule rust", "rule 0", "write `rule rust` or `rule book`"),
+    ("species\n", "", "write a line `species`"),
+    ("2.0 A + B -> B", "2.0 2 A -> B", "write A + A"),
+    ("2.0 A + B -> B", "2.0 2A -> B", "write A + A"),
+    ("2.0 A + B -> B", "2.0 A+B -> B", "write A + B"),
+    ("2.0 A + B -> B", "2.0 a + B -> B", "write A"),
+    ("2.0 A + B -> B", "2.0 A + B ->", "write none"),
+    ("2.0 A + B -> B", "2.0 A + B => B", "write `50.0 NO + site -> held`"),
+    ("2.0 A + B -> B", "2.0 A + C -> B", "the species are A, B"),
+]
+
+
+def try_instead():
+    for old, new, wanted in INSTEAD:
+        try:
+            sheet.model_of_text(PLAIN.replace(old, new))
+        except sheet.Refused as refused:
+            told = refused.told()
+            insist(told.startswith("line ") and wanted in told, f"{new} is told as {told}, without: {wanted}")
+        else:
+            insist(False, f"{new} in the place of {old} is read")
+
+
+def bits_back(lines):
+    """The doubles of an answer in words, by their bits: each stands behind a name."""
+    return [sheet.Words("").bits(line.split()[1]) for line in lines]
+
+
+def try_answers():
+    """Every stored answer in words, with the model's names, decimals that read back, and the status of the end."""
+    for data, answer in records_of(STORED.read_bytes()):
+        if answer.startswith("refused"):
+            told, status = sheet.answer_in_words(answer, ["none", "A"])
+            insist(status == 3 and told[0].startswith(answer.strip()[:9]), f"{answer} is told as {told}")
+            continue
+        names = ["none"] + [f"name{number}" for number in range(len(sheet.model_of(data).amounts))]
+        told, status = sheet.answer_in_words("unproved\n" + answer, names)
+        insist(told[0] == "unproved" and told[1] == answer[:8], f"{answer} is told as {told}")
+        right = (status == 0) == answer.startswith("status 0 ") == ("NO FORECAST" not in told[2])
+        insist(right, f"{told} ends with {status}")
+        given = [int(bits, 16) for line in answer.splitlines()[1:] for bits in line.split()[1:]]
+        insist(bits_back(told[4:]) == given, f"{answer} is told as {told}")
+        insist([line.split()[0] for line in told[4:]] == ["x", *names[1:]], f"the names are others: {told}")
+        for wrong in (answer[:-1], answer + answer, answer.replace("x ", "z "), answer[: answer.index("y")]):
+            try_no_answer(wrong, names)
+        try_no_answer(answer, names + ["more"])
+
+
+def try_no_answer(text, names):
+    try:
+        told = sheet.answer_in_words(text, names)
+    except sheet.Refused:
+        return
+    insist(False, f"{text} is told as {told}")
+
+
 def try_cylinders():
     """Each sheet and its readable form; none stands alone."""
     names = sorted({file.stem for suffix in ("sheet", "txt") for file in CYLINDERS.glob(f"*.{suffix}")})
@@ -188,11 +262,18 @@ def try_command():
     insist(code == 1 and made == b"" and told.startswith("refused 20 10"), f"a sheet without its last LF is told as {told}")
     code, made, told = done("text", b"6" * 4097)
     insist(code == 1 and made == b"" and told.startswith("refused 21"), f"a sheet that is too long is told as {told}")
+    model = str(CYLINDERS / "robertson.txt")
+    stored = dict(records_of(STORED.read_bytes()))[(CYLINDERS / "robertson.sheet").read_bytes()]
+    for printed, wanted in ((stored, 0), (stored.replace("status 0", "status 2"), 1), ("refused 20 7\n", 3), ("", 3)):
+        gave = subprocess.run([sys.executable, str(TOOL), "answer", model], input=printed.encode(), capture_output=True)
+        insist(gave.returncode == wanted, f"{printed} in words ends with {gave.returncode}")
+        insist(wanted or b"\nA 0.7158" in gave.stdout, f"robertson is told as {gave.stdout}")
     code, made, told = done("sheet", b"x0 0.0\nxend one\n")
     insist(code == 1 and made == b"" and told.startswith("line 2"), f"a float that is none is told as {told}")
 
 
 def main():
+    command.nothing(__doc__, sys.argv[1:])
     draw = Draw(7)
     for bits in STRANGE + [drawn_float(draw) for _ in range(MODELS)]:
         try_digits(bits)
@@ -202,6 +283,8 @@ def main():
         try_model(drawn_model(draw))
     insist(sheet.model_of_text(BY_HAND) == BY_HAND_SHEET, "a form written by hand is read otherwise")
     try_refusals()
+    try_instead()
+    try_answers()
     cylinders = try_cylinders()
     try_changed(draw)
     try_command()

@@ -4,8 +4,11 @@
     tests/stored_runs.py write [FOLDER]  write crates/run_replay/stdin and stdout
     tests/stored_runs.py check [FOLDER]  make both anew and compare them with what is stored
 
-`check` ends with status 1 at the first line that differs, and shows it. FOLDER holds the Rust's text; tests/rust_text.py says where
-it is looked for otherwise. Without the text, or without rustc, `check` holds stdout against the stored stdin alone, and says so.
+FOLDER holds the Rust's text; tests/rust_text.py says where it is looked for otherwise. Without the text, or without
+rustc, `check` holds stdout against the stored stdin alone.
+
+Exit status: 0 nothing differs; 1 a line differs, and the first is shown; 2 wrong use; 4 nothing was compared with the
+Rust.
 
 tests/runs.py makes the runs and tells how they are had. Stored are those of up to MOST_AMOUNTS amounts and MOST_WORDS words, and of
 the longer ones, the shortest first, each that takes a branch of the Rust or has an order that none before it has; in all every
@@ -22,6 +25,7 @@ coefficients or the status of an end, and the reply (1 filled, 2 continue, 3 int
 
 import sys
 
+import command
 import runs
 import rust_crate
 import rust_text
@@ -110,23 +114,22 @@ def summary(text):
 
 
 def main(words):
-    if len(words) not in (1, 2) or words[0] not in ("write", "check"):
-        sys.exit("usage: tests/stored_runs.py write|check [FOLDER]")
-    folder = rust_text.find(words[1] if len(words) == 2 else None)
+    name, folder = command.act(__doc__, words, ("write", "check"))
+    folder = rust_text.find(folder)
     if folder and rust_crate.compiler():
         stored = chosen(runs.build(folder))
         text = "".join(block_text(block) for blocks in stored for block in blocks)
-        if words[0] == "write":
+        if name == "write":
             STDIN.write_text(text)
             STDOUT.write_text(summary(text))
         compare(STDIN, text)
     else:
-        insist(words[0] == "check", "without the Rust's text and rustc nothing can be written")
-        print("so the stored runs are NOT compared with the Rust")
+        insist(name == "check", "without the Rust's text and rustc nothing can be written")
     text = STDIN.read_text()
     compare(STDOUT, summary(text))
     heads = heads_of(text)
     print(f"{len(heads)} runs of {sum(map(len, heads))} requests are as stored")
+    rust_text.compared(folder)
 
 
 if __name__ == "__main__":

@@ -1,11 +1,21 @@
 #!/usr/bin/env python3
-"""A model as people read it, and as a sheet for `decay`: from one to the other, both ways.
+"""A model as people read it, and as a sheet for `decay`: from one to the other, both ways; and what `decay` prints,
+in words and decimals.
 
-    tools/sheet.py sheet [FILE]   read the readable form, write the sheet
-    tools/sheet.py text [FILE]    read a sheet, write the readable form
+    tools/sheet.py sheet [FILE]          read the readable form, write the sheet
+    tools/sheet.py text [FILE]           read a sheet, write the readable form
+    tools/sheet.py answer MODEL [FILE]   read what `decay` prints of MODEL, a sheet or a readable form, and write it in
+                                         words and decimals, as in:
 
-FILE is standard input where it is not given; what is made goes to standard output. What can't be read is told on standard error, with
-its line, and ends with status 1; a sheet is refused with document 01's number, 20 or 21, as `decay` refuses it.
+    tools/decay cylinders/robertson.txt | tools/sheet.py answer cylinders/robertson.txt
+
+FILE is standard input where it is not given; what is made goes to standard output. What can't be read is told on
+standard error, with its line and, where there is one, with what to write instead; a sheet is refused with document
+01's number, 20 or 21, as `decay` refuses it.
+
+Exit status: 0 it is written; 1 what was read is neither a sheet nor a readable form, or can't be read; 2 wrong use.
+`answer` ends as `decay` does, so that a pipe has the same status: 0 for status 0 alone, 1 for any other end of a run,
+3 for a refusal, an unreadable sheet, or what is no answer to MODEL.
 
 The readable form, a line at a time; a # and what comes after it is a comment:
 
@@ -19,15 +29,16 @@ The readable form, a line at a time; a # and what comes after it is a comment:
     NO 2.0
     site 0.001
     held 0.0
-    reactions                  up to 64: the rate, then what is used up, an arrow, and what comes of it; at most two on a side
+    reactions                  up to 64: the rate, what is used up, an arrow, what comes of it; at most two on a side
     50.0 NO + site -> held
-    0.5 none + held -> none    `none` is a side without species, or a place that is left empty before the one that is taken
+    0.5 none + held -> none    `none` is a side without species, or a place left empty before the one that is taken
 
-A float is a decimal number, read as the nearest double, and written with the fewest digits that are read as the same double. What has no
-such number, an infinity or any of the NaNs, is written by its bits, 0x and 16 lowercase hex digits; all doubles may be. So every sheet
-that document 01's rules allow has a readable form, and comes back from it byte for byte. Names and comments are not in a sheet: out of one
-the species are called s1, s2 and so on."""
+A float is a decimal number, read as the nearest double, and written with the fewest digits that are read as the same
+double. What has no such number, an infinity or any of the NaNs, is written by its bits, 0x and 16 lowercase hex
+digits; all doubles may be. So every sheet that document 01's rules allow has a readable form, and comes back from it
+byte for byte. Names and comments are not in a sheet: out of one the species are called s1, s2 and so on."""
 
+import pathlib
 import re
 import struct
 import sys
@@ -46,8 +57,13 @@ WRITTEN_BITS = re.compile(r"0x[0-9a-f]{16}")
 NAME = re.compile(r"[A-Za-z][A-Za-z0-9_]*")
 
 
+# Of each first line of an answer what it says: `status` or `refused` with its number, or one word.
+TABLE = pathlib.Path(__file__).resolve().parent / "lib" / "meanings.txt"
+MEANINGS = dict(line.split(": ", 1) for line in TABLE.read_text().splitlines())
+
+
 class Refused(Exception):
-    """What was read is neither a sheet nor a readable form: document 01's number or None, the line from 1 or None, and why."""
+    """What was read can't be taken: document 01's number or None, the line from 1 or None, and why."""
 
     def __init__(self, number, line, why):
         super().__init__(why)
@@ -170,15 +186,50 @@ def side_of(first, second, names):
     return names[first]
 
 
+def numbered(model):
+    """Names for the species of a sheet, which has none, behind `none`."""
+    return [NONE] + [f"s{number + 1}" for number in range(len(model.amounts))]
+
+
 def text_of(model):
     """The readable form, with species called s1, s2 and so on."""
-    names = [NONE] + [f"s{number + 1}" for number in range(len(model.amounts))]
+    names = numbered(model)
     lines = [f"{name} {written(getattr(model, name))}" for name in ("x0", "xend", "rtol", "atol")]
     lines += [f"max_steps {model.max_steps}", f"rule {RULES[model.rule]}", "species"]
     lines += [f"{name} {written(bits)}" for name, bits in zip(names[1:], model.amounts)]
     lines += ["reactions"]
-    lines += [f"{written(rate)} {side_of(r1, r2, names)} -> {side_of(p1, p2, names)}" for rate, r1, r2, p1, p2 in model.reactions]
+    for rate, r1, r2, p1, p2 in model.reactions:
+        lines.append(f"{written(rate)} {side_of(r1, r2, names)} -> {side_of(p1, p2, names)}")
     return "".join(line + "\n" for line in lines)
+
+
+def instead_of_float(word):
+    """What may have been meant by a word that is no float, as what is to be written."""
+    plain = word.replace("_", "").replace(",", ".").replace("d", "e").replace("D", "e")
+    sign, digits = (plain[:1], plain[1:]) if plain[:1] in ("+", "-") else ("", plain)
+    plain = sign + ("0" + digits if digits.startswith(".") else digits)
+    if plain != word and DECIMAL.fullmatch(plain):
+        return f": write {plain}"
+    if re.fullmatch(r"0[xX][0-9a-fA-F]{1,16}", word):
+        return f": write 0x{word[2:].lower():0>16}"
+    meant = {"nan": "0x7ff8000000000000", "inf": "0x7ff0000000000000"}.get(word.lower()[:3])
+    return f": write {meant}" if meant else ": write a decimal number as 0.5 or 1e-06"
+
+
+def instead_of_side(words, names):
+    """What may have been meant by words that are no side of a reaction, as what is to be written."""
+    if not words:
+        return f": write {NONE}"
+    twice = re.fullmatch(r"2 ?([A-Za-z]\w*)", " ".join(words))
+    apart = re.findall(r"[A-Za-z]\w*|[^A-Za-z\s]+", " ".join(words))
+    if twice and twice.group(1) in names:
+        return f": write {twice.group(1)} + {twice.group(1)}"
+    if len(apart) == 3 and apart[1] == "+" and apart != words and all(name in names for name in apart[::2]):
+        return f": write {' '.join(apart)}"
+    alike = [name for word in words for name in names if name.lower() == word.lower() and name != word]
+    if alike:
+        return f": write {alike[0]}"
+    return f": write a species, or two with + between; the species are {', '.join(names[1:])}"
 
 
 class Words:
@@ -205,12 +256,13 @@ class Words:
     def setting(self, name):
         words = self.take()
         if len(words) != 2 or words[0] != name:
-            self.wrong(f"not `{name}` and its value")
+            value = words[-1] if len(words) > 1 and words[-1] != "=" else "0.0"
+            self.wrong(f"not `{name}` and its value: write `{name} {value}`")
         return words[1]
 
     def heading(self, name):
         if self.take() != [name]:
-            self.wrong(f"not `{name}` alone")
+            self.wrong(f"not `{name}` alone: write a line `{name}` before this one")
 
     def is_heading(self, name):
         return self.there() and self.lines[self.at][1] == [name]
@@ -219,19 +271,17 @@ class Words:
         if WRITTEN_BITS.fullmatch(word):
             return int(word, 16)
         if not DECIMAL.fullmatch(word):
-            self.wrong(f"{word} is no float")
+            self.wrong(f"{word} is no float{instead_of_float(word)}")
         (bits,) = struct.unpack("<Q", struct.pack("<d", float(word)))
         if bits >> 52 & 0x7FF == 0x7FF:
-            self.wrong(f"{word} is larger than all doubles; an infinity is written by its bits")
+            self.wrong(f"{word} is larger than all doubles: write 0x7ff0000000000000 if an infinity is meant")
         return bits
 
     def side(self, words, names):
         """One side of a reaction: a name, or two with a + between."""
-        if len(words) not in (1, 3) or (len(words) == 3 and words[1] != "+"):
-            self.wrong("a side is a name, or two with + between")
-        for name in words[::2]:
-            if name not in names:
-                self.wrong(f"{name} is no species")
+        formed = len(words) == 1 or (len(words) == 3 and words[1] == "+")
+        if not formed or any(name not in names for name in words[::2]):
+            self.wrong(f"{' '.join(words) or 'nothing'} is no side{instead_of_side(words, names)}")
         places = [names.index(name) for name in words[::2]]
         return places if len(places) == 2 else places + [0]
 
@@ -241,9 +291,9 @@ class Words:
         while not self.is_heading("reactions"):
             words = self.take()
             if len(words) != 2 or not NAME.fullmatch(words[0]):
-                self.wrong("not a species' name and its amount")
+                self.wrong("not a species' name (a letter, then letters, digits and _) and its amount: write `NO 2.0`")
             if words[0] in names:
-                self.wrong(f"{words[0]} is taken")
+                self.wrong(f"{words[0]} is taken: write another name")
             names.append(words[0])
             amounts.append(self.bits(words[1]))
         if not 1 <= len(amounts) <= MOST_SPECIES:
@@ -256,7 +306,7 @@ class Words:
         while self.there():
             rate, *words = self.take()
             if words.count("->") != 1:
-                self.wrong("not one arrow")
+                self.wrong("not one arrow with a space on each side: write `50.0 NO + site -> held`, the rate first")
             arrow = words.index("->")
             found.append((self.bits(rate), *self.side(words[:arrow], names), *self.side(words[arrow + 1 :], names)))
         if len(found) > MOST_REACTIONS:
@@ -264,21 +314,85 @@ class Words:
         return found
 
 
-def model_of_text(text):
-    """The model of a readable form, or Refused."""
+def model_with_names(text):
+    """The model of a readable form with the names of its species behind `none`, or Refused."""
     words = Words(text)
     x0, xend, rtol, atol = (words.bits(words.setting(name)) for name in ("x0", "xend", "rtol", "atol"))
     steps = words.setting("max_steps")
     if not WHOLE.fullmatch(steps.encode()):
-        words.wrong("not a decimal number of one to ten digits without leading zeros")
+        words.wrong("not a decimal number of one to ten digits without leading zeros: write `max_steps 100000`")
     rule = words.setting("rule")
     if rule not in RULES:
-        words.wrong(f"the rule is none of {', '.join(RULES)}")
+        words.wrong(f"{rule} is no rule: write `rule rust` or `rule book`")
     names, amounts = words.species()
-    return Model(x0, xend, rtol, atol, int(steps), RULES.index(rule), amounts, words.reactions(names))
+    return Model(x0, xend, rtol, atol, int(steps), RULES.index(rule), amounts, words.reactions(names)), names
+
+
+def model_of_text(text):
+    """The model of a readable form, or Refused."""
+    return model_with_names(text)[0]
+
+
+# --- What `decay` prints --------------------------------------------------------------------------
+
+COUNTS = ("accepted", "rejected", "total", "ode", "jac", "lu")
+STATUS_LINE = re.compile(" ".join([r"status ([0-5])"] + [rf"{name} (0|[1-9][0-9]*)" for name in COUNTS]))
+REFUSED_LINE = re.compile(r"refused ([1-9][0-9]?)(?: ([1-9][0-9]*))?")
+UNPROVED = "unproved"
+
+
+def is_sheet(data):
+    """Whether these bytes begin as a sheet does, and no readable form."""
+    return data.startswith(b"%d\n" % SETTINGS)
+
+
+def model_and_names(data):
+    """Of a sheet or a readable form the model, and the names of its species behind `none`."""
+    if is_sheet(data):
+        model = model_of(data)
+        return model, numbered(model)
+    return model_with_names(data.decode("utf-8"))
+
+
+def run_in_words(lines, names):
+    """An answer of a run: its status in words, the counts, the point and the amounts as decimals, or Refused."""
+    status, *counts = map(int, STATUS_LINE.fullmatch(lines[0]).groups())
+    point, amounts = (re.fullmatch(rf"{letter}((?: [0-9a-f]{{16}})+)", line) for letter, line in zip("xy", lines[1:]))
+    if not point or not amounts or len(point.group(1).split()) != 1 or f"status {status}" not in MEANINGS:
+        raise Refused(None, None, "this is no answer of `decay`")
+    amounts = amounts.group(1).split()
+    if len(amounts) != len(names) - 1:
+        raise Refused(None, None, f"the answer has {len(amounts)} amounts, and the model {len(names) - 1} species")
+    told = [f"status {status}", MEANINGS[f"status {status}"]]
+    told += [", ".join(f"{name} {count}" for name, count in zip(COUNTS, counts))]
+    told += [f"{name} {written(int(bits, 16))}" for name, bits in zip(["x", *names[1:]], [point.group(1), *amounts])]
+    return told, 0 if status == 0 else 1
+
+
+def answer_in_words(text, names):
+    """The lines that say in words what `decay` printed, and the status to end with; or Refused."""
+    *lines, rest = text.split("\n")
+    head = lines[:1] if lines[:1] == [UNPROVED] else []
+    lines = lines[len(head) :]
+    refused = REFUSED_LINE.fullmatch(lines[0]) if len(lines) == 1 else None
+    if not rest and lines == ["unreadable"]:
+        return head + [f"unreadable: {MEANINGS['unreadable']}"], 3
+    if not rest and refused:
+        number, line = refused.groups()
+        why = MEANINGS.get(f"refused {number}", "document 01 has the number")
+        return head + [f"refused {number}: {why}" + (f" {line}" if line else "")], 3
+    if rest or len(lines) != 3 or not STATUS_LINE.fullmatch(lines[0]):
+        raise Refused(None, None, "this is no answer of `decay` to one sheet")
+    told, status = run_in_words(lines, names)
+    return head + told, status
 
 
 # --- The command ---------------------------------------------------------------------------------
+
+
+def wrong(why):
+    print(f"sheet.py: {why} (--help says what it takes)", file=sys.stderr)
+    sys.exit(2)
 
 
 def read(words):
@@ -288,20 +402,40 @@ def read(words):
     return sys.stdin.buffer.read()
 
 
+def made(act, words):
+    """What is written, and the status to end with."""
+    if act == "sheet":
+        data = read(words)
+        if is_sheet(data):
+            raise Refused(None, 1, "this is a sheet already: write `tools/sheet.py text` for its readable form")
+        return sheet_of(model_of_text(data.decode("utf-8"))), 0
+    if act == "text":
+        return text_of(model_of(read(words))).encode("ascii"), 0
+    _, names = model_and_names(read(words[:1]))
+    lines, status = answer_in_words(read(words[1:]).decode("ascii", "replace"), names)
+    return "".join(line + "\n" for line in lines).encode("ascii"), status
+
+
 def main(words):
-    if len(words) not in (1, 2) or words[0] not in ("sheet", "text"):
-        sys.exit("usage: tools/sheet.py sheet|text [FILE]")
+    if words and words[0] in ("--help", "-h"):
+        print(__doc__)
+        return
+    if not words or words[0] not in ("sheet", "text", "answer"):
+        wrong("the first word is sheet, text or answer")
+    least = 1 if words[0] == "answer" else 0
+    if not least <= len(words) - 1 <= least + 1 or any(word.startswith("-") for word in words):
+        wrong(f"{words[0]} takes {'MODEL, and ' if least else ''}one file at most")
     try:
-        data = read(words[1:])
-        if words[0] == "sheet":
-            made = sheet_of(model_of_text(data.decode("utf-8")))
-        else:
-            made = text_of(model_of(data)).encode("ascii")
+        written_out, status = made(words[0], words[1:])
     except Refused as refused:
-        sys.exit(refused.told())
+        print(refused.told(), file=sys.stderr)
+        sys.exit(3 if words[0] == "answer" else 1)
     except (OSError, UnicodeDecodeError) as trouble:
-        sys.exit(str(trouble))
-    sys.stdout.buffer.write(made)
+        print(trouble, file=sys.stderr)
+        sys.exit(3 if words[0] == "answer" else 1)
+    sys.stdout.buffer.write(written_out)
+    sys.stdout.buffer.flush()
+    sys.exit(status)
 
 
 if __name__ == "__main__":

@@ -33,7 +33,8 @@ impl SolOut for Label {
 fn main() {
     let mut label = Label { day: 604.0, left: f64::NAN };
     let solver = RADAU { mass_storage: MatrixStorage::Identity, max_steps: 500, ..RADAU::default() };
-    let answer = solver.solve(&Cylinder, 0.0, &[10.0, 0.25, 0.0, 0.0], 730.0, 1e-6.into(), 1e-10.into(), Some(&mut label));
+    let start = [10.0, 0.25, 0.0, 0.0];
+    let answer = solver.solve(&Cylinder, 0.0, &start, 730.0, 1e-6.into(), 1e-10.into(), Some(&mut label));
     match answer {
         Ok(run) => println!("{:.3} left, {} steps", label.left, run.steps.accepted),
         Err(error) => println!("no forecast: {error}"),

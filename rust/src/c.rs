@@ -1,8 +1,9 @@
-//! The border to the archive, and the only module with `unsafe`: each function of include/elchepur.h that this crate calls, as it is declared there,
-//! and a safe function around it that hands over each slice with its own length. tests/header.rs holds the declarations to the header.
+//! The border to the archive, and the only module with `unsafe`: each function of include/elchepur.h that this crate
+//! calls, as it is declared there, and a safe function around it that hands over each slice with its own length.
+//! tests/header.rs holds the declarations to the header.
 
 use crate::memory::Memory;
-use crate::numbers::{AT, FLOATS, NUMBERS, RESULT_FLOATS, RESULT_NUMBERS, STATE, TOLD};
+use crate::numbers::{AT, FLOATS, NUMBERS, PRINTED, RESULT_FLOATS, RESULT_NUMBERS, STATE, TOLD};
 
 /// What is handed to an opening besides memory.
 #[derive(Clone)]
@@ -33,33 +34,45 @@ extern "C" {
         numbers: &[u64; NUMBERS], floats: &[f64; FLOATS],
         n: usize, x0: f64, xend: f64, lists: u64, rtol_scalar: f64, atol_scalar: f64,
         state: &mut [u64; STATE], told: &mut [u64; TOLD], at: &mut [f64; AT],
-        y: *const f64, y_count: usize, f0: *mut f64, f0_count: usize, scal: *mut f64, scal_count: usize, cont: *mut f64, cont_count: usize,
+        y: *const f64, y_count: usize, f0: *mut f64, f0_count: usize,
+        scal: *mut f64, scal_count: usize, cont: *mut f64, cont_count: usize,
         z1: *mut f64, z1_count: usize, z2: *mut f64, z2_count: usize, z3: *mut f64, z3_count: usize,
         f1: *mut f64, f1_count: usize, f2: *mut f64, f2_count: usize, f3: *mut f64, f3_count: usize,
-        rtol: *mut f64, rtol_count: usize, atol: *mut f64, atol_count: usize, mass: *mut f64, mass_count: usize, jac: *mut f64, jac_count: usize,
+        rtol: *mut f64, rtol_count: usize, atol: *mut f64, atol_count: usize,
+        mass: *mut f64, mass_count: usize, jac: *mut f64, jac_count: usize,
         e1: *mut f64, e1_count: usize, e2r: *mut f64, e2r_count: usize, e2i: *mut f64, e2i_count: usize,
         ip1: *mut usize, ip1_count: usize, ip2: *mut usize, ip2_count: usize,
-        y_perturbed: *mut f64, y_perturbed_count: usize, f_perturbed: *mut f64, f_perturbed_count: usize, f_origin: *mut f64, f_origin_count: usize,
+        y_perturbed: *mut f64, y_perturbed_count: usize, f_perturbed: *mut f64, f_perturbed_count: usize,
+        f_origin: *mut f64, f_origin_count: usize,
     ) -> u64;
 
     fn elchepur_advance(
         state: &mut [u64; STATE], reply: u64, value: f64, told: &mut [u64; TOLD], at: &mut [f64; AT],
-        y: *mut f64, y_count: usize, f0: *const f64, f0_count: usize, scal: *mut f64, scal_count: usize, cont: *mut f64, cont_count: usize,
+        y: *mut f64, y_count: usize, f0: *const f64, f0_count: usize,
+        scal: *mut f64, scal_count: usize, cont: *mut f64, cont_count: usize,
         z1: *mut f64, z1_count: usize, z2: *mut f64, z2_count: usize, z3: *mut f64, z3_count: usize,
         f1: *mut f64, f1_count: usize, f2: *mut f64, f2_count: usize, f3: *mut f64, f3_count: usize,
-        rtol: *const f64, rtol_count: usize, atol: *const f64, atol_count: usize, mass: *const f64, mass_count: usize, jac: *mut f64, jac_count: usize,
+        rtol: *const f64, rtol_count: usize, atol: *const f64, atol_count: usize,
+        mass: *const f64, mass_count: usize, jac: *mut f64, jac_count: usize,
         e1: *mut f64, e1_count: usize, e2r: *mut f64, e2r_count: usize, e2i: *mut f64, e2i_count: usize,
         ip1: *mut usize, ip1_count: usize, ip2: *mut usize, ip2_count: usize,
-        y_perturbed: *mut f64, y_perturbed_count: usize, f_perturbed: *mut f64, f_perturbed_count: usize, f_origin: *mut f64, f_origin_count: usize,
+        y_perturbed: *mut f64, y_perturbed_count: usize, f_perturbed: *mut f64, f_perturbed_count: usize,
+        f_origin: *mut f64, f_origin_count: usize,
     ) -> u64;
 
-    fn elchepur_result(state: &[u64; STATE], numbers: &mut [u64; RESULT_NUMBERS], floats: &mut [f64; RESULT_FLOATS]) -> u64;
+    fn elchepur_result(
+        state: &[u64; STATE], numbers: &mut [u64; RESULT_NUMBERS], floats: &mut [f64; RESULT_FLOATS],
+    ) -> u64;
 
     fn elchepur_held_step(state: &[u64; STATE], h: &mut f64) -> u64;
 
-    fn elchepur_interpolate(xi: f64, yi: *mut f64, yi_count: usize, cont: *const f64, cont_count: usize, xold: f64, h: f64) -> u64;
+    fn elchepur_interpolate(
+        xi: f64, yi: *mut f64, yi_count: usize, cont: *const f64, cont_count: usize, xold: f64, h: f64,
+    ) -> u64;
 
     fn elchepur_bounds(xold: f64, h: f64, ends: &mut [f64; 2]);
+
+    fn elchepur_forecast(sheet: *const u8, sheet_count: usize, printed: &mut [u8; PRINTED]) -> u64;
 }
 
 /// What a call left, or the number that refuses.
@@ -81,18 +94,21 @@ pub(crate) fn default_settings() -> ([u64; NUMBERS], [f64; FLOATS]) {
 pub(crate) fn open(opening: &Opening, m: &mut Memory) -> Result<Run, u64> {
     let Opening { numbers, floats, n, x0, xend, lists, rtol, atol } = opening;
     let mut run = Run { state: [0; STATE], told: [0; TOLD], at: [0.0; AT] };
-    // SAFETY: each pointer goes with the length of the vector that it comes from, and no vector's pointer is null. The vectors are fields of one
-    // struct that is lent as a whole, and the arrays are others, so nothing overlaps.
+    // SAFETY: each pointer goes with the length of the vector that it comes from, and no vector's pointer is null. The
+    // vectors are fields of one struct that is lent as a whole, and the arrays are others, so nothing overlaps.
     let number = unsafe {
         elchepur_open(
             numbers, floats, *n, *x0, *xend, *lists, *rtol, *atol, &mut run.state, &mut run.told, &mut run.at,
-            m.y.as_ptr(), m.y.len(), m.f0.as_mut_ptr(), m.f0.len(), m.scal.as_mut_ptr(), m.scal.len(), m.cont.as_mut_ptr(), m.cont.len(),
+            m.y.as_ptr(), m.y.len(), m.f0.as_mut_ptr(), m.f0.len(),
+            m.scal.as_mut_ptr(), m.scal.len(), m.cont.as_mut_ptr(), m.cont.len(),
             m.z1.as_mut_ptr(), m.z1.len(), m.z2.as_mut_ptr(), m.z2.len(), m.z3.as_mut_ptr(), m.z3.len(),
             m.f1.as_mut_ptr(), m.f1.len(), m.f2.as_mut_ptr(), m.f2.len(), m.f3.as_mut_ptr(), m.f3.len(),
-            m.rtol.as_mut_ptr(), m.rtol.len(), m.atol.as_mut_ptr(), m.atol.len(), m.mass.as_mut_ptr(), m.mass.len(), m.jac.as_mut_ptr(), m.jac.len(),
+            m.rtol.as_mut_ptr(), m.rtol.len(), m.atol.as_mut_ptr(), m.atol.len(),
+            m.mass.as_mut_ptr(), m.mass.len(), m.jac.as_mut_ptr(), m.jac.len(),
             m.e1.as_mut_ptr(), m.e1.len(), m.e2r.as_mut_ptr(), m.e2r.len(), m.e2i.as_mut_ptr(), m.e2i.len(),
             m.ip1.as_mut_ptr(), m.ip1.len(), m.ip2.as_mut_ptr(), m.ip2.len(),
-            m.y_perturbed.as_mut_ptr(), m.y_perturbed.len(), m.f_perturbed.as_mut_ptr(), m.f_perturbed.len(), m.f_origin.as_mut_ptr(), m.f_origin.len(),
+            m.y_perturbed.as_mut_ptr(), m.y_perturbed.len(), m.f_perturbed.as_mut_ptr(), m.f_perturbed.len(),
+            m.f_origin.as_mut_ptr(), m.f_origin.len(),
         )
     };
     answered(number, run)
@@ -104,13 +120,16 @@ pub(crate) fn advance(run: &mut Run, reply: u64, value: f64, m: &mut Memory) -> 
     let number = unsafe {
         elchepur_advance(
             &mut run.state, reply, value, &mut run.told, &mut run.at,
-            m.y.as_mut_ptr(), m.y.len(), m.f0.as_ptr(), m.f0.len(), m.scal.as_mut_ptr(), m.scal.len(), m.cont.as_mut_ptr(), m.cont.len(),
+            m.y.as_mut_ptr(), m.y.len(), m.f0.as_ptr(), m.f0.len(),
+            m.scal.as_mut_ptr(), m.scal.len(), m.cont.as_mut_ptr(), m.cont.len(),
             m.z1.as_mut_ptr(), m.z1.len(), m.z2.as_mut_ptr(), m.z2.len(), m.z3.as_mut_ptr(), m.z3.len(),
             m.f1.as_mut_ptr(), m.f1.len(), m.f2.as_mut_ptr(), m.f2.len(), m.f3.as_mut_ptr(), m.f3.len(),
-            m.rtol.as_ptr(), m.rtol.len(), m.atol.as_ptr(), m.atol.len(), m.mass.as_ptr(), m.mass.len(), m.jac.as_mut_ptr(), m.jac.len(),
+            m.rtol.as_ptr(), m.rtol.len(), m.atol.as_ptr(), m.atol.len(),
+            m.mass.as_ptr(), m.mass.len(), m.jac.as_mut_ptr(), m.jac.len(),
             m.e1.as_mut_ptr(), m.e1.len(), m.e2r.as_mut_ptr(), m.e2r.len(), m.e2i.as_mut_ptr(), m.e2i.len(),
             m.ip1.as_mut_ptr(), m.ip1.len(), m.ip2.as_mut_ptr(), m.ip2.len(),
-            m.y_perturbed.as_mut_ptr(), m.y_perturbed.len(), m.f_perturbed.as_mut_ptr(), m.f_perturbed.len(), m.f_origin.as_mut_ptr(), m.f_origin.len(),
+            m.y_perturbed.as_mut_ptr(), m.y_perturbed.len(), m.f_perturbed.as_mut_ptr(), m.f_perturbed.len(),
+            m.f_origin.as_mut_ptr(), m.f_origin.len(),
         )
     };
     answered(number, ())
@@ -131,7 +150,8 @@ pub(crate) fn held_step(run: &Run) -> Result<f64, u64> {
 }
 
 pub(crate) fn interpolate(xi: f64, yi: &mut [f64], cont: &[f64], xold: f64, h: f64) -> Result<(), u64> {
-    // SAFETY: each pointer goes with the length of its slice; one slice is lent to be written, so the other can't overlap it.
+    // SAFETY: each pointer goes with the length of its slice; one slice is lent to be written, so the other can't
+    // overlap it.
     let number = unsafe { elchepur_interpolate(xi, yi.as_mut_ptr(), yi.len(), cont.as_ptr(), cont.len(), xold, h) };
     answered(number, ())
 }
@@ -141,4 +161,12 @@ pub(crate) fn bounds(xold: f64, h: f64) -> (f64, f64) {
     // SAFETY: an array of the length that the header gives.
     unsafe { elchepur_bounds(xold, h, &mut ends) };
     (ends[0], ends[1])
+}
+
+/// What is printed of a sheet.
+pub(crate) fn forecast(sheet: &[u8]) -> Vec<u8> {
+    let mut printed = [0; PRINTED];
+    // SAFETY: the pointer goes with the length of its slice, and the array is another and has the header's length.
+    let count = unsafe { elchepur_forecast(sheet.as_ptr(), sheet.len(), &mut printed) };
+    printed.iter().copied().take(usize::try_from(count).unwrap_or(PRINTED)).collect()
 }

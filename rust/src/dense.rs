@@ -18,8 +18,8 @@ impl<'a> StepInterpolant<'a> {
         StepInterpolant { cont, xold, h }
     }
 
-    /// Writes the amounts at xi into `yi`, from its first entry on. xi should lie within [`bounds`](StepInterpolant::bounds); beyond them the polynomial is
-    /// followed further.
+    /// Writes the amounts at xi into `yi`, from its first entry on. xi should lie within
+    /// [`bounds`](StepInterpolant::bounds); beyond them the polynomial is followed further.
     ///
     /// # Panics
     /// Where `yi` is shorter than y, as in ivp; nothing is written then.
@@ -68,7 +68,8 @@ impl DenseSegment {
     }
 }
 
-/// The amounts at xi from the coefficients of a step. A short target is refused by the solver with 19, and nothing is written.
+/// The amounts at xi from the coefficients of a step. A short target is refused by the solver with 19, and nothing is
+/// written.
 pub(crate) fn interpolate(xi: f64, yi: &mut [f64], cont: &[f64], xold: f64, h: f64) {
     if let Err(number) = c::interpolate(xi, yi, cont, xold, h) {
         panic!("refused ({number}): the target is shorter than a quarter of the coefficients");

@@ -1,7 +1,7 @@
 //! All that [`solve`](crate::methods::RADAU::solve) gives in place of a result.
 
 use crate::outcome::{Evals, Steps};
-pub use crate::refused::Refused;
+pub use crate::refused::{Refused, RefusedOpening};
 use crate::status::Status;
 use std::fmt;
 
@@ -29,12 +29,13 @@ use std::fmt;
 #[derive(Clone, Debug, PartialEq)]
 pub enum Error {
     /// The opening was refused, and nothing was run.
-    Refused(Refused),
+    Refused(RefusedOpening),
     /// One tolerance is a number and the other a list, which this port doesn't have; nothing was run.
     MixedTolerances,
     /// A report was answered with [`Interrupt`](crate::solout::ControlFlag::Interrupt).
     Interrupted(Interrupted),
-    /// A report wrote x or y and was not answered with [`ModifiedSolution`](crate::solout::ControlFlag::ModifiedSolution); the run was given up there.
+    /// A report wrote x or y and was not answered with
+    /// [`ModifiedSolution`](crate::solout::ControlFlag::ModifiedSolution); the run was given up there.
     Altered {
         /// The point of that report.
         x: f64,
@@ -49,7 +50,9 @@ impl fmt::Display for Error {
     fn fmt(&self, f: &mut fmt::Formatter<'_>) -> fmt::Result {
         match self {
             Error::Refused(refused) => refused.fmt(f),
-            Error::MixedTolerances => f.write_str("one tolerance is a number and the other a list: give both as numbers or both as lists"),
+            Error::MixedTolerances => {
+                f.write_str("one tolerance is a number and the other a list: give both as numbers or both as lists")
+            }
             Error::Interrupted(interrupted) => interrupted.fmt(f),
             Error::Altered { x } => {
                 write!(f, "given up at x = {x}: a report wrote x or y and was not answered with ModifiedSolution")
@@ -85,8 +88,8 @@ impl fmt::Display for Interrupted {
     }
 }
 
-/// A run that ended before its end. It has amounts, but none at xend: they are had by [`reached`](BrokenOff::reached) alone, with the point that they
-/// belong to.
+/// A run that ended before its end. It has amounts, but none at xend: they are had by [`reached`](BrokenOff::reached)
+/// alone, with the point that they belong to.
 ///
 /// ```
 /// # use elchepur::prelude::*;
@@ -127,6 +130,7 @@ pub struct BrokenOff {
     pub(crate) h: f64,
     pub(crate) evals: Evals,
     pub(crate) steps: Steps,
+    pub(crate) has_zero_mass: bool,
 }
 
 /// The last point that a broken-off run reached.
@@ -176,13 +180,12 @@ impl std::error::Error for BrokenOff {}
 impl fmt::Display for BrokenOff {
     fn fmt(&self, f: &mut fmt::Formatter<'_>) -> fmt::Result {
         let BrokenOff { status, reached, xend, steps, .. } = self;
-        write!(
-            f,
-            "broken off at x = {}, on the way to {xend}: {status} (status {}, {status:?}), with {} steps accepted and {} rejected",
-            reached.x,
-            status.number(),
-            steps.accepted,
-            steps.rejected
-        )
+        let (x, number, Steps { accepted, rejected, .. }) = (reached.x, status.number(), steps);
+        write!(f, "broken off at x = {x}, on the way to {xend}: {status} (status {number}, {status:?}), ")?;
+        write!(f, "with {accepted} steps accepted and {rejected} rejected")?;
+        if self.has_zero_mass && *status == Status::SingularMatrix {
+            f.write_str("; the mass is all zeros: for y' = f(x, y) choose MatrixStorage::Identity")?;
+        }
+        Ok(())
     }
 }

@@ -1,7 +1,8 @@
 //! The stiff solver RADAU (Radau IIA, order 5), proved in Rattle, under the names that the crate `ivp` has for it.
 //!
-//! A program that called `ivp`'s RADAU calls this one with another `use` line. What differs is what it gets: a result is a run that succeeded,
-//! and every other end is an [`Error`](error::Error), so that a broken-off run can't be shown as a result.
+//! A program that called `ivp`'s RADAU calls this one with another `use` line. What differs is what it gets: a result
+//! is a run that succeeded, and every other end is an [`Error`](error::Error), so that a broken-off run can't be shown
+//! as a result.
 //!
 //! ```
 //! use elchepur::prelude::*;
@@ -28,18 +29,22 @@
 //! }
 //! ```
 //!
-//! The archive behind it is proved to do what ivp does, bit for bit, with ivp's power calls directed to routines that are the same on every machine.
-//! This crate around it is not proved; its tests hold it to answers of ivp.
+//! The archive behind it is proved to do what ivp does, bit for bit, with ivp's power calls directed to routines that
+//! are the same on every machine. This crate around it is not proved; its tests hold it to answers of ivp.
 #![deny(unsafe_code, missing_docs)]
 
 #[allow(unsafe_code)]
 mod c;
 pub mod dense;
 pub mod error;
+mod forecast;
+mod found;
 pub mod matrix;
 mod memory;
 mod numbers;
 mod outcome;
+mod points;
+mod printed;
 mod refused;
 mod run;
 mod settings;
@@ -47,6 +52,12 @@ pub mod solout;
 pub mod status;
 mod system;
 mod tolerance;
+
+pub use crate::forecast::{forecast, BrokenOffSheet, Forecast, NoForecast};
+
+/// Whether the archive behind this crate bears the mark of the kit that proves. It does, unless whoever built this
+/// program set ELCHEPUR_ALLOW_UNPROVED.
+pub const IS_PROVED: bool = !env!("ELCHEPUR_LOGIC").is_empty();
 
 /// The system of equations, where ivp has it.
 pub mod ivp {
@@ -63,10 +74,11 @@ pub mod methods {
 /// All names of this crate.
 pub mod prelude {
     pub use crate::dense::{DenseSegment, StepInterpolant};
-    pub use crate::error::{BrokenOff, Error, Interrupted, Reached, Refused};
+    pub use crate::error::{BrokenOff, Error, Interrupted, Reached, Refused, RefusedOpening};
+    pub use crate::forecast::{forecast, BrokenOffSheet, Forecast, NoForecast};
     pub use crate::ivp::FirstOrderSystem;
     pub use crate::matrix::{Matrix, MatrixStorage};
     pub use crate::methods::{Evals, IntegrationResult, RADAUBuilder, Rule, Steps, Tolerance, RADAU};
-    pub use crate::solout::{ControlFlag, NoSolOut, SolOut};
+    pub use crate::solout::{AtPoints, ControlFlag, NoSolOut, SolOut};
     pub use crate::status::Status;
 }

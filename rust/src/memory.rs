@@ -29,8 +29,8 @@ pub(crate) struct Memory {
 }
 
 impl Memory {
-    /// Memory for these amounts, zeros but for them. More amounts than a run may have are refused before any length is looked at, so no memory is
-    /// made for them.
+    /// Memory for these amounts, zeros but for them. More amounts than a run may have are refused before any length is
+    /// looked at, so no memory is made for them.
     pub fn of(y: &[f64]) -> Memory {
         let n = y.len().min(MOST);
         let (vector, matrix) = (vec![0.0; n], vec![0.0; n * n]);

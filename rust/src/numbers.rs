@@ -8,6 +8,7 @@ pub const TOLD: usize = 3;
 pub const AT: usize = 2;
 pub const RESULT_NUMBERS: usize = 7;
 pub const RESULT_FLOATS: usize = 2;
+pub const PRINTED: usize = 1024;
 
 pub const NUMBER_MAX_STEPS: usize = 0;
 pub const NUMBER_NEWTON_MAXITER: usize = 1;

@@ -2,12 +2,13 @@
 
 /// A run that reached its end: the last attempt was aimed at xend and accepted.
 ///
-/// Only [`solve`](crate::methods::RADAU::solve) makes one, and only of such a run, so whoever holds one holds the amounts at the end.
-/// Nobody else can:
+/// Only [`solve`](crate::methods::RADAU::solve) makes one, and only of such a run, so whoever holds one holds the
+/// amounts at the end. Nobody else can:
 ///
 /// ```compile_fail
 /// # use elchepur::prelude::*;
-/// let invented = IntegrationResult { x: 730.0, y: vec![9.5], h: 1.0, evals: Evals::default(), steps: Steps::default() };
+/// let (evals, steps) = (Evals::default(), Steps::default());
+/// let invented = IntegrationResult { x: 730.0, y: vec![9.5], h: 1.0, evals, steps };
 /// ```
 ///
 /// Its parts can be taken from it:
@@ -34,7 +35,8 @@ pub struct IntegrationResult {
     pub steps: Steps,
 }
 
-/// How often what was evaluated. That each is the number of what happened is a theorem about the solver behind this crate.
+/// How often what was evaluated. That each is the number of what happened is a theorem about the solver behind this
+/// crate.
 #[derive(Clone, Copy, Debug, Default, PartialEq, Eq)]
 pub struct Evals {
     /// Derivatives, without those of difference Jacobians.

@@ -36,14 +36,22 @@ pub enum Refused {
 const REFUSALS: [(Refused, u64, &str); 12] = [
     (Refused::Order, REFUSED_ORDER, "n is not 1 to 32"),
     (Refused::Part, REFUSED_PART, "a lent part has the wrong length"),
-    (Refused::NotFinite, REFUSED_NOT_FINITE, "a given float is not finite: ends, amounts, mass entries, tolerances, settings"),
+    (
+        Refused::NotFinite,
+        REFUSED_NOT_FINITE,
+        "a given float is not finite: ends, amounts, mass entries, tolerances, settings",
+    ),
     (Refused::MaxSteps, REFUSED_MAX_STEPS, "max_steps is not 1 to 1,000,000"),
     (Refused::Uround, REFUSED_UROUND, "uround <= 1e-35 or >= 1"),
     (Refused::SafetyFactor, REFUSED_SAFETY_FACTOR, "safety_factor <= 1e-4 or >= 1"),
     (Refused::Scales, REFUSED_SCALES, "scale_min <= 0 or not below scale_max"),
     (Refused::NewtonMaxiter, REFUSED_NEWTON_MAXITER, "newton_maxiter is not 1 to 16"),
     (Refused::Tolerance, REFUSED_TOLERANCE, "an rtol <= 0 or an atol < 0"),
-    (Refused::Partition, REFUSED_PARTITION, "nind1 is given and the three don't sum to n, or only others are and exceed n"),
+    (
+        Refused::Partition,
+        REFUSED_PARTITION,
+        "nind1 is given and the three don't sum to n, or only others are and exceed n",
+    ),
     (Refused::FirstStep, REFUSED_FIRST_STEP, "first_step is given as 0"),
     (Refused::StepLimits, REFUSED_STEP_LIMITS, "max_step < 0, or min_step above the step ceiling"),
 ];
@@ -61,6 +69,33 @@ impl Refused {
     /// Its number, 1 to 12, as the program `decay` prints it.
     pub fn number(self) -> u64 {
         self.row().1
+    }
+}
+
+/// An opening of `solve` that was refused: why, and what was found in what was given.
+#[derive(Clone, Debug, PartialEq, Eq)]
+pub struct RefusedOpening {
+    pub(crate) refused: Refused,
+    pub(crate) found: String,
+}
+
+impl RefusedOpening {
+    /// Why.
+    pub fn refused(&self) -> Refused {
+        self.refused
+    }
+
+    /// Its number: see [`Refused::number`].
+    pub fn number(&self) -> u64 {
+        self.refused.number()
+    }
+}
+
+impl std::error::Error for RefusedOpening {}
+
+impl fmt::Display for RefusedOpening {
+    fn fmt(&self, f: &mut fmt::Formatter<'_>) -> fmt::Result {
+        write!(f, "refused ({}): {}", self.number(), self.found)
     }
 }
 

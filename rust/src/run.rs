@@ -1,8 +1,9 @@
-//! A run from its opening to its end: each request of the solver becomes a call of the system or of the `SolOut`, in ivp's order.
+//! A run from its opening to its end: each request of the solver becomes a call of the system or of the `SolOut`, in
+//! ivp's order.
 
 use crate::c::{self, Opening};
 use crate::dense::StepInterpolant;
-use crate::error::{BrokenOff, Error, Interrupted, Reached, Refused};
+use crate::error::{BrokenOff, Error, Interrupted, Reached, Refused, RefusedOpening};
 use crate::matrix::{Matrix, MatrixStorage};
 use crate::memory::Memory;
 use crate::numbers::*;
@@ -18,9 +19,11 @@ const OF_THE_SYSTEM: u64 = 0;
 const BY_DIFFERENCES: u64 = 1;
 
 impl RADAU {
-    /// Solves a system from x0 and y0 to xend. A result is a run that succeeded, and nothing else is: how else it can end stands in [`Error`].
+    /// Solves a system from x0 and y0 to xend. A result is a run that succeeded, and nothing else is: how else it can
+    /// end stands in [`Error`].
     ///
-    /// The system and the `SolOut` are called in ivp's order and with its bits, but for `mass`, which is asked for before the run.
+    /// The system and the `SolOut` are called in ivp's order and with its bits, but for `mass`, which is asked for
+    /// before the run.
     ///
     /// # Panics
     /// Where the system or the `SolOut` does; where `jac` leaves the Jacobian to the solver after it has made one.
@@ -42,15 +45,16 @@ impl RADAU {
         let given = Given::new(self, f, (x0, xend), y0, (rtol, atol))?;
         let talk = given.opened(OF_THE_SYSTEM).map_err(Error::Refused)?;
         let jac = Matrix::zeros(y0.len(), y0.len());
-        let solving = Solving { given: &given, f, solout, talk, jac, made_jac: false, first_reply: (REPLY_CONTINUE, 0.0) };
-        solving.ended()?.result(xend)
+        let solving =
+            Solving { given: &given, f, solout, talk, jac, made_jac: false, first_reply: (REPLY_CONTINUE, 0.0) };
+        solving.ended()?.result(&given)
     }
 }
 
 /// All that a run is opened with, so that it can be opened a second time.
-struct Given {
-    opening: Opening,
-    memory: Memory,
+pub(crate) struct Given {
+    pub opening: Opening,
+    pub memory: Memory,
 }
 
 impl Given {
@@ -82,12 +86,19 @@ impl Given {
         Ok(Given { opening, memory })
     }
 
-    fn opened(&self, source: u64) -> Result<Talk, Refused> {
+    fn has_zero_mass(&self) -> bool {
+        self.opening.numbers[NUMBER_MASS] != 0 && self.memory.mass.iter().all(|entry| *entry == 0.0)
+    }
+
+    fn opened(&self, source: u64) -> Result<Talk, RefusedOpening> {
         let (mut opening, mut memory) = (self.opening.clone(), self.memory.clone());
         opening.numbers[NUMBER_SOURCE] = source;
         match c::open(&opening, &mut memory) {
             Ok(run) => Ok(Talk { run, memory }),
-            Err(number) => Err(Refused::of(number).expect("an opening refuses with 1 to 12")),
+            Err(number) => {
+                let refused = Refused::of(number).expect("an opening refuses with 1 to 12");
+                Err(RefusedOpening { refused, found: self.found(refused) })
+            }
         }
     }
 }
@@ -105,12 +116,13 @@ impl Talk {
         answer.expect("the solver takes every reply of the kind that it asked for");
     }
 
-    fn result(self, xend: f64) -> Result<IntegrationResult, Error> {
+    fn result(self, given: &Given) -> Result<IntegrationResult, Error> {
         let (numbers, floats) = c::result(&self.run).expect("a run that has ended has a result");
         let count = |at: usize| numbers[at] as usize;
         let evals = Evals { ode: count(RESULT_ODE), jac: count(RESULT_JAC), lu: count(RESULT_LU) };
-        let steps = Steps { total: count(RESULT_TOTAL), accepted: count(RESULT_ACCEPTED), rejected: count(RESULT_REJECTED) };
-        let (x, y, h) = (floats[RESULT_X], self.memory.y, floats[RESULT_H]);
+        let steps =
+            Steps { total: count(RESULT_TOTAL), accepted: count(RESULT_ACCEPTED), rejected: count(RESULT_REJECTED) };
+        let (x, y, h, xend) = (floats[RESULT_X], self.memory.y, floats[RESULT_H], given.opening.xend);
         match numbers[RESULT_STATUS] {
             STATUS_SUCCESS => Ok(IntegrationResult { x, y, h, evals, steps }),
             STATUS_USER_INTERRUPT => Err(Error::Interrupted(Interrupted { x, y, xend, h, evals, steps })),
@@ -121,6 +133,7 @@ impl Talk {
                 h,
                 evals,
                 steps,
+                has_zero_mass: given.has_zero_mass(),
             })),
         }
     }
@@ -180,8 +193,8 @@ impl<F: FirstOrderSystem + ?Sized, S: SolOut + ?Sized> Solving<'_, F, S> {
         (REPLY_FILLED, 0.0)
     }
 
-    /// Whether a system leaves its Jacobian to the solver shows when it is first asked for one; and a run is opened with that. So here it is opened anew and is
-    /// told what it was told before, which ends at the same point.
+    /// Whether a system leaves its Jacobian to the solver shows when it is first asked for one; and a run is opened
+    /// with that. So here it is opened anew and is told what it was told before, which ends at the same point.
     fn begin_by_differences(&mut self) {
         let opened = self.given.opened(BY_DIFFERENCES);
         let mut other = opened.expect("what was accepted is accepted");
@@ -208,7 +221,8 @@ impl<F: FirstOrderSystem + ?Sized, S: SolOut + ?Sized> Solving<'_, F, S> {
         let step = StepInterpolant::new(&memory.cont, xold, held);
         let offered = (run.told[TOLD_FLAG] != 0).then_some(&step);
         let flag = solout.solout(xold, &mut x, &mut y, offered);
-        let kept = x.to_bits() == here.to_bits() && y.iter().zip(&memory.y).all(|(new, old)| new.to_bits() == old.to_bits());
+        let kept =
+            x.to_bits() == here.to_bits() && y.iter().zip(&memory.y).all(|(new, old)| new.to_bits() == old.to_bits());
         match flag {
             ControlFlag::ModifiedSolution => {
                 memory.y.copy_from_slice(&y);

@@ -1,4 +1,5 @@
-//! The settings of the solver, and their builder. The defaults are those that the archive gives; they stand in no list here.
+//! The settings of the solver, and their builder. The defaults are those that the archive gives; they stand in no list
+//! here.
 
 use crate::c;
 use crate::dense;
@@ -10,8 +11,8 @@ use crate::numbers::*;
 pub enum Rule {
     /// As ivp does it, bit for bit.
     Rust,
-    /// As the published RADAU5 does it in two places where ivp departs from it: a single tolerance is converted once, and a slow Newton iteration
-    /// ends the attempt.
+    /// As the published RADAU5 does it in two places where ivp departs from it: a single tolerance is converted once,
+    /// and a slow Newton iteration ends the attempt.
     Book,
 }
 
@@ -197,11 +198,11 @@ macro_rules! optional_choices {
 }
 
 choices! {
-    max_steps: usize, uround: f64, safety_factor: f64, scale_min: f64, scale_max: f64, newton_maxiter: usize, predictive: bool,
-    mass_storage: MatrixStorage, dense_output: bool, rule: Rule
+    max_steps: usize, uround: f64, safety_factor: f64, scale_min: f64, scale_max: f64, newton_maxiter: usize,
+    predictive: bool, mass_storage: MatrixStorage, dense_output: bool, rule: Rule
 }
 
 optional_choices! {
-    max_step, maybe_max_step: f64, min_step, maybe_min_step: f64, newton_tol, maybe_newton_tol: f64, first_step, maybe_first_step: f64,
-    nind1, maybe_nind1: usize, nind2, maybe_nind2: usize, nind3, maybe_nind3: usize
+    max_step, maybe_max_step: f64, min_step, maybe_min_step: f64, newton_tol, maybe_newton_tol: f64,
+    first_step, maybe_first_step: f64, nind1, maybe_nind1: usize, nind2, maybe_nind2: usize, nind3, maybe_nind3: usize
 }

@@ -1,6 +1,7 @@
 //! What is told of a run while it goes on.
 
 use crate::dense::StepInterpolant;
+pub use crate::points::AtPoints;
 
 /// What becomes of a run after a report.
 #[derive(Clone, Copy, Debug, PartialEq)]
@@ -30,7 +31,13 @@ pub enum ControlFlag {
 /// // The amount at x = 1, read off the step that goes past it.
 /// struct AtOne(Option<f64>);
 /// impl SolOut for AtOne {
-///     fn solout(&mut self, xold: f64, x: &mut f64, _y: &mut [f64], step: Option<&StepInterpolant<'_>>) -> ControlFlag {
+///     fn solout(
+///         &mut self,
+///         xold: f64,
+///         x: &mut f64,
+///         _y: &mut [f64],
+///         step: Option<&StepInterpolant<'_>>,
+///     ) -> ControlFlag {
 ///         if let Some(step) = step.filter(|_| xold < 1.0 && *x >= 1.0) {
 ///             let mut y = [0.0];
 ///             step.interpolate(1.0, &mut y);
@@ -47,12 +54,19 @@ pub enum ControlFlag {
 /// # Ok::<(), Error>(())
 /// ```
 pub trait SolOut {
-    /// Told the x before the step and the x and y after it; at the first report both x are the start. `interpolant` is never there at the first report, and
-    /// later where `dense_output` is on or an [`XOut`](ControlFlag::XOut) is due.
+    /// Told the x before the step and the x and y after it; at the first report both x are the start. `interpolant` is
+    /// never there at the first report, and later where `dense_output` is on or an [`XOut`](ControlFlag::XOut) is due.
     ///
-    /// x and y may be written together with [`ControlFlag::ModifiedSolution`]. ivp takes up what is written with any flag; this
-    /// solver can't, and the call of `solve` then ends with [`Error::Altered`](crate::error::Error::Altered).
-    fn solout(&mut self, xold: f64, x: &mut f64, y: &mut [f64], interpolant: Option<&StepInterpolant<'_>>) -> ControlFlag;
+    /// x and y may be written together with [`ControlFlag::ModifiedSolution`]. ivp takes up what is written with any
+    /// flag; this solver can't, and the call of `solve` then ends with
+    /// [`Error::Altered`](crate::error::Error::Altered).
+    fn solout(
+        &mut self,
+        xold: f64,
+        x: &mut f64,
+        y: &mut [f64],
+        interpolant: Option<&StepInterpolant<'_>>,
+    ) -> ControlFlag;
 }
 
 /// For a caller that wants no reports: `None::<&mut NoSolOut>`.
@@ -60,7 +74,13 @@ pub trait SolOut {
 pub enum NoSolOut {}
 
 impl SolOut for NoSolOut {
-    fn solout(&mut self, _xold: f64, _x: &mut f64, _y: &mut [f64], _interpolant: Option<&StepInterpolant<'_>>) -> ControlFlag {
+    fn solout(
+        &mut self,
+        _xold: f64,
+        _x: &mut f64,
+        _y: &mut [f64],
+        _interpolant: Option<&StepInterpolant<'_>>,
+    ) -> ControlFlag {
         match *self {}
     }
 }

@@ -3,8 +3,9 @@
 use crate::numbers::{STATUS_NEED_LARGER_NMAX, STATUS_SINGULAR_MATRIX, STATUS_STEP_SIZE_TOO_SMALL};
 use std::fmt;
 
-/// Why a run broke off before its end. ivp's `Success` and `UserInterrupt` are not here: [`solve`](crate::methods::RADAU::solve) gives a
-/// result for the one and [`Error::Interrupted`](crate::error::Error::Interrupted) for the other. Nor are the two that RADAU never gives.
+/// Why a run broke off before its end. ivp's `Success` and `UserInterrupt` are not here:
+/// [`solve`](crate::methods::RADAU::solve) gives a result for the one and
+/// [`Error::Interrupted`](crate::error::Error::Interrupted) for the other. Nor are the two that RADAU never gives.
 #[derive(Clone, Copy, Debug, PartialEq, Eq)]
 pub enum Status {
     /// As many attempts as `max_steps` permits did not reach the end.

@@ -35,9 +35,11 @@ pub trait FirstOrderSystem {
     /// Writes the derivative at x and y into `dydx`, which has as many entries as y.
     fn derivative(&self, x: f64, y: &[f64], dydx: &mut [f64]);
 
-    /// Writes the Jacobian of `derivative` at x and y into `j`, which has zeros the first time, and later what was written before.
+    /// Writes the Jacobian of `derivative` at x and y into `j`, which has zeros the first time, and later what was
+    /// written before.
     ///
-    /// A system that has none leaves it to the solver, which then makes it by differences of `derivative`, in ivp's order and with its bits.
+    /// A system that has none leaves it to the solver, which then makes it by differences of `derivative`, in ivp's
+    /// order and with its bits.
     fn jac(&self, _x: f64, _y: &[f64], j: &mut Matrix) {
         j.leave_to_solver();
     }

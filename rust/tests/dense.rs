@@ -1,4 +1,5 @@
-//! Dense output: the Rust's answers of crates/matrix_replay/stdin (laid out as tests/matrix_answers.py says), and steps of a run.
+//! Dense output: the Rust's answers of crates/matrix_replay/stdin (laid out as tests/matrix_answers.py says), and steps
+//! of a run.
 
 mod shared;
 
@@ -26,7 +27,10 @@ fn interpolations_have_the_rusts_bits() {
         let (cont, at) = (floats(&mut lines, count(4)), floats(&mut lines, count(5)));
         let (mut target, wanted) = (floats(&mut lines, count(6)), floats(&mut lines, count(6)));
         RADAU::interpolate(at[0], &mut target, &cont, at[1], at[2]);
-        assert!(target.iter().map(|y| bits(*y)).eq(wanted.iter().map(|y| bits(*y))), "{head}: {target:?} and not {wanted:?}");
+        assert!(
+            target.iter().map(|y| bits(*y)).eq(wanted.iter().map(|y| bits(*y))),
+            "{head}: {target:?} and not {wanted:?}"
+        );
         compared += 1;
     }
     assert_eq!(compared, 156);
@@ -64,7 +68,8 @@ impl SolOut for Kept {
 fn kept(xend: f64) -> Vec<DenseSegment> {
     let solver = RADAU::builder().mass_storage(MatrixStorage::Identity).rule(Rule::Book).build();
     let mut kept = Kept::default();
-    let run = solver.solve(&Circle, 0.0, &[0.0, 1.0], xend, 1e-9.into(), 1e-9.into(), Some(&mut kept)).expect("a result");
+    let run =
+        solver.solve(&Circle, 0.0, &[0.0, 1.0], xend, 1e-9.into(), 1e-9.into(), Some(&mut kept)).expect("a result");
     assert_eq!(kept.0.len(), run.steps.accepted);
     kept.0
 }

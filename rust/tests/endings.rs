@@ -1,7 +1,7 @@
 //! How a run can end other than well, and what a system and a `SolOut` see of it.
 
 use elchepur::prelude::*;
-use std::cell::RefCell;
+use std::cell::{Cell, RefCell};
 
 /// y' = -y, which notes what is asked of it.
 #[derive(Default)]
@@ -48,13 +48,17 @@ fn solver() -> RADAU {
     RADAU::builder().mass_storage(MatrixStorage::Identity).build()
 }
 
-fn solve<A: FnMut(usize, &mut f64, &mut [f64]) -> ControlFlag>(solver: &RADAU, answer: A) -> Result<IntegrationResult, Error> {
+fn solve<A: FnMut(usize, &mut f64, &mut [f64]) -> ControlFlag>(
+    solver: &RADAU,
+    answer: A,
+) -> Result<IntegrationResult, Error> {
     solver.solve(&Decay::default(), 0.0, &[1.0], 1.0, 1e-6.into(), 1e-6.into(), Some(&mut Answering(0, answer)))
 }
 
 #[test]
 fn an_interrupt_is_its_own_case() {
-    let answer = solve(&solver(), |count, _, _| if count == 3 { ControlFlag::Interrupt } else { ControlFlag::Continue });
+    let answer =
+        solve(&solver(), |count, _, _| if count == 3 { ControlFlag::Interrupt } else { ControlFlag::Continue });
     let Err(Error::Interrupted(run)) = answer else { panic!("{answer:?}") };
     assert_eq!(run.steps.accepted, 3);
     assert!(run.x > 0.0 && run.x < 1.0 && run.y[0] < 1.0);
@@ -70,7 +74,8 @@ fn too_few_steps_break_a_run_off() {
     assert_eq!(
         run.to_string(),
         format!(
-            "broken off at x = {}, on the way to 1: max_steps is used up (status 2, NeedLargerNMax), with 2 steps accepted and 0 rejected",
+            "broken off at x = {}, on the way to 1: max_steps is used up (status 2, NeedLargerNMax), \
+             with 2 steps accepted and 0 rejected",
             run.reached().x
         )
     );
@@ -96,6 +101,33 @@ fn a_full_mass_that_nobody_fills_is_zero_as_in_the_rust() {
     let (evals, steps) = (run.evals(), run.steps());
     // Document 01 has these counts.
     assert_eq!((run.status(), steps.total, evals.ode, evals.jac, evals.lu), (Status::SingularMatrix, 0, 1, 6, 6));
+    let hint = "; the mass is all zeros: for y' = f(x, y) choose MatrixStorage::Identity";
+    assert!(run.to_string().ends_with(hint), "{run}");
+}
+
+#[test]
+fn where_the_mass_is_not_to_blame_no_hint_is_given() {
+    // A derivative with which Newton's iteration can't converge, and a mass that is not zero.
+    struct Wild(Cell<f64>);
+    impl FirstOrderSystem for Wild {
+        fn derivative(&self, _x: f64, _y: &[f64], dydx: &mut [f64]) {
+            self.0.set(-3.0 * self.0.get());
+            dydx[0] = self.0.get();
+        }
+
+        fn mass(&self, m: &mut Matrix) {
+            if m.storage() == MatrixStorage::Full {
+                m[(0, 0)] = 1.0;
+            }
+        }
+    }
+    for storage in [MatrixStorage::Identity, MatrixStorage::Full] {
+        let (solver, wild) = (RADAU { mass_storage: storage, ..RADAU::default() }, Wild(Cell::new(1e9)));
+        let answer = solver.solve(&wild, 0.0, &[1.0], 1.0, 1e-6.into(), 1e-6.into(), None::<&mut NoSolOut>);
+        let Err(Error::BrokenOff(run)) = answer else { panic!("{answer:?}") };
+        assert_eq!(run.status(), Status::SingularMatrix);
+        assert!(run.to_string().ends_with(" rejected"), "{run}");
+    }
 }
 
 #[test]
@@ -136,13 +168,15 @@ fn a_modified_start_is_solved_from() {
 #[test]
 fn a_system_is_called_in_the_rusts_order() {
     let plain = Decay::default();
-    let run = solver().solve(&plain, 0.0, &[1.0], 1.0, 1e-6.into(), 1e-6.into(), None::<&mut NoSolOut>).expect("a result");
+    let run =
+        solver().solve(&plain, 0.0, &[1.0], 1.0, 1e-6.into(), 1e-6.into(), None::<&mut NoSolOut>).expect("a result");
     let calls = plain.0.into_inner();
     // The derivative at the start, then the Jacobian's two, then the stages.
     assert_eq!(calls[..3], ["derivative 0", "derivative 0", "derivative 0"]);
     assert_eq!(calls.len(), run.evals.ode + 2 * run.evals.jac);
     let own = Own(Decay::default());
-    let run = solver().solve(&own, 0.0, &[1.0], 1.0, 1e-6.into(), 1e-6.into(), None::<&mut NoSolOut>).expect("a result");
+    let run =
+        solver().solve(&own, 0.0, &[1.0], 1.0, 1e-6.into(), 1e-6.into(), None::<&mut NoSolOut>).expect("a result");
     let calls = own.0 .0.into_inner();
     assert_eq!(calls[..2], ["derivative 0", "jac 0"]);
     assert_eq!(calls.len(), run.evals.ode + run.evals.jac);
@@ -163,5 +197,6 @@ fn a_system_may_not_leave_its_jacobian_half_way() {
             }
         }
     }
-    let _ = solver().solve(&Sometimes(Decay::default()), 0.0, &[1.0], 1.0, 1e-6.into(), 1e-6.into(), None::<&mut NoSolOut>);
+    let _ =
+        solver().solve(&Sometimes(Decay::default()), 0.0, &[1.0], 1.0, 1e-6.into(), 1e-6.into(), None::<&mut NoSolOut>);
 }

@@ -41,7 +41,8 @@ fn header_numbers() -> BTreeMap<String, u64> {
     numbered.collect()
 }
 
-/// A parameter of C as this crate declares it. A slice is a pointer before its count; any other pointer, and an array, is a reference.
+/// A parameter of C as this crate declares it. A slice is a pointer before its count; any other pointer, and an array,
+/// is a reference.
 fn in_rust(parameter: &str, next: Option<&&str>) -> String {
     let item = |kind: &str| match kind {
         "double" => "f64",
@@ -81,7 +82,8 @@ fn wanted() -> BTreeMap<String, String> {
             continue;
         }
         let parameters: Vec<&str> = parameters.trim_end_matches(')').split(", ").map(str::trim).collect();
-        let declared: Vec<String> = (0..parameters.len()).map(|k| in_rust(parameters[k], parameters.get(k + 1))).collect();
+        let declared: Vec<String> =
+            (0..parameters.len()).map(|k| in_rust(parameters[k], parameters.get(k + 1))).collect();
         let result = if result == "void" { "" } else { " -> u64" };
         found.insert(name.to_string(), format!("{name}({}){result}", declared.join(", ")));
     }
@@ -100,7 +102,7 @@ fn declared() -> BTreeMap<String, String> {
 #[test]
 fn every_declaration_is_the_headers() {
     let (wanted, declared) = (wanted(), declared());
-    assert_eq!(declared.len(), 7);
+    assert_eq!(declared.len(), 8);
     for (name, function) in &declared {
         assert_eq!(Some(function), wanted.get(name), "{name}");
     }

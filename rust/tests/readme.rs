@@ -1,4 +1,5 @@
-//! README.md: its diffs lead to the program that stands in examples/moved.rs, what it shows is what is printed, and the Rust's paths are here.
+//! README.md: its diffs lead to the program that stands in examples/moved.rs, what it shows is what is printed, and the
+//! Rust's paths are here.
 
 mod shared;
 
@@ -11,7 +12,8 @@ mod program {
     /// What the program says with too few steps.
     pub fn broken_off() -> String {
         let solver = RADAU { mass_storage: MatrixStorage::Identity, max_steps: 20, ..RADAU::default() };
-        let answer = solver.solve(&Cylinder, 0.0, &[10.0, 0.25, 0.0, 0.0], 730.0, 1e-6.into(), 1e-10.into(), None::<&mut Label>);
+        let answer =
+            solver.solve(&Cylinder, 0.0, &[10.0, 0.25, 0.0, 0.0], 730.0, 1e-6.into(), 1e-10.into(), None::<&mut Label>);
         format!("    no forecast: {}\n", answer.expect_err("a run that breaks off"))
     }
 }
@@ -20,7 +22,9 @@ mod program {
 fn moved() -> Vec<String> {
     let text = file("rust/README.md");
     let blocks = text.split("```diff\n").skip(1).map(|block| block.split("```").next().unwrap_or(""));
-    let after = |block: &str| block.lines().filter(|line| !line.starts_with('-')).map(|line| format!("{}\n", &line[1..])).collect();
+    let after = |block: &str| {
+        block.lines().filter(|line| !line.starts_with('-')).map(|line| format!("{}\n", &line[1..])).collect()
+    };
     blocks.map(after).collect()
 }
 

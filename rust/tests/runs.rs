@@ -1,6 +1,7 @@
-//! The Rust's runs through this crate: the 361 of crates/run_replay/stdin (laid out as tests/stored_runs.py says). The system and the `SolOut` answer
-//! each call as the Rust's host did, and see that it is the call that the Rust made: which function, at which x, with an interpolant or not. All settings,
-//! masses, lists of tolerances, Jacobians of the system's own, marks, modified points and interrupts come there.
+//! The Rust's runs through this crate: the 440 of crates/run_replay/stdin (laid out as tests/stored_runs.py says). The
+//! system and the `SolOut` answer each call as the Rust's host did, and see that it is the call that the Rust made:
+//! which function, at which x, with an interpolant or not. All settings, masses, lists of tolerances, Jacobians of the
+//! system's own, marks, modified points and interrupts come there.
 
 mod shared;
 
@@ -144,7 +145,12 @@ impl Run {
     fn next(&self, kind: u64, at: &[f64]) -> Request {
         let request = self.requests.borrow_mut().next().expect("a request more");
         let same = request.at.iter().map(|x| bits(*x)).eq(at.iter().map(|x| bits(*x)));
-        assert!(request.kind == kind && same, "a call of kind {kind} at {at:?}; the Rust's is {} at {:?}", request.kind, request.at);
+        assert!(
+            request.kind == kind && same,
+            "a call of kind {kind} at {at:?}; the Rust's is {} at {:?}",
+            request.kind,
+            request.at
+        );
         request
     }
 
@@ -192,7 +198,13 @@ impl FirstOrderSystem for WithJacobian<'_> {
 struct Reports<'a>(&'a Run);
 
 impl SolOut for Reports<'_> {
-    fn solout(&mut self, xold: f64, x: &mut f64, y: &mut [f64], interpolant: Option<&StepInterpolant<'_>>) -> ControlFlag {
+    fn solout(
+        &mut self,
+        xold: f64,
+        x: &mut f64,
+        y: &mut [f64],
+        interpolant: Option<&StepInterpolant<'_>>,
+    ) -> ControlFlag {
         let Request { flag, reply, told, .. } = self.0.next(REPORT, &[xold, *x]);
         assert_eq!(interpolant.is_some(), flag == 1, "whether there is an interpolant");
         if let Some((from, h)) = interpolant.map(|step| step.step_params()) {
@@ -243,7 +255,7 @@ fn every_run_makes_the_rusts_calls_and_ends_as_it_did() {
         statuses[status as usize] += 1;
         shortened += run.shortened.get();
     }
-    assert_eq!(runs, 361);
+    assert_eq!(runs, 440);
     assert!(shortened > 0, "no step was shortened");
     assert!([0, 1, 2, 3, 5].iter().all(|status| statuses[*status] > 0), "{statuses:?}");
 }

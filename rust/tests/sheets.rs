@@ -1,7 +1,8 @@
-//! The Rust's numbers through this crate: every well-formed sheet of crates/sheet_replay/stdin, with the answer stored there. Those of runs are the Rust's:
-//! status, the six counts, the point reached and all amounts, bit for bit.
+//! Every sheet of crates/sheet_replay/stdin, with the answer stored there: its forecast has what was stored, those that
+//! are refused too; and every well-formed one runs through `solve` with the same status, counts, point and amounts,
+//! which are the Rust's bit for bit.
 
-#[path = "../examples/nightly/model.rs"]
+#[path = "shared/model.rs"]
 mod model;
 mod shared;
 
@@ -28,14 +29,27 @@ fn told(status: u64, evals: Evals, steps: Steps, x: f64, y: &[f64]) -> String {
     let Steps { total, accepted, rejected } = steps;
     let Evals { ode, jac, lu } = evals;
     let amounts: String = y.iter().map(|amount| format!(" {:016x}", bits(*amount))).collect();
-    format!(
-        "status {status} accepted {accepted} rejected {rejected} total {total} ode {ode} jac {jac} lu {lu}\nx {:016x}\ny{amounts}\n",
-        bits(x)
-    )
+    let counts = format!("accepted {accepted} rejected {rejected} total {total} ode {ode} jac {jac} lu {lu}");
+    format!("status {status} {counts}\nx {:016x}\ny{amounts}\n", bits(x))
 }
 
-/// What the program `decay` prints of a sheet.
-fn answer(sheet: &str) -> String {
+/// What the program `decay` prints of a sheet, by the forecast of this crate.
+fn forecast_of(sheet: &[u8]) -> String {
+    match forecast(sheet) {
+        Ok(run) => told(0, run.evals, run.steps, run.x, &run.y),
+        Err(NoForecast::BrokenOff(broken)) => {
+            let Reached { x, y, .. } = broken.reached();
+            told(broken.status().number(), broken.evals(), broken.steps(), *x, y)
+        }
+        Err(NoForecast::Refused(refused)) => format!("refused {}\n", refused.number()),
+        Err(NoForecast::Malformed { line }) => format!("refused 20 {line}\n"),
+        Err(NoForecast::TooLong) => "refused 21\n".to_string(),
+        Err(other) => panic!("{other}"),
+    }
+}
+
+/// The same of a well-formed sheet, by `solve`.
+fn solved(sheet: &str) -> String {
     let model = Model::read(sheet).expect("a sheet");
     match model.solve(&model.solver(), None::<&mut NoSolOut>) {
         Ok(run) => told(0, run.evals, run.steps, run.x, &run.y),
@@ -49,7 +63,19 @@ fn answer(sheet: &str) -> String {
 }
 
 #[test]
-fn every_sheet_has_the_stored_answer() {
+fn every_forecast_is_the_stored_answer() {
+    let stored = bytes("crates/sheet_replay/stdin");
+    let records = records(&stored);
+    for (sheet, wanted) in &records {
+        assert_eq!(forecast_of(sheet), *wanted, "of the sheet\n{}", String::from_utf8_lossy(sheet));
+    }
+    let count = |word: &str| records.iter().filter(|(_, wanted)| wanted.starts_with(word)).count();
+    assert_eq!((count("status"), count("refused")), (355, 528));
+    assert!(["refused 20", "refused 21", "status 2", "status 3", "status 5"].iter().all(|word| count(word) > 0));
+}
+
+#[test]
+fn every_well_formed_sheet_is_solved_to_the_stored_answer() {
     let stored = bytes("crates/sheet_replay/stdin");
     let (mut ran, mut refused) = (0, 0);
     for (sheet, wanted) in records(&stored) {
@@ -57,7 +83,7 @@ fn every_sheet_has_the_stored_answer() {
             continue;
         }
         let sheet = std::str::from_utf8(sheet).expect("a sheet");
-        assert_eq!(answer(sheet), wanted, "of the sheet\n{sheet}");
+        assert_eq!(solved(sheet), wanted, "of the sheet\n{sheet}");
         if wanted.starts_with("status") {
             ran += 1;
         } else {
@@ -65,4 +91,30 @@ fn every_sheet_has_the_stored_answer() {
         }
     }
     assert_eq!((ran, refused), (355, 56));
+}
+
+#[test]
+fn how_a_sheet_without_a_forecast_reads() {
+    let read = |sheet: &[u8]| forecast(sheet).expect_err("no forecast").to_string();
+    assert_eq!(read(b"7\n"), "refused (20): line 1 is not as a sheet has it");
+    assert_eq!(read(&[b'6'; 4097]), "refused (21): the sheet is longer than 4,096 bytes");
+    assert_eq!(read(&bytes("rust/examples/nightly/no_steps.sheet")), "refused (4): max_steps is not 1 to 1,000,000");
+    let broken = read(&bytes("cylinders/broken_off.sheet"));
+    assert!(broken.starts_with("broken off at x = 331.8"), "{broken}");
+    assert!(broken.ends_with(": max_steps is used up (status 2, NeedLargerNMax)"), "{broken}");
+}
+
+/// What README.md says of the two rules.
+#[test]
+fn only_under_the_rust_rule_an_attempt_counts_twice() {
+    let stored = bytes("crates/sheet_replay/stdin");
+    let mut twice = [0; 2];
+    let mut shown = false;
+    for (sheet, _) in records(&stored) {
+        let Ok(run) = forecast(sheet) else { continue };
+        let rule = usize::from(sheet.split(|byte| *byte == b'\n').nth(6) == Some(b"1"));
+        twice[rule] += usize::from(run.steps.accepted + run.steps.rejected > run.steps.total);
+        shown |= rule == 0 && (run.steps.accepted, run.steps.rejected, run.steps.total) == (6, 2, 7);
+    }
+    assert!(twice[0] > 0 && twice[1] == 0 && shown, "{twice:?}");
 }

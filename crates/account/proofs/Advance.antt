@@ -87,7 +87,7 @@ advanced j a =
     let here = j .point in
     let l = wholeOf (here .run) (a .reply) (handed j a) in
     journal (point (l .core .call .run) (l .core .call .request) (l .core .call .place) (l .core .memory))
-    (turn (here .request) (here .place) (here .run .control .«newt_iter») (a .reply) (l .log) ∷ j .turns)
+    (turn here a (l .log) ∷ j .turns)
 
 pub next-is : (j : Journal) (a : Action) → verdictOf (admissionRows (j .point .run) (a .reply) (handed j a)) ≡ Passed → next j a ≡ advanced j a
 unfolding next nextPoint advanceBy

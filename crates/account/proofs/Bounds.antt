@@ -164,9 +164,9 @@ ends s other c h = record { ceilings = c; total = omega arith; limited = λ e. a
 not-book : {x : Rule} → x ≡ rule.Rust → x ≡ rule.Book → ⊥
 not-book rust book = true≢false (cc)
 
-pub bounds-closed : (p : Reply) → Closed p (λ (es : List Event) (here : Position). Within here)
+pub bounds-closed : (p : Reply) (mass jac : List Float) → Closed p mass jac (λ (es : List Event) (here : Position). Within here)
 unfolding Within WithinAt askingAt
-bounds-closed p =
+bounds-closed p mass jac =
     record {
       first-filled = λ w. omega (arith, w .judged-left);
       first-report = λ w. (refl, λ _. omega (arith, w .judged-left));
@@ -175,13 +175,13 @@ bounds-closed p =
           let f = bounds-fit s _ (w .0) (w .1 (r .numbers .x)) in
           ends status.UserInterrupt (omega arith) (omega (arith, f .ceilings .judged)) (f .total);
       modified = λ x _ w. w .1 x;
-      first-told = λ {es} {r} _ _ w. let asking = w .1 (r .numbers .x) in omega (arith, asking .judged-left);
-      later-told = λ {es} {r} _ _ w. let asking = w .1 (r .numbers .x) in omega (arith, asking .judged-left);
+      first-told = λ {es} {r} _ _ _ w. let asking = w .1 (r .numbers .x) in omega (arith, asking .judged-left);
+      later-told = λ {es} {r} _ _ _ w. let asking = w .1 (r .numbers .x) in omega (arith, asking .judged-left);
       first-again = λ w. w;
       later-again = λ w. w;
       success = λ _ w. ends status.Success (omega arith) (let c = ceilings w in omega (arith, c .judged)) (w .total-fits);
-      aims = λ _ _ _ _ w. omega (arith, w .judged-left);
-      onward = λ _ _ _ _ _ _ w. omega (arith, w .judged-left);
+      aims = λ _ _ _ _ _ w. omega (arith, w .judged-left);
+      onward = λ _ _ _ _ _ _ _ w. omega (arith, w .judged-left);
       host-asked = λ _ _ w. omega (arith, w .judged-left);
       origin-asked = λ _ _ w. omega (arith, w .judged-left);
       jacobian-kept = λ _ w. omega (arith, w .judged-left);
@@ -190,15 +190,15 @@ bounds-closed p =
       column-filled = λ _ h w. omega (arith, w .judged-left);
       columns-filled = λ _ _ w. omega (arith, w .judged-left);
       matrices-kept = λ _ w. omega (arith, w .judged-left);
-      real-stopped = λ _ _ w. omega (arith, w .judged-left);
-      complex-stopped = λ _ _ w. omega (arith, w .judged-left);
-      decomposed = λ w. omega (arith, w .judged-left);
+      real-stopped = λ _ _ _ _ w. omega (arith, w .judged-left);
+      complex-stopped = λ _ _ _ _ _ w. omega (arith, w .judged-left);
+      decomposed = λ _ _ _ _ w. omega (arith, w .judged-left);
       sixth = λ _ w. ends status.SingularMatrix (omega arith) (let c = ceilings w in omega (arith, c .judged)) (w .total-fits);
       another = λ _ _ h w. omega (arith, w .judged-left);
       limited = λ h w.
           record { ceilings = let c = ceilings w in omega (arith, c .judged); total = omega (arith, w .total-fits); limited = λ _. omega (arith, w .total-fits); only = λ _. refl };
-      shortened = λ h w. ends status.StepSizeTooSmall (omega arith) (let c = ceilings w in omega (arith, c .judged)) h;
-      begins = λ _ _ _ h w. omega (arith, w .judged-left);
+      shortened = λ h _ w. ends status.StepSizeTooSmall (omega arith) (let c = ceilings w in omega (arith, c .judged)) h;
+      begins = λ _ _ _ h _ w. omega (arith, w .judged-left);
       first-stage = λ _ w. omega (arith, w .judged-left);
       second-stage = λ _ w. omega (arith, w .judged-left);
       not-near = λ _ _ _ _ w. omega (arith, w .judged-left);

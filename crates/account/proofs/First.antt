@@ -7,7 +7,9 @@ use native.Mathlib.Omega.{arith}
 use lib.ListN.{length-replicate}
 use lib.Ieee.{Float}
 use borrow.Author.Tests.{ltb-false, eqb-true, not-false}
+use Rattle.words.specs.Words.{_⊖_}
 use Rattle.words.specs.Grid.{Square}
+use Rattle.scalar.specs.Order.{signumOf}
 use Rattle.state.specs.declared.settings.Mass.{Mass}
 use Rattle.state.specs.declared.settings.Mass.the-variants as mass
 use Rattle.state.specs.declared.settings.Rule.{Rule}
@@ -37,7 +39,7 @@ use Rattle.blocks.specs.Needs.{MemoryLong}
 use Rattle.blocks.proofs.AdmittedLaws.{long-of}
 use Rattle.history.specs.History.{Point}
 use Rattle.account.specs.Journal.{Journal, Starts}
-use Rattle.account.proofs.Decompositions.{Long, loop-keeps, set-long}
+use Rattle.blocks.proofs.Decompositions.{Long, loop-keeps, set-long}
 use Rattle.account.proofs.Lengths.{zeros-long}
 use Rattle.account.proofs.Admits.{over, no-row}
 
@@ -104,6 +106,7 @@ pub record Opens (o : Opening) (here : Point) : Type 0 where
   pub shape : here .run .shape ≡ shapeOf (o .n) (o .settings)
   pub order : here .run .shape .n ≡ o .n
   pub xend : here .run .fixed .xend ≡ o .xend
+  pub posneg : here .run .fixed .posneg ≡ signumOf (o .xend ⊖ o .x0)
   pub counts : here .run .counts ≡ firstCounts
   pub control : here .run .control ≡ firstControl
   pub stage : here .run .stage ≡ stage.FirstDerivative
@@ -152,6 +155,7 @@ module _ (o : Opening) (j : Journal) (none : NoneHolds (openingRows o)) where
         shape = ap (λ (r : Run). r .shape) run;
         order = ap (λ (r : Run). r .shape .n) run;
         xend = ap (λ (r : Run). r .fixed .xend) run;
+        posneg = ap (λ (r : Run). r .fixed .posneg) run;
         counts = ap (λ (r : Run). r .counts) run;
         control = ap (λ (r : Run). r .control) run;
         stage = ap (λ (r : Run). r .stage) run;

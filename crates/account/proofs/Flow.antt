@@ -8,6 +8,7 @@ use mathlib.Core.Bool.{Bool, true, false, not, _&&_}
 use mathlib.Core.List.{List, [], _∷_, _++_}
 use native.Mathlib.Omega.{arith}
 use lib.Dec.{eqb}
+use lib.Ieee.{Float}
 use borrow.Author.Tests.{ne-eqb}
 use Rattle.words.specs.Loop.{pick}
 use Rattle.state.specs.declared.settings.Source.{Source}
@@ -86,7 +87,7 @@ endsWith s (request.Report xold x offered) = false
 endsWith s (request.Ended t) = sameStatus s t
 
 -- how many events of a kind
-abbrev pub told : (Means → Bool) → List Event → ℕ
+abbrev pub told : (Means → ℕ) → List Event → ℕ
 told kind es = many (λ (e : Event). kind (meansOf e)) es
 
 -- ---- between a request, open at the stage s of a run of n amounts, and the next
@@ -169,7 +170,7 @@ FlowAt r p es at = From (r .stage) (r .shape .n) (r .settings .source) p es at
 
 -- ---- one block of events after another
 
-pub many-append : {A : Type 0} (kind : A → Bool) (xs ys : List A) → many kind (xs ++ ys) ≡ many kind xs + many kind ys
+pub many-append : {A : Type 0} (kind : A → ℕ) (xs ys : List A) → many kind (xs ++ ys) ≡ many kind xs + many kind ys
 unfolding many
 many-append kind [] ys = omega arith
 many-append kind (x ∷ xs) ys = omega (arith, many-append kind xs ys)
@@ -219,22 +220,22 @@ module _ {s : Stage} {n : ℕ} {by : Source} {p : Reply} {es : List Event} where
 -- ---- the rules
 
 module _ (r : Run) (p : Reply) where
-  pub flow-closed : 1 ≤ r .shape .n → Closed p (FlowAt r p)
+  pub flow-closed : (mass jac : List Float) → 1 ≤ r .shape .n → Closed p mass jac (FlowAt r p)
   unfolding FlowAt pick many isReport isJac asksAt meansOf isInterrupt width askingAt owed left differs inJacobian endsWith
-  flow-closed some =
+  flow-closed mass jac some =
       record {
         first-filled = λ h. from-reply h (omega (arith, h .silent)) refl;
         first-report = λ h. from-report h refl refl refl refl refl;
         later-report = λ h. from-report h refl refl refl refl refl;
         interrupted = λ e h. record { tallies = omega (arith, h .clear); interrupt = sym (ap₂ _&&_ (h .report) e) };
         modified = λ x e h. record { tallies = omega (arith, h, ap (λ (b : Bool). one (not b)) (h .report)); interrupt = sym (ap₂ _&&_ (h .report) (ap isInterrupt e)) };
-        first-told = λ mark e h. go-on e h;
-        later-told = λ mark e h. go-on e h;
+        first-told = λ mark e _ h. go-on e h;
+        later-told = λ mark e _ h. go-on e h;
         first-again = λ h. calmed (from-round h refl refl refl);
         later-again = λ h. calmed (from-round h refl refl refl);
         success = λ e h. record { tallies = omega (arith, h .clear); interrupt = sym (h .calm) };
-        aims = λ hnew hhfac jac e h. onward-append h (omega arith);
-        onward = λ hnew h hhfac decomp jac e w. w;
+        aims = λ hnew hhfac jac e _ h. onward-append h (omega arith);
+        onward = λ hnew h hhfac decomp jac e _ w. onward-append w (omega arith);
         host-asked = λ j e h. record { tallies = omega (arith, h .clear, ap (λ (b : Source). width b (r .shape .n)) (sym (h .source) ∙ e)); interrupt = sym (h .calm) };
         origin-asked = λ j e h. record { tallies = omega (arith, h .clear, ap (λ (b : Source). width b (r .shape .n)) (sym (h .source) ∙ e)); interrupt = sym (h .calm) };
         jacobian-kept = λ j h. h;
@@ -243,14 +244,14 @@ module _ (r : Run) (p : Reply) where
         column-filled = λ c l h. from-reply h (omega (arith, h .silent, h .order-is, l)) refl;
         columns-filled = λ c l h. calmed (from-round h refl (omega (arith, h .order-is, l)) refl);
         matrices-kept = λ d h. h;
-        real-stopped = λ f e h. onward-append h (omega arith);
-        complex-stopped = λ f e h. onward-append h (omega arith);
-        decomposed = λ h. onward-append h (omega arith);
+        real-stopped = λ f k _ _ h. onward-append h (omega arith);
+        complex-stopped = λ f k _ _ _ h. onward-append h (omega arith);
+        decomposed = λ f _ _ _ h. onward-append h (omega arith);
         sixth = λ more h. record { tallies = omega (arith, h .clear); interrupt = sym (h .calm) };
         another = λ h hhfac l w. w;
-        limited = λ {es} l h. record { tallies = omega (arith, h .clear, appended es (begun ∷ over-limit ∷ [])); interrupt = sym (h .calm) };
-        shortened = λ {es} l h. record { tallies = omega (arith, h .clear, appended es (begun ∷ too-small ∷ [])); interrupt = sym (h .calm) };
-        begins = λ {es} faccon theta x l h. record { tallies = omega (arith, h .clear, appended es (begun ∷ [])); interrupt = sym (h .calm) };
+        limited = λ {es} l h. record { tallies = omega (arith, h .clear, appended es (over-limit ∷ [])); interrupt = sym (h .calm) };
+        shortened = λ {es} {r} l _ h. record { tallies = omega (arith, h .clear, appended es (too-small (r .numbers .h) (r .numbers .x) ∷ [])); interrupt = sym (h .calm) };
+        begins = λ {es} {r} faccon theta x l _ h. record { tallies = omega (arith, h .clear, appended es (begun (r .numbers .h) (r .numbers .x) ∷ [])); interrupt = sym (h .calm) };
         first-stage = λ x h. from-reply h (omega (arith, h .silent)) refl;
         second-stage = λ x h. from-reply h (omega (arith, h .silent)) refl;
         not-near = λ theta thqold faccon dynold h. (from-round h refl refl refl, omega arith);
@@ -264,8 +265,8 @@ module _ (r : Run) (p : Reply) where
         refines = λ {es} h. record { tallies = omega (arith, h .clear, appended es (error-solve ∷ [])); interrupt = sym (calmed h .calm) };
         estimated = λ h. rounded-append h (omega arith);
         refined = λ h. from-round h refl refl refl;
-        accepts = λ {es} err hnew hacc erracc e h.
-            record { tallies = omega (arith, h .clear, appended es (accepted err ∷ []), ap (λ (b : Bool). one (not b)) (h .plain)); interrupt = sym (calmed h .calm) };
+        accepts = λ {es} {r} err hnew hacc erracc e h.
+            record { tallies = omega (arith, h .clear, appended es (accepted err (r .numbers .h) ∷ []), ap (λ (b : Bool). one (not b)) (h .plain)); interrupt = sym (calmed h .calm) };
         fails-first = λ err hnew h hhfac e f w. onward-append (calmed w) (omega arith);
         fails-later = λ err hnew h hhfac e f w. onward-append (calmed w) (omega arith);
         accepted-filled = λ offered h. from-reply h (omega (arith, h .silent)) refl;

@@ -89,22 +89,22 @@ lands-next es c w = w .0
 unaimed : {A : Type 0} {last : Bool} → last ≡ false → last ≡ true → A
 unaimed off on = absurd (false≢true (sym off ∙ on))
 
-pub lands-closed : (p : Reply) → Closed p Lands
+pub lands-closed : (p : Reply) (mass jac : List Float) → Closed p mass jac Lands
 unfolding Lands LandsAt Reports
-lands-closed p =
+lands-closed p mass jac =
     record {
       first-filled = λ w. (w, (refl, refl));
       first-report = λ w x. w;
       later-report = λ w x. tt;
       interrupted = λ _ w. (tt, tt);
       modified = λ x _ w. (w x, tt);
-      first-told = λ {es} {r} mark _ w. unaimed (w (r .numbers .x));
-      later-told = λ mark _ w. tt;
+      first-told = λ {es} {r} mark _ _ w. unaimed (w (r .numbers .x));
+      later-told = λ mark _ _ w. tt;
       first-again = λ w. unaimed w;
       later-again = λ w. tt;
       success = λ _ w. (tt, tt);
-      aims = λ hnew hhfac jac _ w _. refl;
-      onward = λ hnew h hhfac decomp jac off w. unaimed off;
+      aims = λ hnew hhfac jac _ _ w _. refl;
+      onward = λ hnew h hhfac decomp jac off _ w. unaimed off;
       host-asked = λ _ _ w. (w, tt);
       origin-asked = λ _ _ w. (w, tt);
       jacobian-kept = λ _ w. w;
@@ -113,14 +113,14 @@ lands-closed p =
       column-filled = λ c _ w. (w, tt);
       columns-filled = λ c _ w. w;
       matrices-kept = λ _ w. w;
-      real-stopped = λ f _ w. tt;
-      complex-stopped = λ f _ w. tt;
-      decomposed = λ w. w;
+      real-stopped = λ f k _ _ w. tt;
+      complex-stopped = λ f k _ _ _ w. tt;
+      decomposed = λ f _ _ _ w. w;
       sixth = λ _ w. (tt, tt);
       another = λ h hhfac _ w. unaimed refl;
       limited = λ _ w. (tt, tt);
-      shortened = λ _ w. (tt, tt);
-      begins = λ {es} {r} faccon theta x _ w. (λ on. ap (λ (h : Float). r .numbers .x ⊕ h) (w on), tt);
+      shortened = λ _ _ w. (tt, tt);
+      begins = λ {es} {r} faccon theta x _ _ w. (λ on. ap (λ (h : Float). r .numbers .x ⊕ h) (w on), tt);
       first-stage = λ x w. (w, tt);
       second-stage = λ x w. (w, tt);
       not-near = λ theta thqold faccon dynold w. w;

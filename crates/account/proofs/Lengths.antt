@@ -49,13 +49,10 @@ use Rattle.blocks.specs.Jacobian.{Asking, askJacobianBy, Columned, askColumnOf,
 use Rattle.blocks.specs.Advance.{Stepped, rescaled, startedOf, returnedOf, concludeOf, repliedOf, passedOf, Called, jacobianOf, calledOf}
 use Rattle.blocks.specs.Needs.{NewtonLong, MemoryLong}
 use Rattle.blocks.proofs.Whole.{wholeOf}
-use Rattle.account.proofs.Decompositions.{loop-keeps, Long, set-long, solve-long, solve-complex-long}
-use Rattle.account.proofs.Passes.{Shaped, failed-shaped, Each, passes-kept}
+use Rattle.blocks.proofs.Decompositions.{loop-keeps, Long, set-long, set-square, solve-long, solve-complex-long}
+use Rattle.blocks.proofs.Passes.{Shaped, failed-shaped, Each, passes-kept}
 
 -- ---- one list, and three
-
-set-square : {n : ℕ} (a : List Float) (i : ℕ) (x : Float) → Square n a → Square n (set a i x)
-set-square a i x s = record { small = s .small; full = length-set a i x ∙ s .full }
 
 pub zeros-long : {n k : ℕ} → k ≡ n → Long n (zeros k)
 unfolding zeros

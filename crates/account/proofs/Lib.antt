@@ -1,16 +1,14 @@
 -- In order of reading.
-pub mod Decompositions
-pub mod Passes
 pub mod Lengths
-pub mod Tries
 pub mod PivotsKept
 pub mod Matches
 pub mod Counted
 pub mod Bounds
 pub mod Flow
 pub mod Stands
-pub mod True
 pub mod Lands
+pub mod Truths
+pub mod Ledgers
 pub mod Admits
 pub mod First
 pub mod Advance
@@ -18,4 +16,7 @@ pub mod Sound
 pub mod Tally
 pub mod Theorems
 pub mod Played
+pub mod Demand
+pub mod Computed
+pub mod Exists
 pub mod Wrong

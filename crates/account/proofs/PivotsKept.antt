@@ -6,53 +6,20 @@ use mathlib.Core.List.{List}
 use native.Mathlib.Omega.{arith}
 use lib.Ieee.{Float}
 use Rattle.state.specs.declared.run.Run.{Run}
-use Rattle.state.specs.declared.run.Stage.{Stage}
-use Rattle.state.specs.declared.run.Stage.the-variants as stage
 use Rattle.state.specs.declared.talk.Reply.{Reply}
 use Rattle.state.specs.Memory.{Memory, Factors}
 use Rattle.state.specs.Pivots.{stray}
 use Rattle.state.proofs.Pivots.{row-stored}
-use Rattle.blocks.specs.declared.step.Round.{Round}
-use Rattle.blocks.specs.declared.step.Round.the-variants as round
 use Rattle.blocks.specs.declared.step.Step.{Step}
 use Rattle.blocks.specs.declared.step.Step.the-variants as step
-use Rattle.blocks.specs.declared.step.Told.{Told}
-use Rattle.blocks.specs.declared.step.Told.the-variants as told
-use Rattle.blocks.specs.Report.{reportedOf}
-use Rattle.blocks.specs.Advance.{startedOf, concludeOf, repliedOf, passedOf, calledOf}
+use Rattle.blocks.specs.Advance.{repliedOf, passedOf, calledOf}
 use Rattle.blocks.specs.Needs.{MemoryLong}
 use Rattle.blocks.proofs.Whole.{wholeOf}
-use Rattle.account.proofs.Passes.{passes-kept}
+use Rattle.blocks.proofs.Passes.{passes-kept}
+use Rattle.blocks.proofs.FactorsKept.{replied-same}
 use Rattle.account.proofs.Lengths.{replied-kept}
 
 -- ---- outside the passes the factors stand
-
-started-same : (t : Told) (m : Memory) → startedOf t m .memory .factors ≡ m .factors
-unfolding startedOf
-started-same (told.Asked c) m = refl
-started-same (told.Reported r) m = refl
-
-conclude-same : (v : Round) (m : Memory) → concludeOf v m .core .memory .factors ≡ m .factors
-unfolding concludeOf
-conclude-same (round.Newton r) m = refl
-conclude-same (round.Estimate r) m = refl
-conclude-same (round.Over s) m = refl
-
-replied-same : (s : Stage) (p : Reply) (r : Run) (m : Memory) → repliedOf s p r m .core .memory .factors ≡ m .factors
-unfolding repliedOf
-replied-same stage.FirstDerivative p r m = refl
-replied-same stage.FirstReport p r m = started-same (reportedOf stage.FirstDerivativeAgain p r) m
-replied-same stage.FirstDerivativeAgain p r m = started-same (told.Reported r) m
-replied-same stage.Jacobian p r m = refl
-replied-same (stage.Column c) p r m = refl
-replied-same stage.Newton1 p r m = refl
-replied-same stage.Newton2 p r m = refl
-replied-same stage.Newton3 p r m = conclude-same _ _
-replied-same stage.Refinement p r m = refl
-replied-same stage.Accepted p r m = refl
-replied-same stage.Report p r m = refl
-replied-same stage.DerivativeAgain p r m = refl
-replied-same (stage.Ended s) p r m = refl
 
 called-same : (s : Step) (m : Memory) → calledOf s m .core .memory .factors ≡ m .factors
 unfolding calledOf
@@ -60,6 +27,14 @@ called-same (step.Asked c) m = refl
 called-same (step.Main r) m = refl
 called-same (step.Matrices r) m = refl
 called-same (step.Attempt r) m = refl
+
+-- nor does an advance change what was given, past the reply
+pub called-given : (s : Step) (m : Memory) → calledOf s m .core .memory .given ≡ m .given
+unfolding calledOf
+called-given (step.Asked c) m = refl
+called-given (step.Main r) m = refl
+called-given (step.Matrices r) m = refl
+called-given (step.Attempt r) m = refl
 
 -- ---- the advance
 

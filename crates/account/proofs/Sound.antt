@@ -9,18 +9,17 @@ use Rattle.state.specs.declared.run.Run.{Run}
 use Rattle.state.specs.declared.run.Fixed.{Fixed}
 use Rattle.state.specs.declared.run.Shape.{Shape}
 use Rattle.state.specs.declared.talk.Verdict.the-variants.{Passed}
-use Rattle.state.specs.Memory.{Memory, Factors}
+use Rattle.state.specs.Memory.{Memory, Given, Factors}
 use Rattle.state.specs.Pivots.{stray}
 use Rattle.opening.specs.Rows.{Opening, openingRows, rangeRows, verdictOf}
 use Rattle.opening.specs.Opening.{shapeOf}
 use Rattle.opening.specs.Admission.{askingAt, answersReport, admissionRows}
 use Rattle.opening.proofs.RowLaws.{NoneHolds}
 use Rattle.blocks.specs.Events.{Event, Logged}
-use Rattle.blocks.specs.Advance.{Called}
+use Rattle.blocks.specs.Advance.{Stepped, Called, repliedOf, passedOf}
 use Rattle.blocks.specs.Needs.{MemoryLong}
 use Rattle.history.specs.Host.{Action}
 use Rattle.history.specs.History.{Point}
-use Rattle.blocks.proofs.Settled.{settled}
 use Rattle.account.specs.Journal.{Fair, Journal}
 use Rattle.account.specs.Reading.{one}
 use Rattle.blocks.proofs.Whole.{wholeOf}
@@ -29,7 +28,7 @@ use Rattle.blocks.proofs.Everyway.{everyway}
 use Rattle.account.proofs.Matches.{Matches, kindOf, kindAt, placeAt, matches-kind}
 use Rattle.account.proofs.Counted.{Counted, counted-start, counted-end, counted-closed}
 use Rattle.account.proofs.Lengths.{advance-long}
-use Rattle.account.proofs.PivotsKept.{advance-pivots}
+use Rattle.account.proofs.PivotsKept.{called-given, advance-pivots}
 use Rattle.account.proofs.Bounds.{Within, WithinAt, Ceilings, bounds-fit, bounds-closed, bounds-first}
 use Rattle.account.proofs.Lands.{Lands, Reports, lands-first, lands-next, lands-closed}
 use Rattle.account.proofs.Admits.{Bounded, admits}
@@ -111,19 +110,32 @@ module _ (o : Opening) (none : NoneHolds (openingRows o)) where
     pub passes : verdictOf (admissionRows r (a .reply) (handed j a)) ≡ Passed
     passes = admits r (handed j a) (running-bounded (j .point) (handed j a) h (in-kind .0) handed-long handed-factors) (a .reply) (in-kind .0) (in-kind .1)
 
+    -- where the reply leads, and what the passes there work on: the mass and the Jacobian that the next request finds
+    abbrev there : Stepped
+    there = repliedOf (r .stage) (a .reply) r (handed j a) .core
+
+    abbrev pub kept : Given
+    kept = l .core .memory .given
+
+    given-same : kept ≡ there .memory .given
+    given-same = called-given (passedOf there .core .step) (passedOf there .core .memory)
+
     -- so what every way keeps holds of it
-    pub everywhere : {P : List Event → Position → Type 0} → Closed (a .reply) P → P [] (replied (r .stage) r) → P (l .log) (asked (l .core .call))
-    everywhere c p = everyway r (a .reply) (handed j a) c (in-kind .0) (settled r (a .reply) (handed j a) passes) p
+    pub everywhere : {P : List Event → Position → Type 0} → Closed (a .reply) (kept .mass) (kept .jac) P
+        → P [] (replied (r .stage) r) → P (l .log) (asked (l .core .call))
+    everywhere {P} c p =
+        everyway r (a .reply) (handed j a) passes
+        (subst (λ (k : Given). Closed (a .reply) (k .mass) (k .jac) P) given-same c) p
 
     pub counted : Counted r (l .log) (l .core .call)
-    counted = counted-end r (l .log) (l .core .call) (everywhere (counted-closed r (a .reply)) (counted-start r))
+    counted = counted-end r (l .log) (l .core .call) (everywhere (counted-closed r (a .reply) (kept .mass) (kept .jac)) (counted-start r))
 
     within-next : WithinAt (l .core .call .run .stage) (l .core .call .run)
     unfolding Within
-    within-next = everywhere (bounds-closed (a .reply)) (h .within)
+    within-next = everywhere (bounds-closed (a .reply) (kept .mass) (kept .jac)) (h .within)
 
     lands-there : Lands (l .log) (asked (l .core .call))
-    lands-there = everywhere (lands-closed (a .reply)) (h .lands)
+    lands-there = everywhere (lands-closed (a .reply) (kept .mass) (kept .jac)) (h .lands)
 
     reports-next : Reports (l .core .call .request) (l .core .call .run)
     unfolding Lands

@@ -8,8 +8,9 @@ use mathlib.Core.Path.{_≡_, refl, sym, ap, ap₂, subst, _∙_}
 use mathlib.Core.Bool.{Bool, true, false, not, _&&_, _||_, false≢true, true≢false}
 use mathlib.Core.List.{List, [], _∷_, _++_}
 use native.Mathlib.Omega.{arith}
-use lib.Dec.{ltb}
-use borrow.Author.Tests.{lt-ltb, le-ltb}
+use lib.Dec.{eqb}
+use lib.Ieee.{Float}
+use borrow.Author.Tests.{eq-eqb, ne-eqb}
 use Rattle.words.specs.Loop.{pick}
 use Rattle.state.specs.declared.run.Run.{Run}
 use Rattle.state.specs.declared.run.Stage.{Stage}
@@ -21,7 +22,7 @@ use Rattle.opening.specs.Admission.{askingAt}
 use Rattle.blocks.specs.declared.step.Call.{Call}
 use Rattle.blocks.specs.Events.{Event}
 use Rattle.blocks.specs.Report.{isInterrupt}
-use Rattle.account.specs.Reading.{Standing, standing, failure, unaimed, pastEvent, pastEvents}
+use Rattle.account.specs.Reading.{Standing, standing, failure, aiming, pastEvent, pastEvents}
 use Rattle.blocks.proofs.Ways.{Position, replied, reporting, arrived, main, matrices, attempt, failing, newton, estimate, judging, asked, Closed}
 
 -- ---- what a stage says
@@ -82,7 +83,7 @@ pub record StandsAs (ended : Bool) (m : Marks) (last : Bool) (count : ℕ) (st :
   pub early : m .early ≡ true → (count ≡ 0) × (last ≡ false)
   pub awaited : st .awaited ≡ (m .awaits && last)
   pub landed : st .landed ≡ (m .again && last || m .well)
-  pub singular : ltb 5 (st .failures) ≡ m .singular
+  pub singular : eqb (st .failures) 6 ≡ m .singular
   pub low : ended ≡ false → count ≤ 5
 
 abbrev pub Stands : Stage → Run → Standing → Type 0
@@ -141,11 +142,11 @@ works : {last : Bool} {count : ℕ} {st : Standing} → st .aim ≡ last → st 
     → StandsAs false working last count st
 unfolding pick
 works {st = st} a f w l low =
-    record { aim = λ e. a; failures = f; early = λ e. absurd (false≢true e); awaited = w; landed = l; singular = le-ltb 5 (st .failures) (omega arith); low = λ e. low }
+    record { aim = λ e. a; failures = f; early = λ e. absurd (false≢true e); awaited = w; landed = l; singular = ne-eqb (st .failures) 6 (omega arith); low = λ e. low }
 
 -- an ended run has no attempt to speak of
 ends : {m : Marks} {last : Bool} {count : ℕ} {st : Standing} → m .early ≡ false → st .failures ≡ pick (m .live) count 0 → st .awaited ≡ (m .awaits && last)
-    → st .landed ≡ (m .again && last || m .well) → ltb 5 (st .failures) ≡ m .singular → StandsAs true m last count st
+    → st .landed ≡ (m .again && last || m .well) → eqb (st .failures) 6 ≡ m .singular → StandsAs true m last count st
 ends n f w l s =
     record { aim = λ e. absurd (true≢false e); failures = f; early = λ e. absurd (true≢false (sym e ∙ n)); awaited = w; landed = l; singular = s; low = λ e. absurd (true≢false e) }
 
@@ -158,7 +159,7 @@ module _ {last : Bool} {count : ℕ} {st : Standing} where
   finish : StandsAs false working last count st → StandsAs true working last count st
   finish h = ends refl (h .failures) (h .awaited) (h .landed) (h .singular)
 
-  miss : StandsAs false working last count st → StandsAs false working false count (unaimed st)
+  miss : StandsAs false working last count st → StandsAs false working false count (aiming false st)
   unfolding pick
   miss h = works refl (h .failures) (h .awaited) (h .landed) (h .low refl)
 
@@ -182,7 +183,7 @@ module _ {last : Bool} {count : ℕ} {st : Standing} where
 
 end-sixth : {last : Bool} {count : ℕ} {st : Standing} → 5 < count + 1 → Failing count st → StandsAs true (endMarks status.SingularMatrix) last (count + 1) st
 unfolding pick endMarks
-end-sixth {st = st} more h = ends refl (h .failures) (h .awaited) (h .landed) (lt-ltb 5 (st .failures) (omega (arith, h .failures)))
+end-sixth {st = st} more h = ends refl (h .failures) (h .awaited) (h .landed) (eq-eqb (st .failures) 6 (omega (arith, h .failures, h .low)))
 
 -- ---- at the opening, before any turn
 
@@ -240,8 +241,8 @@ module _ (r : Run) (p : Reply) (st : Standing) where
 
 -- ---- the rules
 
-module _ (p : Reply) (st : Standing) where
-  pub stands-closed : Closed p (StandsAt p st)
+module _ (p : Reply) (mass jac : List Float) (st : Standing) where
+  pub stands-closed : Closed p mass jac (StandsAt p st)
   unfolding StandsAt pastEvents pastEvent askingAt marksOf isInterrupt pick endMarks
   stands-closed =
       record {
@@ -250,13 +251,13 @@ module _ (p : Reply) (st : Standing) where
         later-report = λ h. h .later refl;
         interrupted = λ e h. h .interrupted e;
         modified = λ x e h. h .told (ap isInterrupt e);
-        first-told = λ mark e h. begin (h .told e);
-        later-told = λ mark e h. h .told e;
+        first-told = λ mark e _ h. begin (h .told e);
+        later-told = λ mark e _ h. h .told e;
         first-again = λ h. begin (h .plain refl);
         later-again = λ h. h .plain refl;
         success = λ e h. land e h;
-        aims = λ {es} hnew hhfac jac e h. rw (past-append es _ st) (clear refl e h);
-        onward = λ hnew h hhfac decomp jac e w. clear (w .aim refl) e w;
+        aims = λ {es} hnew hhfac jac e _ h. rw (past-append es _ st) (clear refl e h);
+        onward = λ {es} hnew h hhfac decomp jac e _ w. rw (past-append es _ st) (clear (sym e) e w);
         host-asked = λ j e h. h;
         origin-asked = λ j e h. h;
         jacobian-kept = λ j h. h;
@@ -265,14 +266,14 @@ module _ (p : Reply) (st : Standing) where
         column-filled = λ c l h. h .plain refl;
         columns-filled = λ c l h. h .plain refl;
         matrices-kept = λ d h. h;
-        real-stopped = λ {es} f e h. rw (past-append es _ st) (fail h);
-        complex-stopped = λ {es} f e h. rw (past-append es _ st) (fail h);
-        decomposed = λ {es} h. rw (past-append es _ st) h;
+        real-stopped = λ {es} f k _ _ h. rw (past-append es _ st) (fail h);
+        complex-stopped = λ {es} f k _ _ _ h. rw (past-append es _ st) (fail h);
+        decomposed = λ {es} f _ _ _ h. rw (past-append es _ st) h;
         sixth = λ more h. end-sixth more h;
         another = λ h hhfac l f. works (f .aim) (f .failures) (f .awaited) (f .landed) l;
         limited = λ {es} l h. rw (past-append es _ st) (finish h);
-        shortened = λ {es} l h. rw (past-append es _ st) (finish h);
-        begins = λ {es} faccon theta x l h. rw (past-append es _ st) h;
+        shortened = λ {es} l _ h. rw (past-append es _ st) (finish h);
+        begins = λ {es} faccon theta x l _ h. rw (past-append es _ st) h;
         first-stage = λ x h. h .plain refl;
         second-stage = λ x h. h .plain refl;
         not-near = λ theta thqold faccon dynold h. h .plain refl;

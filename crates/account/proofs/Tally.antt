@@ -4,6 +4,7 @@ use mathlib.Core.Path.{_≡_, refl, sym, ap, _∙_, subst}
 use mathlib.Core.Bool.{Bool, true, false, true≢false, not, _&&_, _||_}
 use mathlib.Core.List.{List, [], _∷_}
 use native.Mathlib.Omega.{arith}
+use lib.Dec.{eqb}
 use lib.ListN.{length}
 use Rattle.words.specs.Loop.{pick}
 use Rattle.state.specs.declared.settings.Settings.{Settings}
@@ -17,6 +18,7 @@ use Rattle.state.specs.declared.talk.Reply.{Reply}
 use Rattle.state.specs.declared.talk.Reply.the-variants as reply
 use Rattle.state.specs.declared.talk.Request.{Request}
 use Rattle.state.specs.declared.talk.Request.the-variants as request
+use Rattle.state.specs.Memory.{Given}
 use Rattle.opening.specs.Rows.{Opening, openingRows}
 use Rattle.opening.specs.Admission.{askingAt}
 use Rattle.opening.proofs.RowLaws.{NoneHolds}
@@ -25,24 +27,25 @@ use Rattle.blocks.specs.Advance.{Called}
 use Rattle.history.specs.Host.{isEnd, Action}
 use Rattle.account.specs.Journal.{ofKind, Fair, Turn, Journal}
 use Rattle.blocks.specs.Report.{isInterrupt}
-use Rattle.account.specs.Reading.{one, many, Question, questions, askedIn, isOde, isJac, isReport, asksAt, acceptances, firstStage, Means, meansOf, happened, countsOf, standingAt, pastEvents, interruptedIn, width}
-use Rattle.account.specs.Truth.{AllTrue}
+use Rattle.account.specs.Reading.{one, many, Question, question, questions, askedIn, isOde, isJac, isReport}
+use Rattle.account.specs.Reading.{Asks, asksAt, acceptances, firstStage, Means, meansOf, happened, countsOf}
+use Rattle.account.specs.Reading.{laterAll, acceptedIn, rejections, rejectedIn, interruptedIn, width}
+use Rattle.account.specs.Reading.{Standing, standingAt, pastEvents, pastReply}
+use Rattle.account.specs.Reading.{Progress, progressAt, progressEvents, progressReply}
+use Rattle.account.specs.Truth.{AllTrue, TrueIn, EventsTrue}
+use Rattle.account.specs.Account.{Ledger}
 use Rattle.blocks.proofs.Whole.{wholeOf}
-use Rattle.blocks.proofs.Ways.{asked}
+use Rattle.blocks.proofs.Ways.{replied, asked}
 use Rattle.account.proofs.Matches.{Kind, derivative, jacobian, report, ended, kindOf, kindAt, placeAt, Matches, matches-report, matches-end}
 use Rattle.account.proofs.Flow.{owed, left, inJacobian, differs, endsWith, Flows, flow-closed, flow-start, flow-end}
 use Rattle.account.proofs.Stands.{Stands, marksOf, pastAnswer, stands-start, stands-closed, stands-end}
-use Rattle.account.proofs.True.{true-start, true-end, true-closed}
+use Rattle.account.proofs.Truths.{Grounds, AskedAt, Where, TrueAt, true-closed, true-end, replied-from, rounds-asked}
+use Rattle.account.proofs.Ledgers.{ledger-start, ledger-closed, ledger-end}
 use Rattle.account.proofs.First.{Opens, order-within}
 use Rattle.account.proofs.Advance.{handed, advanced}
-use Rattle.account.proofs.Sound.{Held, order-is, in-kind, everywhere, counted}
+use Rattle.account.proofs.Sound.{Held, order-is, in-kind, kept, everywhere, counted}
 
 -- ---- what is carried
-
--- all events are true
-unfoldable pub EventsTrue : ℕ → List Turn → Type 0
-EventsTrue n [] = Unit
-EventsTrue n (t ∷ ts) = AllTrue n (t .events) × EventsTrue n ts
 
 pub record Tallied (o : Opening) (j : Journal) : Type 0 where
   pub ode : j .point .run .counts .ode ≡ countsOf j .ode
@@ -54,17 +57,25 @@ pub record Tallied (o : Opening) (j : Journal) : Type 0 where
   -- the events that are counted in the requests too
   pub acceptances-told : countsOf j .accepted ≡ happened (λ (e : Means). e .accepted) (j .turns)
   pub attempts-asked : many firstStage (questions j) + one (endsWith status.NeedLargerNMax (j .point .request)) + one (endsWith status.StepSizeTooSmall (j .point .request)) ≡ countsOf j .total
-  pub reports-asked : many (λ (q : Question). isReport (q .request)) (questions j) + owed (j .point .run .stage) ≡ countsOf j .accepted + 1
-  pub columns-asked : many (λ (q : Question). inJacobian (q .request) (q .place)) (questions j) + left (o .n) (j .point .run .stage) ≡ width (o .settings .source) (o .n) * countsOf j .jac
+  pub reports-asked : many (λ (q : Question). one (isReport (q .request))) (questions j) + owed (j .point .run .stage) ≡ countsOf j .accepted + 1
+  pub columns-asked : many (λ (q : Question). one (inJacobian (q .request) (q .place))) (questions j) + left (o .n) (j .point .run .stage)
+      ≡ width (o .settings .source) (o .n) * countsOf j .jac
   -- every request is one of four
   pub requests-asked : length (questions j)
-      ≡ countsOf j .ode + many (λ (q : Question). inJacobian (q .request) (q .place)) (questions j) + many (λ (q : Question). isReport (q .request)) (questions j) + one (isEnd (j .point .request))
+      ≡ countsOf j .ode + many (λ (q : Question). one (inJacobian (q .request) (q .place))) (questions j)
+      + many (λ (q : Question). one (isReport (q .request))) (questions j) + one (isEnd (j .point .request))
   -- how it ended, if it did
   pub over : happened (λ (e : Means). e .over) (j .turns) ≡ one (endsWith status.NeedLargerNMax (j .point .request))
   pub small : happened (λ (e : Means). e .small) (j .turns) ≡ one (endsWith status.StepSizeTooSmall (j .point .request))
   pub interrupt : interruptedIn (j .turns) ≡ endsWith status.UserInterrupt (j .point .request)
   pub stands : Stands (j .point .run .stage) (j .point .run) (standingAt (j .turns))
-  pub truths : EventsTrue (o .n) (j .turns)
+  -- where the history says that the run stands, and that all of it is true and balanced
+  pub after : not (j .point .run .control .first) ≡ acceptedIn (j .turns)
+  pub grounds : Grounds o (j .point .run)
+  pub tries : j .point .run .counts .total ≡ progressAt (j .turns) .attempts
+  pub here : AskedAt o (standingAt (j .turns)) (progressAt (j .turns)) (j .point .run .stage) (j .point .run)
+  pub truths : EventsTrue o j
+  pub ledger : Ledger (o .settings .rule) j
 
 -- ---- a request is of one kind
 
@@ -126,6 +137,14 @@ open-ends s (request.Jacobian x) e = refl
 open-ends s (request.Report xold x offered) e = refl
 open-ends s (request.Ended u) e = absurd (true≢false e)
 
+-- a reply begins no attempt
+reply-attempts : (q : Request) (at : Place) (p : Reply) (g : Progress) → progressReply q at p g .attempts ≡ g .attempts
+unfolding progressReply
+reply-attempts (request.Derivative x) at p g = refl
+reply-attempts (request.Jacobian x) at p g = refl
+reply-attempts (request.Report xold x offered) at p g = refl
+reply-attempts (request.Ended s) at p g = refl
+
 -- columns asked and to ask are those of the Jacobians begun
 columns-more : (w x y u v i k : ℕ) → y + u ≡ w * k → x + v ≡ u + w * i → x + y + v ≡ w * (i + k)
 columns-more w x y u v i k e f = omega (arith, e, f)
@@ -139,11 +158,16 @@ module _ (o : Opening) (none : NoneHolds (openingRows o)) (j : Journal) (a : Act
   abbrev l : Logged Called
   l = wholeOf r (a .reply) (handed j a)
 
+  abbrev given : Given
+  given = kept o none j a h fair
+
   some : 1 ≤ r .shape .n
   some = subst (λ (k : ℕ). 1 ≤ k) (sym (order-is o none (j .point) h)) (order-within o none .0)
 
   flows : Flows r (a .reply) (l .log) (l .core .call)
-  flows = flow-end r (a .reply) (l .log) (l .core .call) (everywhere o none j a h fair (flow-closed r (a .reply) some) (flow-start r (a .reply)))
+  flows =
+      flow-end r (a .reply) (l .log) (l .core .call)
+      (everywhere o none j a h fair (flow-closed r (a .reply) (given .mass) (given .jac) some) (flow-start r (a .reply)))
 
   -- the request that was open asked for no end, and was a report where the stage says so
   was-report : isReport (j .point .request) ≡ askingAt (r .stage) .report
@@ -181,13 +205,79 @@ module _ (o : Opening) (none : NoneHolds (openingRows o)) (j : Journal) (a : Act
   stands-next =
       let st = standingAt (j .turns) in
       let past = pastAnswer (askingAt (r .stage) .report) (a .reply) st in
-      let there = stands-end (a .reply) past (l .log) (l .core .call) (everywhere o none j a h fair (stands-closed (a .reply) past) (stands-start r (a .reply) st (t .stands))) in
+      let there = stands-end (a .reply) (given .mass) (given .jac) past (l .log) (l .core .call)
+      (everywhere o none j a h fair (stands-closed (a .reply) (given .mass) (given .jac) past) (stands-start r (a .reply) st (t .stands))) in
       subst (λ (b : Bool). Stands (l .core .call .run .stage) (l .core .call .run) (pastEvents (l .log) (pastAnswer b (a .reply) st))) (sym was-report) there
 
-  truths-next : EventsTrue (o .n) (advanced j a .turns)
-  unfolding EventsTrue
-  truths-next =
-      (true-end (o .n) (l .log) (l .core .call) (everywhere o none j a h fair (true-closed (o .n) (a .reply)) (true-start (o .n) (r .stage) r (order-is o none (j .point) h))) .0, t .truths)
+  -- the history past the reply
+  abbrev st : Standing
+  st = pastReply (j .point .request) (a .reply) (standingAt (j .turns))
+
+  abbrev g : Progress
+  g = progressReply (j .point .request) (j .point .place) (a .reply) (progressAt (j .turns))
+
+  true-here : TrueAt o (l .core .memory) (a .reply) st g [] (replied (r .stage) r)
+  unfolding AllTrue Where pastEvents progressEvents
+  true-here =
+      record {
+        truth = tt;
+        grounds = t .grounds;
+        attempts = t .tries ∙ sym (reply-attempts (j .point .request) (j .point .place) (a .reply) (progressAt (j .turns)));
+        stands =
+            replied-from o (a .reply) (standingAt (j .turns)) (progressAt (j .turns)) r (j .point .request) (j .point .place)
+            (r .stage) (h .matches) (h .reports) (in-kind o none j a h fair .0) (t .here);
+      }
+
+  true-there : TrueAt o (l .core .memory) (a .reply) st g (l .log) (asked (l .core .call))
+  true-there = everywhere o none j a h fair (true-closed o (l .core .memory) (a .reply) st g) true-here
+
+  here-next : AskedAt o (standingAt (advanced j a .turns)) (progressAt (advanced j a .turns)) (l .core .call .run .stage) (l .core .call .run)
+  unfolding standingAt progressAt
+  here-next = true-end o (l .core .memory) (a .reply) st g (l .log) (l .core .call) true-there
+
+  truths-next : EventsTrue o (advanced j a)
+  unfolding TrueIn
+  truths-next = (true-there .truth, t .truths)
+
+  tries-next : l .core .call .run .counts .total ≡ progressAt (advanced j a .turns) .attempts
+  unfolding progressAt
+  tries-next = true-there .attempts
+
+  after-next : not (l .core .call .run .control .first) ≡ acceptedIn (advanced j a .turns)
+  unfolding acceptedIn
+  after-next = counted o none j a h fair .first ∙ ap (laterAll (l .log)) (t .after)
+
+  -- the run counts what it rejects by its flag, the journal by what was accepted before
+  rejected-here : rejections (not (r .control .first)) (l .log) ≡ rejections (acceptedIn (j .turns)) (l .log)
+  rejected-here = ap (λ (b : Bool). rejections b (l .log)) (t .after)
+
+  -- the place of the open request is that of its stage
+  place-asks : (c : Asks → Bool) → one (c (asksAt (j .point .place))) ≡ one (c (asksAt (placeAt (r .stage))))
+  place-asks c = ap (λ (p : Place). one (c (asksAt p))) (h .matches .place)
+
+  ledger-next : Ledger (o .settings .rule) (advanced j a)
+  unfolding happened
+  ledger-next =
+      let k = ledger-end (o .settings .rule) (r .stage) (l .log) (l .core .call)
+      (everywhere o none j a h fair (ledger-closed (o .settings .rule) (r .stage) (a .reply) (given .mass) (given .jac))
+      (ledger-start (o .settings .rule) (r .stage) r (ap (λ (s : Settings). s .rule) (h .settings)) refl)) in
+      record {
+        solves = omega (arith, t .ledger .solves, k .solves-even, place-asks (λ (q : Asks). q .refines));
+        attempts = omega (arith, t .ledger .attempts, k .attempts-even, place-asks (λ (q : Asks). q .attempt));
+      }
+
+  -- the first stage of an attempt is told by the rounds of the history as by those of the run
+  first-asked : firstStage (question (l .core .call .request) (l .core .call .place) (progressAt (advanced j a .turns) .rounds))
+      ≡ one (asksAt (l .core .call .place) .z1 && eqb (l .core .call .run .control .«newt_iter») 0)
+  unfolding firstStage
+  first-asked =
+      ap one (same-where (asksAt (l .core .call .place) .z1)
+      (λ e. rounds-asked o _ _ (l .core .call .run .stage) (l .core .call .run) here-next
+      (sym (ap (λ (p : Place). asksAt p .z1) (counted o none j a h fair .matches .place)) ∙ e)))
+    where
+      same-where : (b : Bool) {m n : ℕ} → (b ≡ true → m ≡ n) → (b && eqb m 0) ≡ (b && eqb n 0)
+      same-where true e = ap (λ (k : ℕ). eqb k 0) (e refl)
+      same-where false e = refl
 
   -- an acceptance is told by an event and by its request alike
   acceptance-asked : one (asksAt (l .core .call .place) .f0 && not (isReport (j .point .request))) ≡ many (λ (e : Event). meansOf e .accepted) (l .log)
@@ -202,7 +292,7 @@ module _ (o : Opening) (none : NoneHolds (openingRows o)) (j : Journal) (a : Act
       (h .settings) (flows .tallies .columns))
 
   pub tallied-next : Tallied o (advanced j a)
-  unfolding many happened acceptances askedIn firstStage interruptedIn
+  unfolding many happened rejectedIn acceptances askedIn interruptedIn
   tallied-next =
       let c = counted o none j a h fair in
       let f = flows .tallies in
@@ -213,9 +303,9 @@ module _ (o : Opening) (none : NoneHolds (openingRows o)) (j : Journal) (a : Act
         lu = omega (arith, c .lu, t .lu);
         total = omega (arith, c .total, t .total);
         accepted = omega (arith, c .accepted, t .accepted, acceptance-asked);
-        rejected = omega (arith, c .rejected, t .rejected);
+        rejected = omega (arith, c .rejected, t .rejected, rejected-here);
         acceptances-told = omega (arith, t .acceptances-told, acceptance-asked);
-        attempts-asked = omega (arith, t .attempts-asked, f .attempts, none-over status.NeedLargerNMax, none-over status.StepSizeTooSmall);
+        attempts-asked = omega (arith, t .attempts-asked, f .attempts, first-asked, none-over status.NeedLargerNMax, none-over status.StepSizeTooSmall);
         reports-asked = omega (arith, t .reports-asked, f .reports, acceptance-asked);
         columns-asked = columns-more (width (o .settings .source) (o .n)) _ _ _ _ _ _ (t .columns-asked) columns-here;
         requests-asked = omega (arith, t .requests-asked, k, no-end);
@@ -223,7 +313,12 @@ module _ (o : Opening) (none : NoneHolds (openingRows o)) (j : Journal) (a : Act
         small = omega (arith, t .small, f .small, none-over status.StepSizeTooSmall);
         interrupt = interrupts;
         stands = stands-next;
+        after = after-next;
+        grounds = true-there .grounds;
+        tries = tries-next;
+        here = here-next;
         truths = truths-next;
+        ledger = ledger-next;
       }
 
 -- ---- the opening
@@ -235,12 +330,21 @@ module _ (o : Opening) (j : Journal) (p : Opens o (j .point)) (start : j .turns 
       rw (p .stage, p .control, start)
       (record { aim = λ e. refl; failures = refl; early = λ e. (refl, refl); awaited = refl; landed = refl; singular = refl; low = λ e. omega arith })
 
-  truths-first : EventsTrue (o .n) (j .turns)
-  unfolding EventsTrue
+  truths-first : EventsTrue o j
+  unfolding TrueIn
   truths-first = rw start tt
 
+  here-first : AskedAt o (standingAt (j .turns)) (progressAt (j .turns)) (j .point .run .stage) (j .point .run)
+  unfolding AskedAt standingAt
+  here-first = rw (p .stage, start) refl
+
+  ledger-first : Ledger (o .settings .rule) j
+  unfolding happened asksAt pick
+  ledger-first = record { solves = rw (p .place, start) refl; attempts = rw (p .place, start) refl }
+
   pub tallied-first : Tallied o j
-  unfolding many happened acceptances askedIn isOde isJac isReport isEnd inJacobian asksAt differs firstStage interruptedIn endsWith owed left pick
+  unfolding many happened rejectedIn acceptedIn acceptances askedIn isOde isJac isReport isEnd inJacobian asksAt differs
+      firstStage interruptedIn endsWith owed left pick progressAt
   tallied-first =
       record {
         ode = rw (p .counts, p .request, p .place, start) refl;
@@ -258,5 +362,10 @@ module _ (o : Opening) (j : Journal) (p : Opens o (j .point)) (start : j .turns 
         small = rw (p .request, start) refl;
         interrupt = rw (p .request, start) refl;
         stands = stands-first;
+        after = rw (p .control, start) refl;
+        grounds = record { settings-are = p .settings; order-is = p .order; xend-is = p .xend; posneg-is = p .posneg };
+        tries = rw (p .counts, start) refl;
+        here = here-first;
         truths = truths-first;
+        ledger = ledger-first;
       }

@@ -8,7 +8,8 @@
 --     statuses          4. of the five conditions exactly that of the status holds
 --     not-yet           and before the end none of those of 1, 2, 3 and 5 does
 --     success-lands     5. where an aimed attempt that was accepted is reported
---     events-true       what decided an event is so
+--     events-true       every event is true: what decided it is so, by the numbers of the history
+--     ledger            every attempt comes to one end, and every error solve is judged once
 use Prim.Native.Nat.{ℕ, zero, suc, _+_, _*_, _≤_, _<_}
 use mathlib.Core.Path.{_≡_, refl, sym, ap, ap₂, _∙_, subst}
 use mathlib.Core.Bool.{Bool, true, false, true≢false, _&&_, _||_}
@@ -44,7 +45,8 @@ use Rattle.history.specs.Host.{isEnd, Action}
 use Rattle.history.specs.History.{nextPoint}
 use Rattle.account.specs.Journal.{Fair, Turn, Journal, next, FairFrom, after, Starts, JournalOf}
 use Rattle.account.specs.Reading.{one, many, Question, questions, askedIn, isReport, firstStage, says, sameStatus, standingAt, interruptedIn, countsOf, happened, Means, width, mostRequests}
-use Rattle.account.specs.Account.{Strategy, played, FairHost, Answered, EndsWithin, Over, Limits, Ends, Lands}
+use Rattle.account.specs.Truth.{EventsTrue}
+use Rattle.account.specs.Account.{Strategy, played, FairHost, Answered, EndsWithin, Over, Limits, Ends, Lands, Ledger}
 use Rattle.account.proofs.Matches.{Matches, by-stage, matches-report, matches-end, matches-ended, ended-matches}
 use Rattle.account.proofs.Flow.{owed, endsWith}
 use Rattle.account.proofs.Stands.{Stands, marksOf, endMarks}
@@ -55,7 +57,7 @@ use Rattle.account.proofs.Admits.{ended-refuses}
 use Rattle.account.proofs.First.{opens}
 use Rattle.account.proofs.Advance.{advanced, next-is}
 use Rattle.account.proofs.Sound.{Held, bounded, passes, held-next, held-first}
-use Rattle.account.proofs.Tally.{EventsTrue, Tallied, open-ends, tallied-next, tallied-first}
+use Rattle.account.proofs.Tally.{Tallied, open-ends, tallied-next, tallied-first}
 
 -- ---- every point of a journal is sound
 
@@ -133,7 +135,7 @@ module _ (o : Opening) (j : Journal) (w : JournalOf o j) where
   attempts-told = let t = sound o j w .tallied in t .attempts-asked ∙ sym (t .total)
 
   -- no report is owed at a report, nor at the end
-  pub reports-told : (isReport (j .point .request) || isEnd (j .point .request)) ≡ true → many (λ (q : Question). isReport (q .request)) (questions j) ≡ j .point .run .counts .accepted + 1
+  pub reports-told : (isReport (j .point .request) || isEnd (j .point .request)) ≡ true → many (λ (q : Question). one (isReport (q .request))) (questions j) ≡ j .point .run .counts .accepted + 1
   reports-told e =
       let s = sound o j w in
       let t = s .tallied in
@@ -185,7 +187,7 @@ module _ (s : Status) (ts : List Turn) where
     interrupt : interruptedIn ts ≡ sameStatus status.UserInterrupt s
     over : happened (λ (e : Means). e .over) ts ≡ one (sameStatus status.NeedLargerNMax s)
     small : happened (λ (e : Means). e .small) ts ≡ one (sameStatus status.StepSizeTooSmall s)
-    singular : ltb 5 (standingAt ts .failures) ≡ endMarks s .singular
+    singular : eqb (standingAt ts .failures) 6 ≡ endMarks s .singular
 
 -- the marks that stand for a status
 marks-are : (s : Status) → (endMarks s .well ≡ sameStatus s status.Success) × (endMarks s .singular ≡ sameStatus s status.SingularMatrix)
@@ -316,8 +318,13 @@ success-lands o j w xold x offered e awaited =
 
 -- ---- events
 
-pub events-true : (o : Opening) (j : Journal) → JournalOf o j → EventsTrue (o .n) (j .turns)
+pub events-true : (o : Opening) (j : Journal) → JournalOf o j → EventsTrue o j
 events-true o j w = sound o j w .tallied .truths
+
+-- ---- the ledger
+
+pub ledger : (o : Opening) (j : Journal) → JournalOf o j → Ledger (o .settings .rule) j
+ledger o j w = sound o j w .tallied .ledger
 
 -- ---- after the end
 

@@ -27,7 +27,7 @@ unfoldable pub nextBy : Solver → Journal → Action → Journal
 nextBy s j a =
     let here = j .point in
     let l = s (here .run) (a .reply) (wrote (here .request) (here .place) a (here .memory)) in
-    journal (nextPoint here (l .core .answer) (l .core .memory)) (turn (here .request) (here .place) (here .run .control .«newt_iter») (a .reply) (l .log) ∷ j .turns)
+    journal (nextPoint here (l .core .answer) (l .core .memory)) (turn here a (l .log) ∷ j .turns)
 
 pub next-by : (j : Journal) (a : Action) → nextBy advanceOf j a ≡ next j a
 unfolding nextBy next

@@ -1,5 +1,5 @@
--- The journal of a run: from an accepted opening on, what was asked and where, what the host replied, and what happened up to the next request.
-use Prim.Native.Nat.{ℕ}
+-- The journal of a run: from an accepted opening on, where the talk stood at each request, all that the host did there,
+-- and what happened up to the next request.
 use mathlib.Core.Path.{_≡_}
 use mathlib.Core.Bool.{Bool, true, false}
 use mathlib.Core.List.{List, [], _∷_}
@@ -21,7 +21,8 @@ use Rattle.history.specs.History.{Point, point, nextPoint}
 
 -- ---- what a host may do
 
--- a report is answered by continue, interrupt, modified or a mark, every other request by 'filled', and an ended run by nothing
+-- a report is answered by continue, interrupt, modified or a mark, every other request by 'filled', an ended run by
+-- nothing
 unfoldable pub ofKind : Request → Reply → Bool
 ofKind (request.Derivative x) reply.Filled = true
 ofKind (request.Derivative x) reply.Continue = false
@@ -55,16 +56,15 @@ pub record Fair (here : Point) (a : Action) : Type 0 where
 -- ---- what is kept of an advance
 
 pub record Turn : Type 0 where
-  -- the request that was open, its place, and the Newton rounds that the run had done then
-  pub request : Request
-  pub place : Place
-  pub rounds : ℕ
-  pub reply : Reply
+  -- where the talk stood: the run, the open request with its place, and the memory that was handed out
+  pub here : Point
+  -- what the host did: its reply, and what it wrote
+  pub action : Action
   -- what happened up to the next request, in its order
   pub events : List Event
 
-abbrev pub turn : Request → Place → ℕ → Reply → List Event → Turn
-turn q p k a es = record { request = q; place = p; rounds = k; reply = a; events = es }
+abbrev pub turn : Point → Action → List Event → Turn
+turn here a es = record { here = here; action = a; events = es }
 
 -- where the talk stands, and the turns before, the latest first
 pub record Journal : Type 0 where
@@ -79,10 +79,10 @@ unfoldable pub next : Journal → Action → Journal
 next j a =
     let here = j .point in
     let l = advanceOf (here .run) (a .reply) (wrote (here .request) (here .place) a (here .memory)) in
-    journal (nextPoint here (l .core .answer) (l .core .memory))
-    (turn (here .request) (here .place) (here .run .control .«newt_iter») (a .reply) (l .log) ∷ j .turns)
+    journal (nextPoint here (l .core .answer) (l .core .memory)) (turn here a (l .log) ∷ j .turns)
 
--- the advances that follow one another, each by a fair action of the host; none stands after the end, to which no reply is of the kind asked for
+-- the advances that follow one another, each by a fair action of the host; none stands after the end, to which no reply
+-- is of the kind asked for
 unfoldable pub FairFrom : Journal → List Action → Type 0
 FairFrom j [] = Unit
 FairFrom j (a ∷ acts) = Fair (j .point) a × FairFrom (next j a) acts
@@ -93,7 +93,9 @@ after j (a ∷ acts) = after (next j a) acts
 
 -- the journal of an opening that was accepted: its first request is open
 unfoldable pub Starts : opening.Outcome → Journal → Type 0
-Starts x j = x .answer ≡ opened.Asked (j .point .run) (j .point .request) (j .point .place) × x .memory ≡ j .point .memory × j .turns ≡ []
+Starts x j =
+    x .answer ≡ opened.Asked (j .point .run) (j .point .request) (j .point .place)
+    × x .memory ≡ j .point .memory × j .turns ≡ []
 
 -- j is a journal of the opening o, by some fair actions of a host
 pub record JournalOf (o : Opening) (j : Journal) : Type 0 where

@@ -3,3 +3,4 @@ pub mod Journal
 pub mod Reading
 pub mod Truth
 pub mod Account
+pub mod Demand

@@ -1,65 +1,100 @@
--- What makes an event of a run true: the event carries what decided it, so its truth is a test of those numbers and not of the run that wrote it.
--- The other events carry no number, so nothing is asked of them here; what their number and order come to is Reading.antt's matter.
--- Doubles by their patterns: 0x3ff0_0000_0000_0000 is 1.0, 0x3fef_ae14_7ae1_47ae is 0.99. A NaN meets no test: neither `le` nor `lt` holds of it.
-use Prim.Native.Nat.{ℕ}
+-- What makes an event of a run true. An event carries the numbers that decided it, and its truth is the Rust's own test on
+-- those numbers, spelled out here: no definition of `blocks` makes it so. The numbers that an event doesn't carry are
+-- those of the opening o, of the memory m in which its advance worked, and of the history before it: how far the run
+-- had come (g) and where its attempts stood (st).
+-- Doubles by their patterns: 0x3ff0_0000_0000_0000 is 1.0, 0x3fef_ae14_7ae1_47ae is 0.99, 0x3fb9_9999_9999_999a is 0.1.
+-- A NaN meets no test: neither `le` nor `lt` holds of it.
+use Prim.Native.Nat.{ℕ, _*_, _≤_, _<_}
 use mathlib.Core.Path.{_≡_}
-use mathlib.Core.Bool.{true, false}
+use mathlib.Core.Bool.{Bool, true, false}
 use mathlib.Core.List.{List, [], _∷_}
-use lib.Ieee.{le, lt}
-use Rattle.words.specs.Words.{double}
-use Rattle.matrix.specs.Answers.{Stop, nowhere, column, Decomposition}
-use Rattle.matrix.specs.Elimination.{Work, worked}
-use Rattle.matrix.specs.Lu.{real, luDecompOf}
-use Rattle.matrix.specs.LuComplex.{complexKind, luDecompComplexOf}
-use Rattle.blocks.specs.Matrices.{isErr, columnOf}
-use Rattle.blocks.specs.Events.{Event, begun, over-limit, too-small, real-try, complex-try, real-singular, complex-singular, rounds-used, diverged, slow, error-solve, failed-first, failed-later, accepted, aimed}
+use lib.Ieee.{Float, le, lt}
+use Rattle.words.specs.Words.{double, _⊕_, _⊖_, _⊗_, _⊘_}
+use Rattle.scalar.specs.Order.{absOf, signumOf}
+use Rattle.matrix.specs.Answers.{Stop, nowhere, column}
+use Rattle.matrix.specs.Complex.{parts}
+use Rattle.matrix.specs.Elimination.{worked}
+use Rattle.matrix.specs.Lu.{real}
+use Rattle.matrix.specs.LuComplex.{complexKind}
+use Rattle.state.specs.Memory.{Memory, zeros, noughts}
+use Rattle.opening.specs.Rows.{Opening}
+use Rattle.blocks.specs.Entries.{Three, three}
+use Rattle.blocks.specs.Matrices.{builtOf}
+use Rattle.blocks.specs.Events.{Event, real-singular, complex-singular, factored, over-limit, too-small, begun}
+use Rattle.blocks.specs.Events.{rounds-used, diverged, slow, error-solve, failed, accepted, aimed, not-aimed}
+use Rattle.account.specs.Journal.{Turn, Journal}
+use Rattle.account.specs.Reading.{Progress, progressEvent, progressReply, progressAt}
+use Rattle.account.specs.Reading.{Standing, pastEvent, pastReply, standingAt}
 
--- a matrix, with pivots, whose decomposition answers an error, and k is where its elimination stops: a column, or 0 where it doesn't stop;
--- a refused order or length is an error too, and any such matrix will do. The whole is `passLog` below, of the very matrices that a pass builds:
--- Tries.antt's `pass-events` shows it of a pass whose lengths fit.
-pub record Stops {A : Type 0} (decomposed : A → List ℕ → Decomposition A) (work : A → List ℕ → Work A) (k : ℕ) : Type 0 where
-  pub a : A
-  pub ip : List ℕ
-  pub fails : isErr (decomposed a ip .answer) ≡ true
-  pub column : k ≡ columnOf (work a ip .stop)
+-- ---- the matrices of a pass, made with h of the mass and the Jacobian in m (radau.rs:377-388)
 
--- for n amounts: E1 (radau.rs:392), and E2 in its two parts (radau.rs:407), decomposed as n by n
-abbrev pub RealStop : ℕ → ℕ → Type 0
-RealStop n k = Stops (luDecompOf n) (worked real n) k
+abbrev room : Opening → List Float
+room o = zeros (o .n * o .n)
 
-abbrev pub ComplexStop : ℕ → ℕ → Type 0
-ComplexStop n k = Stops (luDecompComplexOf n) (worked complexKind n) k
+abbrev pub madeOf : Opening → Memory → Float → Three
+madeOf o m h =
+    builtOf (o .settings .mass) (o .n) (m .given .mass) (m .given .jac) h (three (room o) (room o) (room o))
 
--- for n amounts
-unfoldable pub True : ℕ → Event → Type 0
-True n begun = Unit
-True n over-limit = Unit
-True n too-small = Unit
-True n real-try = Unit
-True n complex-try = Unit
-True n (real-singular k) = RealStop n k
-True n (complex-singular k) = ComplexStop n k
-True n rounds-used = Unit
+-- where the elimination of E1 stops (radau.rs:392), and that of E2 (radau.rs:407)
+abbrev pub e1At : Opening → Memory → Float → Stop
+e1At o m h = worked real (o .n) (madeOf o m h .one) (noughts (o .n)) .stop
+
+abbrev pub e2At : Opening → Memory → Float → Stop
+e2At o m h = worked complexKind (o .n) (parts (madeOf o m h .two) (madeOf o m h .three)) (noughts (o .n)) .stop
+
+-- ---- the tests
+
+-- the step h is too small at x, or it isn't (radau.rs:430)
+abbrev pub TooSmall : Opening → Float → Float → Bool → Type 0
+TooSmall o h x b = le (double 0x3fb9_9999_9999_999a ⊗ absOf h) (absOf x ⊗ o .settings .uround) ≡ b
+
+-- a step of hnew from x reaches the end point, or it doesn't (radau.rs:250, 306, 764)
+abbrev pub Reaches : Opening → Float → Float → Bool → Type 0
+Reaches o x hnew b =
+    le (double 0) ((x ⊕ hnew ⊘ double 0x3ff0_0000_0000_0000 ⊖ o .xend) ⊗ signumOf (o .xend ⊖ o .x0)) ≡ b
+
+-- the step of an aimed attempt is what is left to the end point (radau.rs:765)
+abbrev pub Aims : Opening → Standing → Progress → Float → Type 0
+Aims o st g h = st .aim ≡ true → h ≡ o .xend ⊖ g .x
+
+-- ---- the truth of an event
+
+unfoldable pub True : Opening → Memory → Standing → Progress → Event → Type 0
+-- a zero pivot at that column, of the very matrices of this pass; E2 is not tried where E1 stops (radau.rs:390-419)
+True o m st g (real-singular h k) = e1At o m h ≡ column k
+True o m st g (complex-singular h k) = (e1At o m h ≡ nowhere) × (e2At o m h ≡ column k)
+True o m st g (factored h) = (e1At o m h ≡ nowhere) × (e2At o m h ≡ nowhere)
+-- so many attempts were begun before it as are permitted (radau.rs:424)
+True o m st g over-limit = o .settings .«max_steps» ≤ g .attempts
+True o m st g (too-small h x) = (g .attempts < o .settings .«max_steps») × (x ≡ g .x) × TooSmall o h x true
+True o m st g (begun h x) =
+    (g .attempts < o .settings .«max_steps») × (x ≡ g .x) × TooSmall o h x false × Aims o st g h
+-- so many rounds of this attempt were asked for as are permitted (radau.rs:484)
+True o m st g (rounds-used k) = (k ≡ g .rounds) × (o .settings .«newton_maxiter» ≤ k)
 -- theta is not below 0.99 (radau.rs:571)
-True n (diverged theta) = lt theta (double 0x3fef_ae14_7ae1_47ae) ≡ false
+True o m st g (diverged theta) = lt theta (double 0x3fef_ae14_7ae1_47ae) ≡ false
 -- dyth is at least 1.0 (radau.rs:574-575)
-True n (slow dyth) = le (double 0x3ff0_0000_0000_0000) dyth ≡ true
-True n error-solve = Unit
+True o m st g (slow dyth) = le (double 0x3ff0_0000_0000_0000) dyth ≡ true
+-- a round was done; that each solve is judged once is the ledger's matter (Account.antt)
+True o m st g error-solve = 1 ≤ g .rounds
 -- err is at most 1.0, or it isn't (radau.rs:676)
-True n (failed-first err) = le err (double 0x3ff0_0000_0000_0000) ≡ false
-True n (failed-later err) = le err (double 0x3ff0_0000_0000_0000) ≡ false
-True n (accepted err) = le err (double 0x3ff0_0000_0000_0000) ≡ true
-True n aimed = Unit
+True o m st g (failed err) = le err (double 0x3ff0_0000_0000_0000) ≡ false
+True o m st g (accepted err h) = (le err (double 0x3ff0_0000_0000_0000) ≡ true) × Aims o st g h
+True o m st g (aimed x hnew) = (x ≡ g .x) × Reaches o x hnew true
+True o m st g (not-aimed x hnew) = (x ≡ g .x) × Reaches o x hnew false
 
--- all that happened is true
-unfoldable pub AllTrue : ℕ → List Event → Type 0
-AllTrue n [] = Unit
-AllTrue n (e ∷ es) = True n e × AllTrue n es
+-- all that happened in an advance is true, each event where it stands
+unfoldable pub AllTrue : Opening → Memory → Standing → Progress → List Event → Type 0
+AllTrue o m st g [] = Unit
+AllTrue o m st g (e ∷ es) = True o m st g e × AllTrue o m (pastEvent e st) (progressEvent e g) es
 
--- What a pass through the matrices writes, by where the elimination of E1 stops and that of E2: a singular event is a zero pivot, which is number 17, and names its column.
--- E2 is not tried where E1 stops (radau.rs:392-419).
-unfoldable pub passLog : Stop → Stop → List Event
-passLog nowhere nowhere = real-try ∷ complex-try ∷ []
-passLog nowhere (column k) = real-try ∷ complex-try ∷ complex-singular k ∷ []
-passLog (column k) nowhere = real-try ∷ real-singular k ∷ []
-passLog (column k) (column j) = real-try ∷ real-singular k ∷ []
+-- in all turns; the advance of the latest worked in the memory m, that of each one before in what it handed out
+unfoldable pub TrueIn : Opening → Memory → List Turn → Type 0
+TrueIn o m [] = Unit
+TrueIn o m (t ∷ ts) =
+    AllTrue o m (pastReply (t .here .request) (t .action .reply) (standingAt ts))
+    (progressReply (t .here .request) (t .here .place) (t .action .reply) (progressAt ts)) (t .events)
+    × TrueIn o (t .here .memory) ts
+
+abbrev pub EventsTrue : Opening → Journal → Type 0
+EventsTrue o j = TrueIn o (j .point .memory) (j .turns)

@@ -1,13 +1,11 @@
--- The contract of `print` settles its call: two outcomes that it allows for one input are the same bytes and as many.
+-- Each contract settles its call: it asks nothing, and two outcomes that it allows for one input are the same answer
+-- and the same memory.
 use Prim.Native.Nat.{ℕ}
-use mathlib.Core.Path.{_≡_}
 use mathlib.Core.List.{List}
-use lib.ListN.{length}
-use Rattle.words.proofs.Outcome.{each-of-two}
-use Rattle.sheet.specs.Reader.{over}
-use Rattle.answer.specs.declared.forecast.Forecast.{Forecast}
-use Rattle.answer.specs.Printed.{printedOf}
+use Rattle.words.specs.Contract.{Settles}
+use Rattle.words.proofs.Outcome.{_▹_, two-parts}
+use Rattle.answer.proofs.printed.print as print
 
-pub print-once : (f : Forecast) (out₀ : List ℕ) {out out' : List ℕ} {r r' : ℕ}
-    → (out ≡ over (printedOf f) out₀) × (r ≡ length (printedOf f)) → (out' ≡ over (printedOf f) out₀) × (r' ≡ length (printedOf f)) → (out ≡ out') × (r ≡ r')
-print-once f out₀ = each-of-two
+pub print-once : Settles print.Kinds.ps print.Kinds.r print.Reads.Asked print.Reads.Post
+print-once κs a =
+    (tt, λ o p. λ e f. two-parts (λ (out : List ℕ) (r : ℕ). r ▹ tt ▹ out ▹ tt) (e .0, e .1 .0) (f .0, f .1 .0))

@@ -12,9 +12,9 @@ use Rattle.state.specs.declared.talk.IntegrationResult.{IntegrationResult}
 use Rattle.state.specs.Numbers.{statusNumber, refusalNumber}
 use Rattle.sheet.specs.Reader.{over}
 use Rattle.sheet.proofs.Inverse.{length-digits}
-use Rattle.answer.specs.declared.forecast.Ending.{Ending}
-use Rattle.answer.specs.declared.forecast.Ending.the-variants as ending
-use Rattle.answer.specs.declared.forecast.Forecast.{Forecast}
+use Rattle.answer.specs.declared.ending.Ending.{Ending}
+use Rattle.answer.specs.declared.ending.Ending.the-variants as ending
+use Rattle.answer.specs.declared.ending.Forecast.{Forecast}
 use Rattle.answer.specs.Printed.{text, widthIn, numeralOf, floatOf, statusLine, amountsText, endingText, printedOf}
 use Rattle.answer.specs.Put.{Put}
 use Rattle.answer.proofs.PutLaws.{put-over}

@@ -9,9 +9,9 @@ use Rattle.state.specs.declared.run.Counts.{Counts}
 use Rattle.state.specs.declared.run.Status.the-variants.{Success}
 use Rattle.state.specs.declared.talk.Refusal.the-variants.{MinStep}
 use Rattle.sheet.specs.Digits.{byteOf, power, digits}
-use Rattle.answer.specs.declared.forecast.Forecast.{Forecast}
-use Rattle.answer.specs.declared.forecast.Ending.{Ending}
-use Rattle.answer.specs.declared.forecast.Ending.the-variants as ending
+use Rattle.answer.specs.declared.ending.Forecast.{Forecast}
+use Rattle.answer.specs.declared.ending.Ending.{Ending}
+use Rattle.answer.specs.declared.ending.Ending.the-variants as ending
 use Rattle.answer.specs.Printed.{text, widthIn, amountsText, endingText, printedOf}
 
 abbrev counted : Counts

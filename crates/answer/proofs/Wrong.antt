@@ -8,10 +8,10 @@ use lib.ListN.{length, getD, take, replicate}
 use Rattle.words.specs.Loop.{pick}
 use Rattle.sheet.specs.Digits.{byteOf, power, digits, hexOf}
 use Rattle.sheet.specs.Reader.{over}
-use Rattle.answer.specs.declared.forecast.Forecast.{Forecast}
-use Rattle.answer.specs.declared.forecast.Reached.{Reached}
-use Rattle.answer.specs.declared.forecast.Ending.{Ending}
-use Rattle.answer.specs.declared.forecast.Ending.the-variants as ending
+use Rattle.answer.specs.declared.ending.Forecast.{Forecast}
+use Rattle.answer.specs.declared.ending.Reached.{Reached}
+use Rattle.answer.specs.declared.ending.Ending.{Ending}
+use Rattle.answer.specs.declared.ending.Ending.the-variants as ending
 use Rattle.answer.specs.Printed.{text, widthIn, floatOf, statusLine, amountsText, reachedText, endingText, printedOf}
 use Rattle.answer.proofs.Samples.{one, told, ended}
 

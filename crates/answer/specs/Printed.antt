@@ -12,10 +12,10 @@ use Rattle.state.specs.declared.talk.IntegrationResult.{IntegrationResult}
 use Rattle.state.specs.Numbers.{refusalNumber, statusNumber}
 use Rattle.bits.specs.Pattern.{patternOf}
 use Rattle.sheet.specs.Digits.{digits, hexOf}
-use Rattle.answer.specs.declared.forecast.Reached.{Reached}
-use Rattle.answer.specs.declared.forecast.Ending.{Ending}
-use Rattle.answer.specs.declared.forecast.Ending.the-variants as ending
-use Rattle.answer.specs.declared.forecast.Forecast.{Forecast}
+use Rattle.answer.specs.declared.ending.Reached.{Reached}
+use Rattle.answer.specs.declared.ending.Ending.{Ending}
+use Rattle.answer.specs.declared.ending.Ending.the-variants as ending
+use Rattle.answer.specs.declared.ending.Forecast.{Forecast}
 
 -- ---- words and numbers
 

@@ -1,8 +1,8 @@
 // The answer to a sheet: what became of it, and the bytes that `decay` prints of that (01, 'Sheet and program').
 mod digits;
-pub mod forecast;
+pub mod ending;
 mod lines;
 pub mod printed;
 
-pub use forecast::Forecast;
+pub use ending::Forecast;
 pub use printed::print;

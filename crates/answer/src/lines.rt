@@ -10,7 +10,7 @@ ghost use Rattle.answer.specs.Put.{Put};
 use crate::digits::ROOM;
 use crate::digits::put_float;
 use crate::digits::put_number;
-use crate::forecast::Reached;
+use crate::ending::Reached;
 use state::status_number;
 use state::talk::IntegrationResult;
 

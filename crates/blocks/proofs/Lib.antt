@@ -1,4 +1,4 @@
--- In order of reading: first what the code's proofs cite, then what holds of every advance.
+-- In order of reading: first what the code's proofs cite, then what holds of every advance, then samples and traps.
 pub mod AdmittedLaws
 pub mod LogLaws
 pub mod MatrixLaws
@@ -16,6 +16,13 @@ pub mod AdvanceLaws
 pub mod RepliedLaws
 pub mod Settled
 pub mod Whole
-pub mod Determinism
+pub mod Decompositions
+pub mod Passes
+pub mod Anew
+pub mod Tries
+pub mod FactorsKept
 pub mod Ways
 pub mod Everyway
+pub mod FromRust
+pub mod Samples
+pub mod Traps

@@ -1,15 +1,15 @@
--- What an advance can do, floats aside: the ways from one position to the next, each a rule with its event. Every test of floats is arbitrary here, so a property that is closed
--- under the rules holds of every advance whatever the arithmetic says (`Closed`; Everyway.antt shows it), and a rule that is changed later changes one line of each proof.
+-- What an advance can do: the ways from one position to the next, each a rule with its event. A rule has as premises
+-- the tests that led there, spelled out as the Rust has them, and takes every other number as it comes; so what is closed
+-- under the rules holds of every advance (`Closed`; Everyway.antt shows it), and a rule that changes changes one line
+-- of each proof.
 use Prim.Native.Nat.{ℕ, suc, _+_, _≤_, _<_}
 use mathlib.Core.Path.{_≡_}
 use mathlib.Core.Bool.{Bool, true, false}
 use mathlib.Core.List.{List, [], _∷_, _++_}
 use lib.Ieee.{Float, le, lt}
-use Rattle.words.specs.Words.{double, _⊕_, _⊖_}
-use Rattle.matrix.specs.Complex.{parts}
-use Rattle.matrix.specs.Elimination.{worked}
-use Rattle.matrix.specs.Lu.{real, luDecompOf}
-use Rattle.matrix.specs.LuComplex.{complexKind, luDecompComplexOf}
+use Rattle.words.specs.Words.{double, _⊕_, _⊖_, _⊗_, _⊘_}
+use Rattle.scalar.specs.Order.{absOf}
+use Rattle.matrix.specs.Answers.{nowhere, column}
 use Rattle.state.specs.declared.settings.Number.{Number}
 use Rattle.state.specs.declared.settings.Rule.the-variants as rule
 use Rattle.state.specs.declared.settings.Source.the-variants as source
@@ -24,9 +24,12 @@ use Rattle.state.specs.declared.talk.Request.the-variants as request
 use Rattle.state.specs.Memory.{Factors}
 use Rattle.blocks.specs.declared.step.Call.{Call}
 use Rattle.blocks.specs.Setters.{_▸_, inCounts, inControl, inNumbers, atStage, oneOde, oneJac, oneLu, oneTotal, oneAccepted, oneRejected, setFirst, setLast, setReject, setCallJac, setCallDecomp, setSingular, setNewt, setX, setXold, setXph, setH, setHold, setHnew, setHhfac, setHAcc, setErrAcc, setFaccon, setTheta, setDynold, setThqold, setXout}
-use Rattle.blocks.specs.Events.{Event, begun, over-limit, too-small, real-try, complex-try, real-singular, complex-singular, rounds-used, diverged, slow, error-solve, failed-first, failed-later, accepted, aimed}
-use Rattle.blocks.specs.Matrices.{call, endedOf, missed, isErr, columnOf}
+use Rattle.blocks.specs.Events.{Event, real-singular, complex-singular, factored, over-limit, too-small, begun}
+use Rattle.blocks.specs.Events.{rounds-used, diverged, slow, error-solve, failed, accepted, aimed, not-aimed}
+use Rattle.blocks.specs.Matrices.{call, endedOf, missed}
 use Rattle.blocks.specs.Report.{isInterrupt}
+use Rattle.blocks.specs.Needs.{FactorsLong}
+use Rattle.blocks.proofs.Tries.{e1Stop, e2Stop}
 
 -- where an advance stands
 pub data Position : Type 0 where
@@ -76,9 +79,29 @@ abbrev pub cleared : Float → Float → Float → Bool → Bool → Run → Run
 cleared hnew h hhfac decomp jac r =
     r ▸ inControl (setSingular 0) ▸ inNumbers (setHnew hnew) ▸ inControl (setReject false) ▸ stepOf h hhfac ▸ inControl (setCallDecomp decomp) ▸ inControl (setCallJac jac)
 
--- ---- the rules, for the reply p
+-- whether a reply moves the point
+unfoldable pub isModified : Reply → Bool
+isModified reply.Filled = false
+isModified reply.Continue = false
+isModified reply.Interrupt = false
+isModified (reply.Modified x) = true
+isModified (reply.Mark x) = false
 
-pub record Closed (p : Reply) (P : List Event → Position → Type 0) : Type 0 where
+-- ---- the tests, as radau.rs has them
+
+-- a step of hnew from x reaches the end point (radau.rs:764), spelled out: a rule leans on no definition's test
+abbrev pub Reaches : Run → Float → Bool → Type 0
+Reaches r hnew b =
+    le (double 0) ((r .numbers .x ⊕ hnew ⊘ double 0x3ff0_0000_0000_0000 ⊖ r .fixed .xend) ⊗ r .fixed .posneg) ≡ b
+
+-- the step is too small (radau.rs:430)
+abbrev pub TooSmall : Run → Bool → Type 0
+TooSmall r b =
+    le (double 0x3fb9_9999_9999_999a ⊗ absOf (r .numbers .h)) (absOf (r .numbers .x) ⊗ r .settings .uround) ≡ b
+
+-- ---- the rules, for the reply p, and for the mass and the Jacobian of which the passes build their matrices
+
+pub record Closed (p : Reply) (mass jac : List Float) (P : List Event → Position → Type 0) : Type 0 where
   -- the start, and reports
   pub first-filled : {es : List Event} {r : Run} → P es (replied stage.FirstDerivative r)
       → P es (asked (call (r ▸ atStage stage.FirstReport) (request.Report (r .numbers .xold) (r .numbers .x) false) place.Nowhere))
@@ -87,15 +110,21 @@ pub record Closed (p : Reply) (P : List Event → Position → Type 0) : Type 0 
   pub interrupted : {es : List Event} {s : Stage} {r : Run} → isInterrupt p ≡ true → P es (reporting s r) → P es (asked (endedOf status.UserInterrupt r))
   pub modified : {es : List Event} {s : Stage} {r : Run} (x : Float) → p ≡ reply.Modified x → P es (reporting s r)
       → P es (asked (call (r ▸ inNumbers (setX x) ▸ inCounts oneOde ▸ atStage s) (request.Derivative x) place.YToF0))
-  pub first-told : {es : List Event} {r : Run} (mark : Number) → isInterrupt p ≡ false → P es (reporting stage.FirstDerivativeAgain r) → P es (main (r ▸ inNumbers (setXout mark)))
-  pub later-told : {es : List Event} {r : Run} (mark : Number) → isInterrupt p ≡ false → P es (reporting stage.DerivativeAgain r) → P es (arrived (r ▸ inNumbers (setXout mark)))
+  pub first-told : {es : List Event} {r : Run} (mark : Number) → isInterrupt p ≡ false → isModified p ≡ false
+      → P es (reporting stage.FirstDerivativeAgain r) → P es (main (r ▸ inNumbers (setXout mark)))
+  pub later-told : {es : List Event} {r : Run} (mark : Number) → isInterrupt p ≡ false → isModified p ≡ false
+      → P es (reporting stage.DerivativeAgain r) → P es (arrived (r ▸ inNumbers (setXout mark)))
   pub first-again : {es : List Event} {r : Run} → P es (replied stage.FirstDerivativeAgain r) → P es (main r)
   pub later-again : {es : List Event} {r : Run} → P es (replied stage.DerivativeAgain r) → P es (arrived r)
   -- past a report: the end, an aim, or neither
   pub success : {es : List Event} {r : Run} → r .control .last ≡ true → P es (arrived r) → P es (asked (endedOf status.Success (r ▸ inNumbers (setH (r .numbers .hnew)))))
-  pub aims : {es : List Event} {r : Run} (hnew hhfac : Float) (jac : Bool) → r .control .last ≡ false → P es (arrived r)
-      → P (es ++ (aimed ∷ [])) (main (cleared hnew (r .fixed .xend ⊖ r .numbers .x) hhfac true jac r ▸ inControl (setLast true)))
-  pub onward : {es : List Event} {r : Run} (hnew h hhfac : Float) (decomp jac : Bool) → r .control .last ≡ false → P es (arrived r) → P es (main (cleared hnew h hhfac decomp jac r))
+  pub aims : {es : List Event} {r : Run} (hnew hhfac : Float) (jac : Bool) → r .control .last ≡ false
+      → Reaches r hnew true → P es (arrived r)
+      → P (es ++ (aimed (r .numbers .x) hnew ∷ []))
+      (main (cleared hnew (r .fixed .xend ⊖ r .numbers .x) hhfac true jac r ▸ inControl (setLast true)))
+  pub onward : {es : List Event} {r : Run} (hnew h hhfac : Float) (decomp jac : Bool) → r .control .last ≡ false
+      → Reaches r hnew false → P es (arrived r)
+      → P (es ++ (not-aimed (r .numbers .x) hnew ∷ [])) (main (cleared hnew h hhfac decomp jac r))
   -- the Jacobian
   pub host-asked : {es : List Event} {r : Run} → r .control .«call_jac» ≡ true → r .settings .source ≡ source.Host → P es (main r)
       → P es (asked (call (r ▸ inCounts oneJac ▸ atStage stage.Jacobian) (request.Jacobian (r .numbers .x)) place.Nowhere))
@@ -110,12 +139,15 @@ pub record Closed (p : Reply) (P : List Event → Position → Type 0) : Type 0 
   pub columns-filled : {es : List Event} {r : Run} (c : ℕ) → r .shape .n ≤ c + 1 → P es (replied (stage.Column (suc c)) r) → P es (matrices r)
   -- the matrices
   pub matrices-kept : {es : List Event} {r : Run} → r .control .«call_decomp» ≡ false → P es (matrices r) → P es (attempt r)
-  pub real-stopped : {es : List Event} {r : Run} (f : Factors) → isErr (luDecompOf (r .shape .n) (f .e1) (f .ip1) .answer) ≡ true → P es (matrices r)
-      → P (es ++ (real-try ∷ real-singular (columnOf (worked real (r .shape .n) (f .e1) (f .ip1) .stop)) ∷ [])) (failing (r ▸ inCounts oneLu))
-  pub complex-stopped : {es : List Event} {r : Run} (f : Factors) → isErr (luDecompComplexOf (r .shape .n) (parts (f .e2r) (f .e2i)) (f .ip2) .answer) ≡ true → P es (matrices r)
-      → P (es ++ (real-try ∷ complex-try ∷ complex-singular (columnOf (worked complexKind (r .shape .n) (parts (f .e2r) (f .e2i)) (f .ip2) .stop)) ∷ []))
-      (failing (r ▸ inCounts oneLu ▸ inCounts oneLu))
-  pub decomposed : {es : List Event} {r : Run} → P es (matrices r) → P (es ++ (real-try ∷ complex-try ∷ [])) (attempt (r ▸ inCounts oneLu ▸ inCounts oneLu))
+  pub real-stopped : {es : List Event} {r : Run} (f : Factors) (k : ℕ) → FactorsLong (r .shape .n) f
+      → e1Stop r mass jac f ≡ column k → P es (matrices r)
+      → P (es ++ (real-singular (r .numbers .h) k ∷ [])) (failing (r ▸ inCounts oneLu))
+  pub complex-stopped : {es : List Event} {r : Run} (f : Factors) (k : ℕ) → FactorsLong (r .shape .n) f
+      → e1Stop r mass jac f ≡ nowhere → e2Stop r mass jac f ≡ column k → P es (matrices r)
+      → P (es ++ (complex-singular (r .numbers .h) k ∷ [])) (failing (r ▸ inCounts oneLu ▸ inCounts oneLu))
+  pub decomposed : {es : List Event} {r : Run} (f : Factors) → FactorsLong (r .shape .n) f
+      → e1Stop r mass jac f ≡ nowhere → e2Stop r mass jac f ≡ nowhere → P es (matrices r)
+      → P (es ++ (factored (r .numbers .h) ∷ [])) (attempt (r ▸ inCounts oneLu ▸ inCounts oneLu))
   -- a failure
   pub sixth : {es : List Event} {r : Run} → 5 < r .control .«singular_count» + 1 → P es (failing r)
       → P es (asked (endedOf status.SingularMatrix (r ▸ inControl (setSingular (r .control .«singular_count» + 1)))))
@@ -123,11 +155,13 @@ pub record Closed (p : Reply) (P : List Event → Position → Type 0) : Type 0 
       → P es (main (r ▸ inControl (setSingular (r .control .«singular_count» + 1)) ▸ stepOf h hhfac ▸ inControl missed))
   -- an attempt
   pub limited : {es : List Event} {r : Run} → r .settings .«max_steps» < r .counts .total + 1 → P es (attempt r)
-      → P (es ++ (begun ∷ over-limit ∷ [])) (asked (endedOf status.NeedLargerNMax (r ▸ inCounts oneTotal)))
-  pub shortened : {es : List Event} {r : Run} → r .counts .total + 1 ≤ r .settings .«max_steps» → P es (attempt r)
-      → P (es ++ (begun ∷ too-small ∷ [])) (asked (endedOf status.StepSizeTooSmall (r ▸ inCounts oneTotal)))
-  pub begins : {es : List Event} {r : Run} (faccon theta x : Float) → r .counts .total + 1 ≤ r .settings .«max_steps» → P es (attempt r)
-      → P (es ++ (begun ∷ [])) (asked (call (begunOf faccon theta r ▸ inCounts oneOde ▸ atStage stage.Newton1) (request.Derivative x) place.ContToZ1))
+      → P (es ++ (over-limit ∷ [])) (asked (endedOf status.NeedLargerNMax (r ▸ inCounts oneTotal)))
+  pub shortened : {es : List Event} {r : Run} → r .counts .total + 1 ≤ r .settings .«max_steps» → TooSmall r true
+      → P es (attempt r)
+      → P (es ++ (too-small (r .numbers .h) (r .numbers .x) ∷ [])) (asked (endedOf status.StepSizeTooSmall (r ▸ inCounts oneTotal)))
+  pub begins : {es : List Event} {r : Run} (faccon theta x : Float) → r .counts .total + 1 ≤ r .settings .«max_steps»
+      → TooSmall r false → P es (attempt r)
+      → P (es ++ (begun (r .numbers .h) (r .numbers .x) ∷ [])) (asked (call (begunOf faccon theta r ▸ inCounts oneOde ▸ atStage stage.Newton1) (request.Derivative x) place.ContToZ1))
   -- the Newton iteration
   pub first-stage : {es : List Event} {r : Run} (x : Float) → P es (replied stage.Newton1 r)
       → P es (asked (call (r ▸ inCounts oneOde ▸ atStage stage.Newton2) (request.Derivative x) place.ContToZ2))
@@ -141,7 +175,7 @@ pub record Closed (p : Reply) (P : List Event → Position → Type 0) : Type 0 
       → P es (replied stage.Newton3 r) → P (es ++ (slow dyth ∷ [])) (estimate (iterated theta thqold faccon dynold r ▸ slowed h hhfac ▸ inControl (setLast false)))
   pub slow-book : {es : List Event} {r : Run} (theta thqold faccon dynold dyth h hhfac : Float) → r .settings .rule ≡ rule.Book → le (double 0x3ff0_0000_0000_0000) dyth ≡ true
       → P es (replied stage.Newton3 r) → P (es ++ (slow dyth ∷ [])) (main (iterated theta thqold faccon dynold r ▸ slowed h hhfac ▸ inControl missed))
-  pub used-up : {es : List Event} {r : Run} → r .settings .«newton_maxiter» ≤ r .control .«newt_iter» → P es (newton r) → P (es ++ (rounds-used ∷ [])) (failing r)
+  pub used-up : {es : List Event} {r : Run} → r .settings .«newton_maxiter» ≤ r .control .«newt_iter» → P es (newton r) → P (es ++ (rounds-used (r .control .«newt_iter») ∷ [])) (failing r)
   pub another-round : {es : List Event} {r : Run} (x : Float) → r .control .«newt_iter» < r .settings .«newton_maxiter» → P es (newton r)
       → P es (asked (call (r ▸ inCounts oneOde ▸ atStage stage.Newton1) (request.Derivative x) place.ContToZ1))
   -- the error
@@ -150,11 +184,11 @@ pub record Closed (p : Reply) (P : List Event → Position → Type 0) : Type 0 
   pub estimated : {es : List Event} {r : Run} → P es (estimate r) → P (es ++ (error-solve ∷ [])) (judging (r ▸ inCounts oneLu))
   pub refined : {es : List Event} {r : Run} → P es (replied stage.Refinement r) → P es (judging r)
   pub accepts : {es : List Event} {r : Run} (err hnew hacc erracc : Float) → le err (double 0x3ff0_0000_0000_0000) ≡ true → P es (judging r)
-      → P (es ++ (accepted err ∷ []))
+      → P (es ++ (accepted err (r .numbers .h) ∷ []))
       (asked (call (acceptedRun hnew hacc erracc r ▸ inCounts oneOde ▸ atStage stage.Accepted) (request.Derivative (r .numbers .xph)) place.YToF0))
   pub fails-first : {es : List Event} {r : Run} (err hnew h hhfac : Float) → le err (double 0x3ff0_0000_0000_0000) ≡ false → r .control .first ≡ true → P es (judging r)
-      → P (es ++ (failed-first err ∷ [])) (main (r ▸ inNumbers (setHnew hnew) ▸ stepOf h hhfac ▸ inControl missed))
+      → P (es ++ (failed err ∷ [])) (main (r ▸ inNumbers (setHnew hnew) ▸ stepOf h hhfac ▸ inControl missed))
   pub fails-later : {es : List Event} {r : Run} (err hnew h hhfac : Float) → le err (double 0x3ff0_0000_0000_0000) ≡ false → r .control .first ≡ false → P es (judging r)
-      → P (es ++ (failed-later err ∷ [])) (main (r ▸ inNumbers (setHnew hnew) ▸ stepOf h hhfac ▸ inCounts oneRejected ▸ inControl missed))
+      → P (es ++ (failed err ∷ [])) (main (r ▸ inNumbers (setHnew hnew) ▸ stepOf h hhfac ▸ inCounts oneRejected ▸ inControl missed))
   pub accepted-filled : {es : List Event} {r : Run} (offered : Bool) → P es (replied stage.Accepted r)
       → P es (asked (call (r ▸ atStage stage.Report) (request.Report (r .numbers .xold) (r .numbers .x) offered) place.Nowhere))

@@ -21,7 +21,7 @@ use Rattle.state.specs.declared.talk.Place.the-variants.{ContToZ1}
 use Rattle.state.specs.Memory.{Newton, newton, zeros}
 use Rattle.blocks.specs.declared.step.Call.{Call}
 use Rattle.blocks.specs.Setters.{_▸_, inCounts, inControl, inNumbers, atStage, oneOde, oneTotal, setNewt, setXph, setFaccon, setTheta}
-use Rattle.blocks.specs.Events.{begun, over-limit, too-small, Logged, logged, noted}
+use Rattle.blocks.specs.Events.{begun, over-limit, too-small, Logged, logged}
 use Rattle.blocks.specs.Entries.{combined}
 use Rattle.blocks.specs.Scale.{weightedOf}
 use Rattle.blocks.specs.Matrices.{call, endedOf}
@@ -110,9 +110,10 @@ beganOf r y scal cont m =
 unfoldable pub attemptOf : Run → List Float → List Float → List Float → Newton → Logged Begun
 attemptOf r y scal cont m =
     let s = r ▸ inCounts oneTotal in
-    noted begun
-    (pick (ltb (r .settings .«max_steps») (r .counts .total + 1))
+    let h = r .numbers .h in
+    let x = r .numbers .x in
+    pick (ltb (r .settings .«max_steps») (r .counts .total + 1))
     (logged (begunAs (endedOf NeedLargerNMax s) scal cont m) (over-limit ∷ []))
-    (pick (le (double 0x3fb9_9999_9999_999a ⊗ absOf (r .numbers .h)) (absOf (r .numbers .x) ⊗ r .settings .uround))
-    (logged (begunAs (endedOf StepSizeTooSmall s) scal cont m) (too-small ∷ []))
-    (logged (beganOf s y scal cont m) [])))
+    (pick (le (double 0x3fb9_9999_9999_999a ⊗ absOf h) (absOf x ⊗ r .settings .uround))
+    (logged (begunAs (endedOf StepSizeTooSmall s) scal cont m) (too-small h x ∷ []))
+    (logged (beganOf s y scal cont m) (begun h x ∷ [])))

@@ -1,25 +1,28 @@
--- What happens in a run besides its requests: each event is written by the one definition that holds the operation itself, and carries what decided it.
--- A definition that may meet events gives its result as `core` and the events, in order, as `log`. Contracts speak of the core; an account of a run speaks of the log.
+-- What happens in a run besides its requests. An event is written by the one definition that holds the operation
+-- itself, and carries the numbers that decided it; what makes it true is said apart, in account/specs/Truth.antt.
+-- A definition that may meet events gives its result as `core` and the events, in order, as `log`. Contracts speak of
+-- the core, an account of a run of the log.
 use Prim.Native.Nat.{ℕ}
 use mathlib.Core.List.{List, [], _∷_, _++_}
 use lib.Ieee.{Float}
 
 pub data Event : Type 0 where
-  -- an attempt is begun; it is one over the limit; its step is too small
-  begun over-limit too-small : Event
-  -- a decomposition is tried; it stops at this column
-  real-try complex-try : Event
-  real-singular complex-singular : ℕ → Event
-  -- the Newton rounds are used up; theta is not below 0.99; a slow iteration is predicted, by this dyth
-  rounds-used : Event
-  diverged : Float → Event
-  slow : Float → Event
+  -- a pass through the matrices with the step h: E1 is singular at this column; E1 isn't and E2 is; neither is
+  real-singular complex-singular : Float → ℕ → Event
+  factored : Float → Event
+  -- an attempt is one over the limit; its step h is too small at x; it is begun with h at x
+  over-limit : Event
+  too-small begun : Float → Float → Event
+  -- the Newton rounds, so many, are used up; theta is not below 0.99; a slow iteration is predicted, by this dyth
+  rounds-used : ℕ → Event
+  diverged slow : Float → Event
   -- the first solve for the error
   error-solve : Event
-  -- the error test failed with this err, before the first acceptance or after it; it was met
-  failed-first failed-later accepted : Float → Event
-  -- the next attempt is aimed at the end point
-  aimed : Event
+  -- the error test failed with this err; it was met with this err, and h is the step that is held
+  failed : Float → Event
+  accepted : Float → Float → Event
+  -- past a report at x, with the new step hnew: the next attempt is aimed at the end point; it isn't
+  aimed not-aimed : Float → Float → Event
 
 pub record Logged (A : Type 0) : Type 0 where
   pub core : A

@@ -20,7 +20,7 @@ use Rattle.state.specs.Memory.{Newton}
 use Rattle.blocks.specs.declared.step.Step.{Step}
 use Rattle.blocks.specs.declared.step.Step.the-variants as step
 use Rattle.blocks.specs.Setters.{_▸_, inCounts, inControl, inNumbers, atStage, oneOde, oneLu, oneAccepted, oneRejected, setFirst, setX, setXold, setH, setHold, setHnew, setHhfac, setHAcc, setErrAcc}
-use Rattle.blocks.specs.Events.{error-solve, failed-first, failed-later, accepted, Logged, logged, quiet, noted}
+use Rattle.blocks.specs.Events.{error-solve, failed, accepted, Logged, logged, quiet, noted}
 use Rattle.blocks.specs.Entries.{asFloat, Three, three}
 use Rattle.blocks.specs.Matrices.{call, missed}
 use Rattle.blocks.specs.Estimate.{defectOf, sides, sidesOf, solvedFirst, errorOf, plusAt, sumAt}
@@ -130,8 +130,8 @@ judgedOf r err z y cont =
     let m = movedOf (r .shape .n) z (moved y cont) in
     let hnew = r .numbers .h ⊘ quot in
     pick (le err (double 0x3ff0_0000_0000_0000))
-    (logged (judged (askAccepted (acceptedOf r err quot)) (m .y) (m .cont)) (accepted err ∷ []))
-    (logged (judged (step.Main (rejectedOf (r ▸ inNumbers (setHnew hnew)) hnew)) y cont) (pick (r .control .first) (failed-first err) (failed-later err) ∷ []))
+    (logged (judged (askAccepted (acceptedOf r err quot)) (m .y) (m .cont)) (accepted err (r .numbers .h) ∷ []))
+    (logged (judged (step.Main (rejectedOf (r ▸ inNumbers (setHnew hnew)) hnew)) y cont) (failed err ∷ []))
 
 -- ---- the estimate
 

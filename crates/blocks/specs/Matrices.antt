@@ -31,7 +31,7 @@ use Rattle.blocks.specs.declared.step.Call.{Call}
 use Rattle.blocks.specs.declared.step.Step.{Step}
 use Rattle.blocks.specs.declared.step.Step.the-variants as step
 use Rattle.blocks.specs.Setters.{_▸_, inCounts, inControl, inNumbers, atStage, oneLu, setSingular, setReject, setLast, setCallDecomp, setH, setHhfac}
-use Rattle.blocks.specs.Events.{real-try, complex-try, real-singular, complex-singular, Logged, logged, quiet, noted, andThen}
+use Rattle.blocks.specs.Events.{real-singular, complex-singular, factored, Logged, logged, quiet, andThen}
 use Rattle.blocks.specs.Entries.{massAt, jacAt, Three, three}
 
 -- ---- how a run ends, and what follows a failure
@@ -100,10 +100,10 @@ complexTriedOf r f =
     let d = luDecompComplexOf (r .shape .n) (parts (f .e2r) (f .e2i)) (f .ip2) in
     let g = factors (f .e1) (d .a .re) (d .a .im) (f .ip1) (d .ip) in
     let s = r ▸ inCounts oneLu in
-    noted complex-try
-    (pick (isErr (d .answer))
-    (logged (tried (failedOf s) g) (complex-singular (columnOf (worked complexKind (r .shape .n) (parts (f .e2r) (f .e2i)) (f .ip2) .stop)) ∷ []))
-    (quiet (tried (step.Attempt s) g)))
+    let w = worked complexKind (r .shape .n) (parts (f .e2r) (f .e2i)) (f .ip2) in
+    pick (isErr (d .answer))
+    (logged (tried (failedOf s) g) (complex-singular (r .numbers .h) (columnOf (w .stop)) ∷ []))
+    (logged (tried (step.Attempt s) g) (factored (r .numbers .h) ∷ []))
 
 -- E1 [radau.rs:390-392]
 unfoldable pub realTriedOf : Run → Factors → Logged Tried
@@ -111,10 +111,10 @@ realTriedOf r f =
     let d = luDecompOf (r .shape .n) (f .e1) (f .ip1) in
     let g = factors (d .a) (f .e2r) (f .e2i) (d .ip) (f .ip2) in
     let s = r ▸ inCounts oneLu in
-    noted real-try
-    (pick (isErr (d .answer))
-    (logged (tried (failedOf s) g) (real-singular (columnOf (worked real (r .shape .n) (f .e1) (f .ip1) .stop)) ∷ []))
-    (complexTriedOf s g))
+    let w = worked real (r .shape .n) (f .e1) (f .ip1) in
+    pick (isErr (d .answer))
+    (logged (tried (failedOf s) g) (real-singular (r .numbers .h) (columnOf (w .stop)) ∷ []))
+    (complexTriedOf s g)
 
 -- one pass through the matrices, where they are wanted [radau.rs:376]
 unfoldable pub triedOf : Run → List Float → List Float → Factors → Logged Tried

@@ -188,4 +188,4 @@ resumed s cont = record { step = s; cont = cont }
 unfoldable pub againOf : Run → List Float → List Float → List Float → Logged Resumed
 againOf r y z1 cont =
     let a = askFirstOf r y z1 cont in
-    pick (leb (r .settings .«newton_maxiter») (r .control .«newt_iter»)) (logged (resumed (failedOf r) cont) (rounds-used ∷ [])) (quiet (resumed (step.Asked (a .call)) (a .cont)))
+    pick (leb (r .settings .«newton_maxiter») (r .control .«newt_iter»)) (logged (resumed (failedOf r) cont) (rounds-used (r .control .«newt_iter») ∷ [])) (quiet (resumed (step.Asked (a .call)) (a .cont)))

@@ -22,7 +22,7 @@ use Rattle.blocks.specs.declared.step.Told.the-variants as told
 use Rattle.blocks.specs.declared.step.Step.{Step}
 use Rattle.blocks.specs.declared.step.Step.the-variants as step
 use Rattle.blocks.specs.Setters.{_▸_, inCounts, inControl, inNumbers, atStage, oneOde, setLast, setReject, setCallJac, setCallDecomp, setSingular, setX, setH, setHnew, setHhfac, setXout}
-use Rattle.blocks.specs.Events.{aimed, Logged, logged, quiet}
+use Rattle.blocks.specs.Events.{aimed, not-aimed, Logged, logged, quiet}
 use Rattle.blocks.specs.Attempt.{thet}
 use Rattle.blocks.specs.Matrices.{call, endedOf}
 
@@ -86,8 +86,9 @@ grownOf r hnew =
 unfoldable pub renewedOf : Run → Float → Logged Step
 renewedOf r hnew =
     pick (le (double 0) ((r .numbers .x ⊕ hnew ⊘ double 0x3ff0_0000_0000_0000 ⊖ r .fixed .xend) ⊗ r .fixed .posneg))
-    (logged (step.Main (r ▸ inControl (setLast true) ▸ freshOf (r .fixed .xend ⊖ r .numbers .x))) (aimed ∷ []))
-    (quiet (step.Main (grownOf r hnew)))
+    (logged (step.Main (r ▸ inControl (setLast true) ▸ freshOf (r .fixed .xend ⊖ r .numbers .x)))
+    (aimed (r .numbers .x) hnew ∷ []))
+    (logged (step.Main (grownOf r hnew)) (not-aimed (r .numbers .x) hnew ∷ []))
 
 -- an aimed attempt that was accepted ends the run [radau.rs:745-752]; the reject mark, set or not, is cleared past it (radau.rs:760)
 unfoldable pub arrivedOf : Run → Logged Step

@@ -6,3 +6,4 @@ pub mod Room
 pub mod Kept
 pub mod Whole
 pub mod Wrong
+pub mod Determinism

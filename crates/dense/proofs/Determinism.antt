@@ -1,12 +1,13 @@
--- The contract of `interpolate` settles its call: two outcomes that it allows for one input are the same answer and the same memory.
-use mathlib.Core.Path.{_≡_}
-use mathlib.Core.List.{List}
-use lib.Ieee.{Float}
-use Rattle.words.proofs.Outcome.{one-part}
-use Rattle.dense.specs.declared.answers.Interpolated.{Interpolated}
-use Rattle.dense.specs.Answers.{Interpolation, interpolation}
-use Rattle.dense.specs.Interpolate.{interpolateOf}
+-- Each contract settles its call: it asks nothing, and two outcomes that it allows for one input are the same answer
+-- and the same memory.
+use Rattle.words.specs.Contract.{Settles}
+use Rattle.words.proofs.Outcome.{_▹_, one-part, one-result}
+use Rattle.dense.specs.Answers.{Interpolation}
+use Rattle.dense.proofs.interpolation.interpolate as interpolate
+use Rattle.dense.proofs.step.bounds as bounds
 
-pub interpolate-once : (xi : Float) (yi₀ cont : List Float) (xold h : Float) {r s : Interpolated} {a b : List Float}
-    → interpolation r a ≡ interpolateOf xi yi₀ cont xold h → interpolation s b ≡ interpolateOf xi yi₀ cont xold h → (r ≡ s) × (a ≡ b)
-interpolate-once xi yi₀ cont xold h p q = (one-part (λ (o : Interpolation). o .answer) p q, one-part (λ (o : Interpolation). o .yi) p q)
+pub interpolate-once : Settles interpolate.Kinds.ps interpolate.Kinds.r interpolate.Reads.Asked interpolate.Reads.Post
+interpolate-once κs a = (tt, λ o p. one-part (λ (i : Interpolation). i .answer ▹ tt ▹ i .yi ▹ tt ▹ tt ▹ tt ▹ tt))
+
+pub bounds-once : Settles bounds.Kinds.ps bounds.Kinds.r bounds.Reads.Asked bounds.Reads.Post
+bounds-once κs a = (tt, λ o p. one-result (o .1))

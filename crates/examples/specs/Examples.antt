@@ -2,6 +2,7 @@
 -- Both are lists of whole numbers, so that every example fits one table: a double is its bit pattern, an answer 01's number (0 where nothing is refused), a pivot itself.
 -- Pivots start at 90, 91, .., so that those which are not written show.
 use Prim.Native.Nat.{ℕ}
+use mathlib.Core.Path.{_≡_}
 use mathlib.Core.List.{List, [], _∷_, _++_}
 use lib.Ieee.{Float, binary64, toBits}
 use Rattle.words.specs.Words.{double}
@@ -83,9 +84,18 @@ pub record Example : Type 0 where
   pub said : List ℕ
 
 -- a column of the table
-abbrev pub column : (Example → List ℕ) → List Example → List (List ℕ)
+abbrev pub column : {A : Type 0} → (Example → A) → List Example → List A
 column f [] = []
 column f (e ∷ es) = f e ∷ column f es
+
+-- the places that the document has, P1 to P12: no more, no fewer, in this order
+abbrev pub places : List ℕ
+places = 1 ∷ 2 ∷ 3 ∷ 4 ∷ 5 ∷ 6 ∷ 7 ∷ 8 ∷ 9 ∷ 10 ∷ 11 ∷ 12 ∷ []
+
+-- what is said of the table: it has those places, and at each of them a definition gives what the document says
+pub record Hold (table : List Example) : Type 0 where
+  pub complete : column (λ (e : Example). e .place) table ≡ places
+  pub right : column (λ (e : Example). e .given) table ≡ column (λ (e : Example). e .said) table
 
 -- P6's decomposition, which P7 solves with
 abbrev pub factored : Decomposition (List Float)

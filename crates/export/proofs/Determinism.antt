@@ -1,100 +1,134 @@
--- Each contract settles its call: two outcomes that it allows for one input are the same number and the same memory. The routines of one answer need no
--- more than `one-outcome`.
+-- Each contract settles its call: it asks nothing, and two outcomes that it allows for one input are the same answer
+-- and the same memory.
 use Prim.Native.Nat.{ℕ}
-use mathlib.Core.Path.{_≡_}
 use mathlib.Core.List.{List}
 use lib.Ieee.{Float}
-use Rattle.words.proofs.Outcome.{one-part, each-of-two, each-of-three}
-use Rattle.scalar.specs.Coefficients.{entryOf}
-use Rattle.matrix.specs.Answers.{decomposedNumber, solvedNumber}
+use Rattle.words.specs.Contract.{Settles}
+use Rattle.words.proofs.Outcome.{_▹_, one-part, one-result, two-parts, three-parts}
 use Rattle.matrix.specs.Complex.{Parts}
-use Rattle.matrix.specs.Linear.{linSolveOf}
-use Rattle.matrix.specs.LinearComplex.{linSolveComplexOf}
-use Rattle.matrix.specs.Lu.{luDecompOf}
-use Rattle.matrix.specs.LuComplex.{luDecompComplexOf}
-use Rattle.dense.specs.Answers.{interpolatedNumber}
-use Rattle.dense.specs.Interpolate.{interpolateOf}
-use Rattle.state.specs.Memory.{Memory}
-use Rattle.state.specs.Settings.{defaultsOf}
-use Rattle.opening.specs.Rows.{Opening}
-use Rattle.export.specs.Defaults.{numbersOf, floatsOf}
-use Rattle.export.specs.Entries.{entryNumber, entryValue}
-use Rattle.export.specs.Held.{heldNumber, heldStep}
-use Rattle.export.specs.State.{unpackOf}
-use Rattle.export.specs.Talk.{crossed, Left, left, openLeft, advanceLeft, Ended, ended, resultLeft}
+use Rattle.export.specs.Talk.{Left, Ended}
+use Rattle.export.proofs.scalars.elchepur_sqrt as sqrt
+use Rattle.export.proofs.scalars.elchepur_root as root
+use Rattle.export.proofs.scalars.elchepur_power as power
+use Rattle.export.proofs.scalars.elchepur_two_thirds as two-thirds
+use Rattle.export.proofs.scalars.elchepur_four_fifths as four-fifths
+use Rattle.export.proofs.scalars.elchepur_quarter as quarter
+use Rattle.export.proofs.scalars.elchepur_inverse_root as inverse-root
+use Rattle.export.proofs.scalars.elchepur_abs as abs
+use Rattle.export.proofs.scalars.elchepur_max as max
+use Rattle.export.proofs.scalars.elchepur_min as min
+use Rattle.export.proofs.scalars.elchepur_clamp as clamp
+use Rattle.export.proofs.scalars.elchepur_signum as signum
+use Rattle.export.proofs.scalars.elchepur_coefficient as coefficient
+use Rattle.export.proofs.defaults.elchepur_default_settings as defaults
+use Rattle.export.proofs.held.elchepur_held_step as held-step
+use Rattle.export.proofs.dense_output.elchepur_interpolate as interpolate
+use Rattle.export.proofs.dense_output.elchepur_bounds as bounds
+use Rattle.export.proofs.matrices.elchepur_lu_decomp as lu-decomp
+use Rattle.export.proofs.matrices.elchepur_lu_decomp_complex as lu-complex
+use Rattle.export.proofs.matrices.elchepur_lin_solve as lin-solve
+use Rattle.export.proofs.matrices.elchepur_lin_solve_complex as solve-complex
+use Rattle.export.proofs.run.elchepur_open as opens
+use Rattle.export.proofs.run.elchepur_advance as advance
+use Rattle.export.proofs.run.elchepur_result as result
 
--- ---- single calls
+pub elchepur-sqrt-once : Settles sqrt.Kinds.ps sqrt.Kinds.r sqrt.Reads.Asked sqrt.Reads.Post
+elchepur-sqrt-once κs a = (tt, λ o p. λ e f. one-result (o .1) (e .0) (f .0))
 
-pub elchepur-coefficient-once : (k : ℕ) (value₀ : Float) {r s : ℕ} {v w : Float}
-    → (r ≡ entryNumber (entryOf k)) × (v ≡ entryValue (entryOf k) value₀) → (s ≡ entryNumber (entryOf k)) × (w ≡ entryValue (entryOf k) value₀) → (r ≡ s) × (v ≡ w)
-elchepur-coefficient-once k value₀ = each-of-two
+pub elchepur-root-once : Settles root.Kinds.ps root.Kinds.r root.Reads.Asked root.Reads.Post
+elchepur-root-once κs a = (tt, λ o p. one-result (o .1))
 
-pub elchepur-default-settings-once : {n m : List ℕ} {x y : List Float}
-    → (n ≡ numbersOf defaultsOf) × (x ≡ floatsOf defaultsOf) → (m ≡ numbersOf defaultsOf) × (y ≡ floatsOf defaultsOf) → (n ≡ m) × (x ≡ y)
-elchepur-default-settings-once = each-of-two
+pub elchepur-power-once : Settles power.Kinds.ps power.Kinds.r power.Reads.Asked power.Reads.Post
+elchepur-power-once κs a = (tt, λ o p. one-result (o .1))
 
-pub elchepur-held-step-once : (state : List ℕ) (h₀ : Float) {r s : ℕ} {g h : Float}
-    → (r ≡ heldNumber (unpackOf state)) × (g ≡ heldStep (unpackOf state) h₀) → (s ≡ heldNumber (unpackOf state)) × (h ≡ heldStep (unpackOf state) h₀) → (r ≡ s) × (g ≡ h)
-elchepur-held-step-once state h₀ = each-of-two
+pub elchepur-two-thirds-once
+    : Settles two-thirds.Kinds.ps two-thirds.Kinds.r two-thirds.Reads.Asked two-thirds.Reads.Post
+elchepur-two-thirds-once κs a = (tt, λ o p. one-result (o .1))
 
-pub elchepur-interpolate-once : (xi : Float) (yi₀ cont : List Float) (xold h : Float) {r s : ℕ} {a b : List Float}
-    → (r ≡ interpolatedNumber (interpolateOf xi yi₀ cont xold h .answer)) × (a ≡ interpolateOf xi yi₀ cont xold h .yi)
-    → (s ≡ interpolatedNumber (interpolateOf xi yi₀ cont xold h .answer)) × (b ≡ interpolateOf xi yi₀ cont xold h .yi)
-    → (r ≡ s) × (a ≡ b)
-elchepur-interpolate-once xi yi₀ cont xold h = each-of-two
+pub elchepur-four-fifths-once
+    : Settles four-fifths.Kinds.ps four-fifths.Kinds.r four-fifths.Reads.Asked four-fifths.Reads.Post
+elchepur-four-fifths-once κs a = (tt, λ o p. one-result (o .1))
 
-module _ (n : ℕ) (ip₀ : List ℕ) {r s : ℕ} where
-  pub elchepur-lu-decomp-once : (a₀ : List Float) {a b : List Float} {ip jp : List ℕ}
-      → (r ≡ decomposedNumber (luDecompOf n a₀ ip₀ .answer)) × (a ≡ luDecompOf n a₀ ip₀ .a) × (ip ≡ luDecompOf n a₀ ip₀ .ip)
-      → (s ≡ decomposedNumber (luDecompOf n a₀ ip₀ .answer)) × (b ≡ luDecompOf n a₀ ip₀ .a) × (jp ≡ luDecompOf n a₀ ip₀ .ip)
-      → (r ≡ s) × (a ≡ b) × (ip ≡ jp)
-  elchepur-lu-decomp-once a₀ = each-of-three
+pub elchepur-quarter-once : Settles quarter.Kinds.ps quarter.Kinds.r quarter.Reads.Asked quarter.Reads.Post
+elchepur-quarter-once κs a = (tt, λ o p. one-result (o .1))
 
-  pub elchepur-lu-decomp-complex-once : (a₀ : Parts) {a b : Parts} {ip jp : List ℕ}
-      → (r ≡ decomposedNumber (luDecompComplexOf n a₀ ip₀ .answer)) × (a ≡ luDecompComplexOf n a₀ ip₀ .a) × (ip ≡ luDecompComplexOf n a₀ ip₀ .ip)
-      → (s ≡ decomposedNumber (luDecompComplexOf n a₀ ip₀ .answer)) × (b ≡ luDecompComplexOf n a₀ ip₀ .a) × (jp ≡ luDecompComplexOf n a₀ ip₀ .ip)
-      → (r ≡ s) × (a ≡ b) × (ip ≡ jp)
-  elchepur-lu-decomp-complex-once a₀ = each-of-three
+pub elchepur-inverse-root-once
+    : Settles inverse-root.Kinds.ps inverse-root.Kinds.r inverse-root.Reads.Asked inverse-root.Reads.Post
+elchepur-inverse-root-once κs a = (tt, λ o p. one-result (o .1))
 
-  pub elchepur-lin-solve-once : (a b₀ : List Float) {b d : List Float}
-      → (r ≡ solvedNumber (linSolveOf n a b₀ ip₀ .answer)) × (b ≡ linSolveOf n a b₀ ip₀ .b)
-      → (s ≡ solvedNumber (linSolveOf n a b₀ ip₀ .answer)) × (d ≡ linSolveOf n a b₀ ip₀ .b)
-      → (r ≡ s) × (b ≡ d)
-  elchepur-lin-solve-once a b₀ = each-of-two
+pub elchepur-abs-once : Settles abs.Kinds.ps abs.Kinds.r abs.Reads.Asked abs.Reads.Post
+elchepur-abs-once κs a = (tt, λ o p. one-result (o .1))
 
-  pub elchepur-lin-solve-complex-once : (a b₀ : Parts) {b d : Parts}
-      → (r ≡ solvedNumber (linSolveComplexOf n a b₀ ip₀ .answer)) × (b ≡ linSolveComplexOf n a b₀ ip₀ .b)
-      → (s ≡ solvedNumber (linSolveComplexOf n a b₀ ip₀ .answer)) × (d ≡ linSolveComplexOf n a b₀ ip₀ .b)
-      → (r ≡ s) × (b ≡ d)
-  elchepur-lin-solve-complex-once a b₀ = each-of-two
+pub elchepur-max-once : Settles max.Kinds.ps max.Kinds.r max.Reads.Asked max.Reads.Post
+elchepur-max-once κs a = (tt, λ o p. one-result (o .1))
 
--- ---- the run
+pub elchepur-min-once : Settles min.Kinds.ps min.Kinds.r min.Reads.Asked min.Reads.Post
+elchepur-min-once κs a = (tt, λ o p. one-result (o .1))
 
-module _ {r s : ℕ} {state state' told told' : List ℕ} {at at' : List Float} {m k : Memory} where
-  left-once : (w : Left)
-      → left (crossed r state told at) m ≡ w
-      → left (crossed s state' told' at') k ≡ w
-      → (r ≡ s) × (state ≡ state') × (told ≡ told') × (at ≡ at') × (m ≡ k)
-  left-once w p q = (
-    one-part (λ (l : Left). l .crossed .number) p q,
-    one-part (λ (l : Left). l .crossed .state) p q,
-    one-part (λ (l : Left). l .crossed .told) p q,
-    one-part (λ (l : Left). l .crossed .at) p q,
-    one-part (λ (l : Left). l .memory) p q,
-  )
+pub elchepur-clamp-once : Settles clamp.Kinds.ps clamp.Kinds.r clamp.Reads.Asked clamp.Reads.Post
+elchepur-clamp-once κs a = (tt, λ o p. one-result (o .1))
 
-  pub elchepur-open-once : (o : Opening) (state₀ told₀ : List ℕ) (at₀ : List Float)
-      → left (crossed r state told at) m ≡ openLeft o state₀ told₀ at₀
-      → left (crossed s state' told' at') k ≡ openLeft o state₀ told₀ at₀
-      → (r ≡ s) × (state ≡ state') × (told ≡ told') × (at ≡ at') × (m ≡ k)
-  elchepur-open-once o state₀ told₀ at₀ = left-once (openLeft o state₀ told₀ at₀)
+pub elchepur-signum-once : Settles signum.Kinds.ps signum.Kinds.r signum.Reads.Asked signum.Reads.Post
+elchepur-signum-once κs a = (tt, λ o p. one-result (o .1))
 
-  pub elchepur-advance-once : (reply : ℕ) (value : Float) (state₀ told₀ : List ℕ) (at₀ : List Float) (m₀ : Memory)
-      → left (crossed r state told at) m ≡ advanceLeft reply value state₀ told₀ at₀ m₀
-      → left (crossed s state' told' at') k ≡ advanceLeft reply value state₀ told₀ at₀ m₀
-      → (r ≡ s) × (state ≡ state') × (told ≡ told') × (at ≡ at') × (m ≡ k)
-  elchepur-advance-once reply value state₀ told₀ at₀ m₀ = left-once (advanceLeft reply value state₀ told₀ at₀ m₀)
+pub elchepur-coefficient-once
+    : Settles coefficient.Kinds.ps coefficient.Kinds.r coefficient.Reads.Asked coefficient.Reads.Post
+elchepur-coefficient-once κs a = (tt, λ o p. two-parts (λ (r : ℕ) (value : Float). r ▹ tt ▹ value ▹ tt))
 
-pub elchepur-result-once : (state numbers₀ : List ℕ) (floats₀ : List Float) {r s : ℕ} {a b : List ℕ} {x y : List Float}
-    → ended r a x ≡ resultLeft state numbers₀ floats₀ → ended s b y ≡ resultLeft state numbers₀ floats₀ → (r ≡ s) × (a ≡ b) × (x ≡ y)
-elchepur-result-once state numbers₀ floats₀ p q = (one-part (λ (e : Ended). e .number) p q, one-part (λ (e : Ended). e .numbers) p q, one-part (λ (e : Ended). e .floats) p q)
+pub elchepur-default-settings-once : Settles defaults.Kinds.ps defaults.Kinds.r defaults.Reads.Asked defaults.Reads.Post
+elchepur-default-settings-once κs a =
+    (tt, λ o p. two-parts (λ (numbers : List ℕ) (floats : List Float). tt ▹ numbers ▹ floats ▹ tt))
+
+pub elchepur-held-step-once : Settles held-step.Kinds.ps held-step.Kinds.r held-step.Reads.Asked held-step.Reads.Post
+elchepur-held-step-once κs a = (tt, λ o p. two-parts (λ (r : ℕ) (h : Float). r ▹ tt ▹ h ▹ tt))
+
+pub elchepur-interpolate-once
+    : Settles interpolate.Kinds.ps interpolate.Kinds.r interpolate.Reads.Asked interpolate.Reads.Post
+elchepur-interpolate-once κs a = (tt, λ o p. two-parts (λ (r : ℕ) (yi : List Float). r ▹ tt ▹ yi ▹ tt ▹ tt ▹ tt ▹ tt))
+
+pub elchepur-bounds-once : Settles bounds.Kinds.ps bounds.Kinds.r bounds.Reads.Asked bounds.Reads.Post
+elchepur-bounds-once κs a = (tt, λ o p. one-part (λ (ends : List Float). tt ▹ tt ▹ tt ▹ ends ▹ tt))
+
+pub elchepur-lu-decomp-once : Settles lu-decomp.Kinds.ps lu-decomp.Kinds.r lu-decomp.Reads.Asked lu-decomp.Reads.Post
+elchepur-lu-decomp-once κs a = (tt, λ o p. three-parts (λ (r : ℕ) (a : List Float) (ip : List ℕ). r ▹ tt ▹ a ▹ ip ▹ tt))
+
+pub elchepur-lu-decomp-complex-once
+    : Settles lu-complex.Kinds.ps lu-complex.Kinds.r lu-complex.Reads.Asked lu-complex.Reads.Post
+elchepur-lu-decomp-complex-once κs a =
+    (tt, λ o p. three-parts (λ (r : ℕ) (a : Parts) (ip : List ℕ). r ▹ tt ▹ a .re ▹ a .im ▹ ip ▹ tt))
+
+pub elchepur-lin-solve-once : Settles lin-solve.Kinds.ps lin-solve.Kinds.r lin-solve.Reads.Asked lin-solve.Reads.Post
+elchepur-lin-solve-once κs a = (tt, λ o p. two-parts (λ (r : ℕ) (b : List Float). r ▹ tt ▹ tt ▹ b ▹ tt ▹ tt))
+
+pub elchepur-lin-solve-complex-once
+    : Settles solve-complex.Kinds.ps solve-complex.Kinds.r solve-complex.Reads.Asked solve-complex.Reads.Post
+elchepur-lin-solve-complex-once κs a =
+    (tt, λ o p. two-parts (λ (r : ℕ) (b : Parts). r ▹ tt ▹ tt ▹ tt ▹ b .re ▹ b .im ▹ tt ▹ tt))
+
+pub elchepur-open-once : Settles opens.Kinds.ps opens.Kinds.r opens.Reads.Asked opens.Reads.Post
+elchepur-open-once κs a = (
+  tt,
+  λ o p. one-part (λ (l : Left).
+      l .crossed .number ▹ tt ▹ tt ▹ tt ▹ tt ▹ tt ▹ tt ▹ tt ▹ tt ▹ l .crossed .state ▹ l .crossed .told ▹ l .crossed .at
+      ▹ tt ▹ l .memory .amounts .f0 ▹ l .memory .amounts .scal ▹ l .memory .amounts .cont ▹ l .memory .newton .z1
+      ▹ l .memory .newton .z2 ▹ l .memory .newton .z3 ▹ l .memory .newton .f1 ▹ l .memory .newton .f2
+      ▹ l .memory .newton .f3 ▹ l .memory .given .rtol ▹ l .memory .given .atol ▹ l .memory .given .mass
+      ▹ l .memory .given .jac ▹ l .memory .factors .e1 ▹ l .memory .factors .e2r ▹ l .memory .factors .e2i
+      ▹ l .memory .factors .ip1 ▹ l .memory .factors .ip2 ▹ l .memory .differences .«y_perturbed»
+      ▹ l .memory .differences .«f_perturbed» ▹ l .memory .differences .«f_origin» ▹ tt),
+)
+
+pub elchepur-advance-once : Settles advance.Kinds.ps advance.Kinds.r advance.Reads.Asked advance.Reads.Post
+elchepur-advance-once κs a = (
+  tt,
+  λ o p. one-part (λ (l : Left).
+      l .crossed .number ▹ l .crossed .state ▹ tt ▹ tt ▹ l .crossed .told ▹ l .crossed .at ▹ l .memory .amounts .y ▹ tt
+      ▹ l .memory .amounts .scal ▹ l .memory .amounts .cont ▹ l .memory .newton .z1 ▹ l .memory .newton .z2
+      ▹ l .memory .newton .z3 ▹ l .memory .newton .f1 ▹ l .memory .newton .f2 ▹ l .memory .newton .f3 ▹ tt ▹ tt ▹ tt
+      ▹ l .memory .given .jac ▹ l .memory .factors .e1 ▹ l .memory .factors .e2r ▹ l .memory .factors .e2i
+      ▹ l .memory .factors .ip1 ▹ l .memory .factors .ip2 ▹ l .memory .differences .«y_perturbed»
+      ▹ l .memory .differences .«f_perturbed» ▹ l .memory .differences .«f_origin» ▹ tt),
+)
+
+pub elchepur-result-once : Settles result.Kinds.ps result.Kinds.r result.Reads.Asked result.Reads.Post
+elchepur-result-once κs a = (tt, λ o p. one-part (λ (e : Ended). e .number ▹ tt ▹ e .numbers ▹ e .floats ▹ tt))

@@ -22,7 +22,8 @@ use Rattle.export.specs.declared.unpack.Unpacked.the-variants as unpacke
 use Rattle.export.specs.State.{settingsWords, shapeWords, fixedWords, movingWords, packOf, movedTo, unpackOf}
 use Rattle.export.specs.Talk.{toldOf, atOf, replyOf, Crossed, crossed, ofOpened, ofAnswer, writtenOf, left, openLeft, advanceBy, advanceLeft, Ended, ended, ofResult, resultBy, resultLeft}
 use Rattle.export.proofs.StateTheorems.{unpacked-exactly}
-use Rattle.export.proofs.Kept.{Kept, advance-kept}
+use Rattle.blocks.proofs.Everyway.{Kept}
+use Rattle.export.proofs.Kept.{advance-kept}
 
 -- ---- an advance writes no more than what it moves
 

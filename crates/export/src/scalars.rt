@@ -6,12 +6,13 @@ ghost use Rattle.scalar.specs.Powers.{twoThirdsOf, fourFifthsOf, quarterOf, inv
 ghost use Rattle.scalar.specs.Products.{powerOf};
 ghost use Rattle.scalar.specs.Root.{rootOf};
 ghost use Rattle.scalar.specs.Sqrt.{sqrtOf};
+ghost use Rattle.scalar.specs.SquareRoot.{IsSquareRoot};
 ghost use Rattle.export.specs.Entries.{entryNumber, entryValue};
 use scalar::Entry;
 
 #[no_mangle]
 pub extern "C" fn elchepur_sqrt(x: f64) -> f64
-    ensures { λ r. ⌜ r ≡ sqrtOf x ⌝ }
+    ensures { λ r. ⌜ (r ≡ sqrtOf x) × IsSquareRoot x r ⌝ }
 {
     scalar::sqrt(x)
 }

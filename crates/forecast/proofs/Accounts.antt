@@ -28,10 +28,10 @@ use Rattle.solve.proofs.Offered.{solve-offered}
 use Rattle.sheet.specs.Sheet.{Model, Valid}
 use Rattle.sheet.specs.Reader.{Read, accepted, malformed, tooLong, readOf}
 use Rattle.sheet.proofs.Accepted.{accepted-sound}
-use Rattle.answer.specs.declared.forecast.Reached.{Reached}
-use Rattle.answer.specs.declared.forecast.Ending.{Ending}
-use Rattle.answer.specs.declared.forecast.Ending.the-variants as ending
-use Rattle.answer.specs.declared.forecast.Forecast.{Forecast}
+use Rattle.answer.specs.declared.ending.Reached.{Reached}
+use Rattle.answer.specs.declared.ending.Ending.{Ending}
+use Rattle.answer.specs.declared.ending.Ending.the-variants as ending
+use Rattle.answer.specs.declared.ending.Forecast.{Forecast}
 use Rattle.forecast.specs.Forecast.{openingFor, hostOf, endedAt, refusedBy, RunsTo, FromOpened, Forecasts}
 use Rattle.forecast.specs.Account.{strategyOf, mostOf, Accounted, Accounts}
 use Rattle.forecast.proofs.Turns.{played-point, journal-of}

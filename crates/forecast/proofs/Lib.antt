@@ -8,3 +8,4 @@ pub mod Theorem
 pub mod Accounts
 pub mod Samples
 pub mod Wrong
+pub mod Determinism

@@ -45,8 +45,8 @@ use Rattle.model.specs.Model.{derivativeOf}
 use Rattle.sheet.specs.Sheet.{Model, Valid, written}
 use Rattle.sheet.specs.Reader.{Read, readOf}
 use Rattle.sheet.proofs.Accepted.{accepted-complete}
-use Rattle.answer.specs.declared.forecast.Ending.the-variants as ending
-use Rattle.answer.specs.declared.forecast.Forecast.{Forecast}
+use Rattle.answer.specs.declared.ending.Ending.the-variants as ending
+use Rattle.answer.specs.declared.ending.Forecast.{Forecast}
 use Rattle.budget.specs.Host.{sourceAt, replyTo}
 use Rattle.forecast.specs.Forecast.{openingFor, done, hostOf, endedAt, FromOpened, Forecasts}
 

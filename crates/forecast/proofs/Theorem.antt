@@ -32,8 +32,8 @@ use Rattle.sheet.specs.Reader.{Read, accepted, malformed, tooLong, headingOf, a
 use Rattle.sheet.proofs.Accepted.{accepted-sound}
 use Rattle.sheet.specs.declared.sheet.Heading.{Heading}
 use Rattle.sheet.specs.declared.sheet.Reading.the-variants as reading
-use Rattle.answer.specs.declared.forecast.Ending.the-variants as ending
-use Rattle.answer.specs.declared.forecast.Forecast.{Forecast}
+use Rattle.answer.specs.declared.ending.Ending.the-variants as ending
+use Rattle.answer.specs.declared.ending.Forecast.{Forecast}
 use Rattle.budget.specs.Budget.{lentOf, roomOf, openingOf, fromOpened, wholeOf, runOf}
 use Rattle.budget.specs.declared.run.Outcome.{Outcome}
 use Rattle.forecast.specs.Forecast.{settingsOf, openingFor, hostOf, endedAt, refusedBy, RunsTo, FromOpened, Solved, Forecasts}

@@ -8,9 +8,9 @@ use native.Mathlib.Omega.{arith}
 use Rattle.state.specs.declared.run.Status.the-variants.{Success}
 use Rattle.sheet.specs.Sheet.{written}
 use Rattle.sheet.specs.Reader.{readOf}
-use Rattle.answer.specs.declared.forecast.Ending.the-variants as ending
-use Rattle.answer.specs.declared.forecast.Reached.{Reached}
-use Rattle.answer.specs.declared.forecast.Forecast.{Forecast}
+use Rattle.answer.specs.declared.ending.Ending.the-variants as ending
+use Rattle.answer.specs.declared.ending.Reached.{Reached}
+use Rattle.answer.specs.declared.ending.Forecast.{Forecast}
 use Rattle.forecast.specs.Forecast.{Forecasts}
 use Rattle.forecast.proofs.Theorem.{one-forecast}
 use Rattle.forecast.proofs.Accounts.{refuses}

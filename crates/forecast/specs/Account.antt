@@ -21,8 +21,8 @@ use Rattle.solve.specs.Talk.{World}
 use Rattle.solve.specs.Solve.{Returns}
 use Rattle.sheet.specs.Sheet.{Model}
 use Rattle.sheet.specs.Reader.{accepted, readOf}
-use Rattle.answer.specs.declared.forecast.Reached.{Reached}
-use Rattle.answer.specs.declared.forecast.Ending.the-variants as ending
+use Rattle.answer.specs.declared.ending.Reached.{Reached}
+use Rattle.answer.specs.declared.ending.Ending.the-variants as ending
 use Rattle.forecast.specs.Forecast.{openingFor, hostOf, endedAt}
 
 -- the model's host as a whole

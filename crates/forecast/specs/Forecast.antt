@@ -28,9 +28,9 @@ use Rattle.model.specs.Model.{reaction, derivativeOf}
 use Rattle.model.specs.Model as model
 use Rattle.sheet.specs.Sheet as sheet
 use Rattle.sheet.specs.Reader.{Read, accepted, malformed, tooLong}
-use Rattle.answer.specs.declared.forecast.Ending.{Ending}
-use Rattle.answer.specs.declared.forecast.Ending.the-variants as ending
-use Rattle.answer.specs.declared.forecast.Forecast.{Forecast}
+use Rattle.answer.specs.declared.ending.Ending.{Ending}
+use Rattle.answer.specs.declared.ending.Ending.the-variants as ending
+use Rattle.answer.specs.declared.ending.Forecast.{Forecast}
 use Rattle.budget.specs.Host.{sourceAt, action}
 use Rattle.budget.specs.Budget.{lentOf}
 

@@ -16,8 +16,8 @@ use Rattle.budget.specs.declared.run.Finish.the-variants as finish
 use Rattle.budget.specs.declared.run.Task.{Task}
 use Rattle.budget.specs.declared.run.Outcome.{Outcome}
 use Rattle.budget.specs.Budget.{runOf}
-use Rattle.answer.specs.declared.forecast.Forecast.{Forecast}
-use Rattle.answer.specs.declared.forecast.Ending.the-variants as ending
+use Rattle.answer.specs.declared.ending.Forecast.{Forecast}
+use Rattle.answer.specs.declared.ending.Ending.the-variants as ending
 use Rattle.forecast.specs.Forecast.{settingsOf, refusedBy}
 
 abbrev pub taskFrom : Heading → List Float → Task

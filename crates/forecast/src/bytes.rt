@@ -2,7 +2,7 @@
 use crate::told::modelled;
 use crate::told::refused;
 use answer::Forecast;
-use answer::forecast::Ending;
+use answer::ending::Ending;
 use sheet::read;
 use sheet::sheet::Reading;
 ghost use Rattle.sheet.specs.Reader.{readOf};

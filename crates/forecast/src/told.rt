@@ -1,7 +1,7 @@
 // The model of a sheet, run, and what is told of it.
 use answer::Forecast;
-use answer::forecast::Ending;
-use answer::forecast::Reached;
+use answer::ending::Ending;
+use answer::ending::Reached;
 use bits::double;
 use budget::run::Finish;
 use budget::run::Outcome;

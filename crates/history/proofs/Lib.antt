@@ -1,4 +1,3 @@
 -- In order of reading.
-pub mod Fixed
 pub mod Wrong
 pub mod Traps

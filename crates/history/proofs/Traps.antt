@@ -1,14 +1,13 @@
--- Places where a port goes astray, each as a claim about the definitions that the wrong reading would break. They are computed, so an edit of a definition that took the wrong reading is refused here.
+-- Places where a port goes astray, each as a claim about the definitions that the wrong reading would break. They are
+-- computed, so an edit of a definition that took the wrong reading is refused here. Those about floats alone stand in
+-- crates/blocks/proofs/Traps.antt.
 use mathlib.Core.Path.{_≡_, refl}
 use mathlib.Core.Bool.{Bool, true, false}
-use mathlib.Core.List.{[]}
-use lib.Ieee.{Float, nan, inf, binary64, le, mul, isNan, ofBits}
+use lib.Ieee.{Float, nan, le, ofBits}
 use Rattle.words.specs.Words.{double}
 use Rattle.words.specs.Loop.{pick}
-use Rattle.scalar.specs.Order.{maxOf}
 use Rattle.state.specs.declared.settings.Number.the-variants as number
 use Rattle.state.specs.declared.settings.Rule.the-variants as rule
-use Rattle.state.specs.declared.settings.Mass.the-variants.{Identity}
 use Rattle.state.specs.declared.run.Run.{Run}
 use Rattle.state.specs.declared.run.Stage.the-variants as stage
 use Rattle.state.specs.declared.run.Status.the-variants.{SingularMatrix}
@@ -16,7 +15,6 @@ use Rattle.blocks.specs.declared.step.Step.{Step}
 use Rattle.blocks.specs.declared.step.Step.the-variants as step
 use Rattle.blocks.specs.declared.step.Round.the-variants as round
 use Rattle.blocks.specs.Setters.{_▸_, inControl, setSingular, setLast, setReject, setCallDecomp}
-use Rattle.blocks.specs.Entries.{massAt}
 use Rattle.blocks.specs.Matrices.{endedOf, missed, failedOf}
 use Rattle.blocks.specs.Newton.{slowRound}
 use Rattle.blocks.specs.Report.{isDue}
@@ -34,16 +32,6 @@ mark-at-x = refl
 mark-nan : isDue (number.Given nan) (double 0) ≡ false
 unfolding isDue le
 mark-nan = refl
-
--- a NaN error counts as 1e-10, so the step is accepted (radau.rs:646)
-nan-error : maxOf nan (double 0x3ddb_7cdf_d9d7_bdbb) ≡ double 0x3ddb_7cdf_d9d7_bdbb
-unfolding maxOf pick isNan ofBits
-nan-error = refl
-
--- Identity's zeros are multiplied out: with an infinite amount the product is a NaN (radau.rs:532-537)
-identity-products : mul binary64 (massAt Identity [] 2 0 1) (inf false) ≡ nan
-unfolding massAt pick mul ofBits
-identity-products = refl
 
 -- the fifth failure halves the step, the sixth ends the run (radau.rs:393-402)
 isMain : Step → Bool

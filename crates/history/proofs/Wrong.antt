@@ -1,11 +1,12 @@
--- Three wrong solvers, each shut out by the contract of an advance (01, 'How tight the contracts are'): one that refuses everything, one that always gives the same answer,
--- and one that is right at its first advance and then only pretends, ending with Success.
+-- Wrong solvers, each shut out by the definition of an advance, and so by its contract, which crate `calls` says
+-- (01, 'How tight the contracts are'): one refuses everything, one always answers alike, one does nothing (it leaves the
+-- run as it is, or writes nothing), and one is right at its first advance and then pretends, ending with Success.
 use Prim.Native.Nat.{ℕ}
 use mathlib.Core.Path.{_≡_, refl, sym, ap, _∙_}
 use mathlib.Core.Bool.{Bool, true, false, true≢false}
 use mathlib.Core.List.{List, [], _∷_}
-use lib.Ieee.{Float, le, ofBits}
-use Rattle.words.specs.Words.{double}
+use lib.Ieee.{Float, le, add, mul, ofBits}
+use Rattle.words.specs.Words.{double, _!_}
 use Rattle.words.specs.Loop.{loop, pick}
 use Rattle.state.specs.declared.run.Run.{Run}
 use Rattle.state.specs.declared.run.Stage.{Stage}
@@ -27,10 +28,11 @@ use Rattle.opening.specs.Rows.{verdictOf}
 use Rattle.opening.specs.Admission.{askingAt, answersReport}
 use Rattle.opening.specs.Opening.{firstCounts, firstControl, firstNumbers}
 use Rattle.blocks.specs.Advance.{Outcome, outcome, advanceOf, advanceBy, startedOf, repliedOf, calledOf}
+use Rattle.blocks.specs.Attempt.{stageSumAt, askStageOf}
 use Rattle.blocks.specs.Matrices.{passesOf, passAt}
 use Rattle.blocks.specs.Report.{reportedOf}
 
--- what a solver is, for one advance, and what the contract asks of it
+-- what a solver is, for one advance, and what the definition asks of it
 abbrev pub Solver : Type 0
 Solver = Run → Reply → Memory → Outcome
 
@@ -71,6 +73,24 @@ interrupt-ends : advanceOf (sampleAt stage.FirstReport) reply.Interrupt sampleMe
 unfolding advanceBy repliedOf calledOf passesOf passAt loop pick verdictOf amountsFit newtonFit givenFit factorsFit differencesFit askingAt answersReport stray strayAt le ofBits startedOf reportedOf
 interrupt-ends = refl
 
+-- one amount of 1: its first stage's derivative is answered with the second stage's amount in cont
+abbrev heldMemory : Memory
+heldMemory =
+    memory (amounts (double 0x3ff0_0000_0000_0000 ∷ []) one one (sampleMemory .amounts .cont))
+    (sampleMemory .newton) (sampleMemory .given) (sampleMemory .factors) (sampleMemory .differences)
+
+abbrev isStored : Memory → Bool
+isStored m = le (double 0x3ff0_0000_0000_0000) (m .amounts .cont ! 0)
+
+second-writes : isStored (advanceOf (sampleAt stage.Newton1) reply.Filled heldMemory .core .memory) ≡ true
+unfolding advanceBy repliedOf calledOf passesOf passAt askStageOf stageSumAt loop pick verdictOf amountsFit newtonFit
+    givenFit factorsFit differencesFit askingAt answersReport stray strayAt le add mul ofBits
+second-writes = refl
+
+not-held : isStored heldMemory ≡ false
+unfolding le ofBits
+not-held = refl
+
 -- ---- the wrong solvers
 
 -- whether an answer is a refusal, and whether it is the end with an interrupt
@@ -109,6 +129,47 @@ not-always o meets =
     let first = ap (λ (x : Outcome). interrupted (x .answer)) (meets (sampleAt stage.FirstDerivative) reply.Filled sampleMemory) ∙ ap interrupted first-asks in
     let later = ap (λ (x : Outcome). interrupted (x .answer)) (meets (sampleAt stage.FirstReport) reply.Interrupt sampleMemory) ∙ ap interrupted interrupt-ends in
     true≢false (sym later ∙ first)
+
+-- does nothing: the run comes back as it went in, whatever is asked along with it
+abbrev runIn : Answer → Run
+runIn (answer.Asked r q p) = r
+runIn (answer.Refused r x) = r
+
+abbrev pub DoesNothing : Solver → Type 0
+DoesNothing s = (r : Run) (p : Reply) (m : Memory) → runIn (s r p m .answer) ≡ r
+
+-- whether the run waits for its first derivative
+abbrev waitsFirst : Stage → Bool
+waitsFirst stage.FirstDerivative = true
+waitsFirst stage.FirstReport = false
+waitsFirst stage.FirstDerivativeAgain = false
+waitsFirst stage.Jacobian = false
+waitsFirst (stage.Column c) = false
+waitsFirst stage.Newton1 = false
+waitsFirst stage.Newton2 = false
+waitsFirst stage.Newton3 = false
+waitsFirst stage.Refinement = false
+waitsFirst stage.Accepted = false
+waitsFirst stage.Report = false
+waitsFirst stage.DerivativeAgain = false
+waitsFirst (stage.Ended s) = false
+
+pub not-does-nothing : (s : Solver) → DoesNothing s → Meets s → ⊥
+not-does-nothing s nothing meets =
+    let here = sampleAt stage.FirstDerivative in
+    let stays = nothing here reply.Filled sampleMemory in
+    let moves = ap (λ (o : Outcome). runIn (o .answer)) (meets here reply.Filled sampleMemory) ∙ ap runIn first-asks in
+    true≢false (ap (λ (r : Run). waitsFirst (r .stage)) (sym stays ∙ moves))
+
+-- moves on from stage to stage and never writes
+abbrev pub WritesNothing : Solver → Type 0
+WritesNothing s = (r : Run) (p : Reply) (m : Memory) → s r p m .memory ≡ m
+
+pub not-writes-nothing : (s : Solver) → WritesNothing s → Meets s → ⊥
+not-writes-nothing s nothing meets =
+    let stays = nothing (sampleAt stage.Newton1) reply.Filled heldMemory in
+    let wrote = ap (λ (o : Outcome). o .memory) (meets (sampleAt stage.Newton1) reply.Filled heldMemory) in
+    true≢false (sym second-writes ∙ ap isStored (sym wrote ∙ stays) ∙ not-held)
 
 -- is right at the first advance, and later ends with Success
 unfoldable pub rightAt : Stage → Solver

@@ -1,1 +1,1 @@
-// No code: what a host is, what a history of a run is, and what the definitions of `blocks` say of every history.
+// No code: what a host is, where the talk stands between two advances, and what the definitions of `blocks` say of each.

@@ -1,39 +1,27 @@
--- Each contract settles its call: two outcomes that it allows for one input are the same answer and the same memory.
-use Prim.Native.Nat.{ℕ}
-use mathlib.Core.Path.{_≡_}
+-- Each contract settles its call: it asks nothing, and two outcomes that it allows for one input are the same answer
+-- and the same memory.
 use mathlib.Core.List.{List}
 use lib.Ieee.{Float}
-use Rattle.words.proofs.Outcome.{one-part}
-use Rattle.matrix.specs.declared.answers.Decomposed.{Decomposed}
-use Rattle.matrix.specs.declared.answers.Solved.{Solved}
-use Rattle.matrix.specs.Answers.{Decomposition, decomposition, Solution, solution}
+use Rattle.words.specs.Contract.{Settles}
+use Rattle.words.proofs.Outcome.{_▹_, one-part}
+use Rattle.matrix.specs.Answers.{Decomposition, Solution}
 use Rattle.matrix.specs.Complex.{Parts}
-use Rattle.matrix.specs.Lu.{luDecompOf}
-use Rattle.matrix.specs.LuComplex.{luDecompComplexOf}
-use Rattle.matrix.specs.Linear.{linSolveOf}
-use Rattle.matrix.specs.LinearComplex.{linSolveComplexOf}
+use Rattle.matrix.proofs.lu.lu_decomp as lu-decomp
+use Rattle.matrix.proofs.lu_complex.lu_decomp_complex as lu-complex
+use Rattle.matrix.proofs.linear.lin_solve as lin-solve
+use Rattle.matrix.proofs.linear_complex.lin_solve_complex as solve-complex
 
-module _ {A : Type 0} {r s : Decomposed} {a b : A} {ip jp : List ℕ} where
-  decomposed-once : (w : Decomposition A) → decomposition r a ip ≡ w → decomposition s b jp ≡ w → (r ≡ s) × (a ≡ b) × (ip ≡ jp)
-  decomposed-once w p q = (one-part (λ (d : Decomposition A). d .answer) p q, one-part (λ (d : Decomposition A). d .a) p q, one-part (λ (d : Decomposition A). d .ip) p q)
+pub lu-decomp-once : Settles lu-decomp.Kinds.ps lu-decomp.Kinds.r lu-decomp.Reads.Asked lu-decomp.Reads.Post
+lu-decomp-once κs a = (tt, λ o p. one-part (λ (d : Decomposition (List Float)). d .answer ▹ tt ▹ d .a ▹ d .ip ▹ tt))
 
-module _ {B : Type 0} {r s : Solved} {b d : B} where
-  solved-once : (w : Solution B) → solution r b ≡ w → solution s d ≡ w → (r ≡ s) × (b ≡ d)
-  solved-once w p q = (one-part (λ (x : Solution B). x .answer) p q, one-part (λ (x : Solution B). x .b) p q)
+pub lu-decomp-complex-once : Settles lu-complex.Kinds.ps lu-complex.Kinds.r lu-complex.Reads.Asked lu-complex.Reads.Post
+lu-decomp-complex-once κs a =
+    (tt, λ o p. one-part (λ (d : Decomposition Parts). d .answer ▹ tt ▹ d .a .re ▹ d .a .im ▹ d .ip ▹ tt))
 
-module _ (n : ℕ) (ip₀ : List ℕ) where
-  pub lu-decomp-once : (a₀ : List Float) {r s : Decomposed} {a b : List Float} {ip jp : List ℕ}
-      → decomposition r a ip ≡ luDecompOf n a₀ ip₀ → decomposition s b jp ≡ luDecompOf n a₀ ip₀ → (r ≡ s) × (a ≡ b) × (ip ≡ jp)
-  lu-decomp-once a₀ = decomposed-once (luDecompOf n a₀ ip₀)
+pub lin-solve-once : Settles lin-solve.Kinds.ps lin-solve.Kinds.r lin-solve.Reads.Asked lin-solve.Reads.Post
+lin-solve-once κs a = (tt, λ o p. one-part (λ (s : Solution (List Float)). s .answer ▹ tt ▹ tt ▹ s .b ▹ tt ▹ tt))
 
-  pub lu-decomp-complex-once : (a₀ : Parts) {r s : Decomposed} {a b : Parts} {ip jp : List ℕ}
-      → decomposition r a ip ≡ luDecompComplexOf n a₀ ip₀ → decomposition s b jp ≡ luDecompComplexOf n a₀ ip₀ → (r ≡ s) × (a ≡ b) × (ip ≡ jp)
-  lu-decomp-complex-once a₀ = decomposed-once (luDecompComplexOf n a₀ ip₀)
-
-  pub lin-solve-once : (a b₀ : List Float) {r s : Solved} {b d : List Float}
-      → solution r b ≡ linSolveOf n a b₀ ip₀ → solution s d ≡ linSolveOf n a b₀ ip₀ → (r ≡ s) × (b ≡ d)
-  lin-solve-once a b₀ = solved-once (linSolveOf n a b₀ ip₀)
-
-  pub lin-solve-complex-once : (a b₀ : Parts) {r s : Solved} {b d : Parts}
-      → solution r b ≡ linSolveComplexOf n a b₀ ip₀ → solution s d ≡ linSolveComplexOf n a b₀ ip₀ → (r ≡ s) × (b ≡ d)
-  lin-solve-complex-once a b₀ = solved-once (linSolveComplexOf n a b₀ ip₀)
+pub lin-solve-complex-once
+    : Settles solve-complex.Kinds.ps solve-complex.Kinds.r solve-complex.Reads.Asked solve-complex.Reads.Post
+lin-solve-complex-once κs a =
+    (tt, λ o p. one-part (λ (s : Solution Parts). s .answer ▹ tt ▹ tt ▹ tt ▹ s .b .re ▹ s .b .im ▹ tt ▹ tt))

@@ -37,30 +37,30 @@ setComplex b i z = parts (set (b .re) i (z .re)) (set (b .im) i (z .im))
 
 -- ---- arithmetic
 
--- lu.rs:199, 212, 214, 227, 270, 301
+-- what stands for the size of z (lu.rs:199, 212, 214, 227, 270, 301)
 unfoldable pub sizeComplex : Complex → Float
 sizeComplex z = absOf (z .re) ⊕ absOf (z .im)
 
--- lu.rs:250-251; linear.rs:197-198
+-- [linear.rs:196-198] (lu.rs:250-251)
 unfoldable pub negatedComplex : Complex → Complex
 negatedComplex z = complex (neg (z .re)) (neg (z .im))
 
--- lu.rs:276-277; linear.rs:180-181, 204-205
+-- the sum that `+=` makes of two parts (lu.rs:276-277; linear.rs:180-181, 204-205)
 unfoldable pub plusComplex : Complex → Complex → Complex
 plusComplex x y = complex (x .re ⊕ y .re) (x .im ⊕ y .im)
 
--- x times t (lu.rs:248-249, 290-291; linear.rs:178-179, 202-203)
+-- x times t [lu.rs:248-249] [alike lu.rs:290-291] [again linear.rs:178-179] [again linear.rs:202-203]
 unfoldable pub timesComplex : Complex → Complex → Complex
 timesComplex x t = complex (x .re ⊗ t .re ⊖ x .im ⊗ t .im) (x .im ⊗ t .re ⊕ x .re ⊗ t .im)
 
--- `den` (lu.rs:242; linear.rs:150, 190, 210)
+-- `den` [lu.rs:241-242] [alike linear.rs:189-190] [alike linear.rs:209-210] (linear.rs:150)
 unfoldable pub squareComplex : Complex → Float
 squareComplex z = z .re ⊗ z .re ⊕ z .im ⊗ z .im
 
--- 1 over z (lu.rs:241-244)
+-- 1 over z [lu.rs:243-244]
 unfoldable pub reciprocalComplex : Complex → Complex
 reciprocalComplex z = complex (z .re ⊘ squareComplex z) (neg (z .im) ⊘ squareComplex z)
 
--- x over z (linear.rs:151-152, 191-192, 211-212)
+-- x over z [linear.rs:191-192] [alike linear.rs:211-212] (linear.rs:151-152)
 unfoldable pub overComplex : Complex → Complex → Complex
 overComplex x z = complex ((x .re ⊗ z .re ⊕ x .im ⊗ z .im) ⊘ squareComplex z) ((x .im ⊗ z .re ⊖ x .re ⊗ z .im) ⊘ squareComplex z)

@@ -13,29 +13,30 @@ use Rattle.matrix.specs.declared.answers.Solved.the-variants.{Done, Refu
 use Rattle.matrix.specs.Answers.{Solution, solution}
 use Rattle.matrix.specs.Substitution.{exchanged, Side, solved}
 
--- linear.rs:60, 84, 93
+-- [linear.rs:83-84] [alike linear.rs:92-93] (linear.rs:60)
 unfoldable pub divided : List Float → ℕ → ℕ → List Float → List Float
 divided a n k b = set b k (b ! k ⊘ at a n k k)
 
--- linear.rs:74-76
+-- [linear.rs:75]
 unfoldable pub addAt : List Float → ℕ → ℕ → ℕ → List Float → List Float
 addAt a n k i b = set b i (b ! i ⊕ at a n i k ⊗ b ! k)
 
--- linear.rs:68-76
+-- [linear.rs:73-74]
 unfoldable pub forward : List Float → ℕ → ℕ → ℕ → List Float → List Float
 forward a n k m b = loop (addAt a n k) (k + 1) n (exchanged _!_ set m k b)
 
--- linear.rs:87-89
+-- [linear.rs:88]
 unfoldable pub takeAt : List Float → ℕ → ℕ → ℕ → List Float → List Float
 takeAt a n k i b = set b i (b ! i ⊕ at a n i k ⊗ neg (b ! k))
 
+-- [linear.rs:86-87]
 unfoldable pub back : List Float → ℕ → ℕ → List Float → List Float
 back a n k b = loop (takeAt a n k) 0 k b
 
 abbrev pub realSide : Side (List Float) (List Float)
 realSide = record { divided = divided; forward = forward; back = back }
 
--- Refusals 1, 16 and 18, then the work (01, 'Numbers that refuse'; linear.rs:55-94).
+-- Refusals 1, 16 and 18, then the work (01, 'Numbers that refuse') [linear.rs:55-56]
 unfoldable pub linSolveOf : ℕ → List Float → List Float → List ℕ → Solution (List Float)
 linSolveOf n a b ip =
     pick (leb 1 n && leb n 32)

@@ -13,23 +13,23 @@ use Rattle.matrix.specs.declared.answers.Decomposed.the-variants.{Refuse
 use Rattle.matrix.specs.Answers.{Decomposition, decomposition}
 use Rattle.matrix.specs.Elimination.{Kind, worked, answered}
 
--- lu.rs:114-116
+-- [lu.rs:114-116]
 unfoldable pub updateAt : ℕ → ℕ → ℕ → Float → ℕ → List Float → List Float
 updateAt n k j t i a = put a n i j (at a n i j ⊕ at a n i k ⊗ t)
 
--- a zero multiplier changes nothing, a NaN isn't zero (lu.rs:112-117)
+-- a zero multiplier changes nothing, a NaN isn't zero [lu.rs:112-113]
 unfoldable pub updated : ℕ → ℕ → ℕ → Float → List Float → List Float
 updated n k j t a = pick (ne t (double 0)) (loop (updateAt n k j t) (k + 1) n a) a
 
--- 1.0 over the pivot (lu.rs:95)
+-- 1.0 over the pivot [lu.rs:94-95]
 unfoldable pub reciprocal : Float → Float
 reciprocal pivot = double 0x3ff0_0000_0000_0000 ⊘ pivot
 
--- lu.rs:97
+-- [lu.rs:97]
 unfoldable pub multiplier : Float → Float → Float
 multiplier x t = neg x ⊗ t
 
--- lu.rs:56, 83, 122
+-- the test of a pivot (lu.rs:56, 83, 122)
 unfoldable pub isZero : Float → Bool
 isZero x = eq x (double 0)
 
@@ -45,7 +45,7 @@ real =
       updated = updated;
     }
 
--- Refusals 1 and 16, then the work (01, 'Numbers that refuse'; lu.rs:37-127).
+-- Refusals 1 and 16, then the work (01, 'Numbers that refuse') [lu.rs:37-53]
 unfoldable pub luDecompOf : ℕ → List Float → List ℕ → Decomposition (List Float)
 luDecompOf n a ip =
     pick (leb 1 n && leb n 32)

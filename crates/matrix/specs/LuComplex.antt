@@ -13,23 +13,23 @@ use Rattle.matrix.specs.Answers.{Decomposition, decomposition}
 use Rattle.matrix.specs.Complex.{complex, Parts, parts, atComplex, putComplex, sizeComplex, negatedComplex, plusComplex, timesComplex, reciprocalComplex}
 use Rattle.matrix.specs.Elimination.{Kind, worked, answered}
 
--- p is added in row i, column j (lu.rs:276-277, 284-285, 292-293)
+-- p is added in row i, column j [lu.rs:276-277] [again lu.rs:284-285] [again lu.rs:292-293]
 unfoldable pub addedComplex : ℕ → ℕ → ℕ → Parts → Complex → Parts
 addedComplex n i j a p = putComplex a n i j (plusComplex (atComplex a n i j) p)
 
--- real multiplier (lu.rs:272-278)
+-- real multiplier [lu.rs:272-275]
 unfoldable pub realAt : ℕ → ℕ → ℕ → Float → ℕ → Parts → Parts
 realAt n k j mr i a = addedComplex n i j a (complex (atComplex a n i k .re ⊗ mr) (atComplex a n i k .im ⊗ mr))
 
--- imaginary-only multiplier (lu.rs:280-286)
+-- imaginary-only multiplier [lu.rs:279-283]
 unfoldable pub imaginaryAt : ℕ → ℕ → ℕ → Float → ℕ → Parts → Parts
 imaginaryAt n k j mi i a = addedComplex n i j a (complex (neg (atComplex a n i k .im) ⊗ mi) (atComplex a n i k .re ⊗ mi))
 
--- general complex multiplier (lu.rs:288-294)
+-- general complex multiplier [lu.rs:287-289]
 unfoldable pub generalAt : ℕ → ℕ → ℕ → Complex → ℕ → Parts → Parts
 generalAt n k j t i a = addedComplex n i j a (timesComplex (atComplex a n i k) t)
 
--- which of the three loops runs (lu.rs:270-296)
+-- which of the three loops runs [lu.rs:270-271]
 unfoldable pub updatedComplex : ℕ → ℕ → ℕ → Complex → Parts → Parts
 updatedComplex n k j t a =
     pick (ne (sizeComplex t) (double 0))
@@ -38,11 +38,11 @@ updatedComplex n k j t a =
     (loop (generalAt n k j t) (k + 1) n a)))
     a
 
--- lu.rs:248-251
+-- [lu.rs:250-251]
 unfoldable pub multiplierComplex : Complex → Complex → Complex
 multiplierComplex x t = negatedComplex (timesComplex x t)
 
--- lu.rs:199, 227, 301
+-- the test of a pivot (lu.rs:199, 227, 301)
 unfoldable pub isZeroComplex : Complex → Bool
 isZeroComplex z = eq (sizeComplex z) (double 0)
 
@@ -58,7 +58,7 @@ complexKind =
       updated = updatedComplex;
     }
 
--- Refusals 1 and 16, then the work (01, 'Numbers that refuse'; lu.rs:180-306).
+-- Refusals 1 and 16, then the work (01, 'Numbers that refuse') [lu.rs:180-196]
 unfoldable pub luDecompComplexOf : ℕ → Parts → List ℕ → Decomposition Parts
 luDecompComplexOf n a ip =
     pick (leb 1 n && leb n 32)

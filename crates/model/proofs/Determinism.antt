@@ -1,13 +1,9 @@
--- The contract of `derivative` settles its call: two outcomes that it allows for one input are the same answer and the same memory.
-use Prim.Native.Nat.{ℕ}
-use mathlib.Core.Path.{_≡_}
-use mathlib.Core.List.{List}
-use lib.Ieee.{Float}
-use Rattle.words.proofs.Outcome.{one-part}
-use Rattle.model.specs.declared.answers.Derived.{Derived}
-use Rattle.model.specs.Answers.{Derivation, derivation}
-use Rattle.model.specs.Derivative.{derivedOf}
+-- Each contract settles its call: it asks nothing, and two outcomes that it allows for one input are the same answer
+-- and the same memory.
+use Rattle.words.specs.Contract.{Settles}
+use Rattle.words.proofs.Outcome.{_▹_, one-part}
+use Rattle.model.specs.Answers.{Derivation}
+use Rattle.model.proofs.derivation.derivative as derivative
 
-pub derivative-once : (reactions : ℕ) (y rates : List Float) (species : List ℕ) (dy₀ : List Float) {r s : Derived} {d e : List Float}
-    → derivation r d ≡ derivedOf reactions y rates species dy₀ → derivation s e ≡ derivedOf reactions y rates species dy₀ → (r ≡ s) × (d ≡ e)
-derivative-once reactions y rates species dy₀ p q = (one-part (λ (o : Derivation). o .answer) p q, one-part (λ (o : Derivation). o .dy) p q)
+pub derivative-once : Settles derivative.Kinds.ps derivative.Kinds.r derivative.Reads.Asked derivative.Reads.Post
+derivative-once κs a = (tt, λ o p. one-part (λ (d : Derivation). d .answer ▹ tt ▹ tt ▹ tt ▹ tt ▹ d .dy ▹ tt))

@@ -7,3 +7,5 @@ pub mod AdmissionLaws
 pub mod OpeningTheorems
 pub mod Determinism
 pub mod Traps
+pub mod FromRust
+pub mod Samples

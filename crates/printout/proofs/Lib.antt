@@ -1,2 +1,3 @@
 -- What is told of a printed forecast.
 pub mod Theorem
+pub mod Determinism

@@ -4,7 +4,7 @@ use mathlib.Core.Path.{_≡_}
 use mathlib.Core.List.{List}
 use lib.ListN.{length}
 use Rattle.sheet.specs.Reader.{Read, over}
-use Rattle.answer.specs.declared.forecast.Forecast.{Forecast}
+use Rattle.answer.specs.declared.ending.Forecast.{Forecast}
 use Rattle.answer.specs.Printed.{printedOf}
 use Rattle.forecast.specs.Forecast.{Forecasts}
 

@@ -1,3 +1,5 @@
--- Laws of the settings that a case gives, and of the memory that a program lends.
+-- Laws of the settings that a case gives, of the memory that a program lends, and of words that are read.
 pub mod SettingsLaws
 pub mod MemoryLaws
+pub mod ReadLaws
+pub mod Determinism

@@ -2,6 +2,7 @@
 ghost use Prim.Native.Nat.{_≤_};
 ghost use mathlib.Core.Path.{_≡_};
 ghost use Rattle.replay.specs.Word.{spelledOf, withinOf, quarterOf, readingOf};
+ghost use Rattle.replay.specs.Read.{WordRead, afterOf, WordsRead, BlockRead};
 use bits::digit;
 use libc::STDIN_FILENO;
 
@@ -42,7 +43,9 @@ pub fn spelled(text: &[u8], from: usize, end: usize) -> Word
 }
 
 // The next word of standard input, which `after` is to follow.
-pub fn read_word(after: u8) -> Word {
+pub fn read_word(after: u8) -> Word
+    ensures { λ r. ⌜ WordRead after r ⌝ }
+{
     let mut text = [0u8; 17];
     if io::read_full(STDIN_FILENO, &mut text) == 0 {
         return Word::End;
@@ -54,7 +57,9 @@ pub fn read_word(after: u8) -> Word {
 }
 
 // What follows the word at a place of a block: four words stand on a line.
-fn after(place: usize) -> u8 {
+fn after(place: usize) -> u8
+    ensures { λ r. ⌜ r ≡ afterOf place ⌝ }
+{
     if place % 4 == 3 { b'\n' } else { b' ' }
 }
 
@@ -67,7 +72,9 @@ pub fn within(count: usize, room: usize) -> usize
 }
 
 // Fills the block with the next words, from the place `from` up to `end`. False where one is wrong or missing.
-pub fn read_words(block: &mut [u64], from: usize, end: usize) -> bool {
+pub fn read_words(block: &mut [u64], from: usize, end: usize) -> bool
+    ensures { λ r. ⌜ WordsRead from end (now (block .entry)) (now (block .exit)) r ⌝ }
+{
     for i in from..within(end, block.len()) {
         let next = read_word(after(i));
         match next {
@@ -90,7 +97,9 @@ pub fn read_well(good: bool) -> Reading
 }
 
 // Fills the block with the next words, from its first up to `end`.
-pub fn read_block(block: &mut [u64], end: usize) -> Reading {
+pub fn read_block(block: &mut [u64], end: usize) -> Reading
+    ensures { λ r. ⌜ BlockRead end (now (block .entry)) (now (block .exit)) r ⌝ }
+{
     if block.len() == 0 {
         return Reading::Malformed;
     }

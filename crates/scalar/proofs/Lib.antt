@@ -13,3 +13,4 @@ pub mod SquareRootTheorems
 pub mod Table
 pub mod CoefficientTheorems
 pub mod Traps
+pub mod Determinism

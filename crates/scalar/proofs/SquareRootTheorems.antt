@@ -2,7 +2,7 @@
 --     sqrt-is        for every double x, `sqrtOf x` is a square root of x in the sense of specs/SquareRoot.antt
 --     sqrt-exists    so there is one
 --     sqrt-only      and there is no other
--- That the code returns `sqrtOf x` is the contract of `sqrt`.
+-- The contract of `sqrt` says both: that the code returns `sqrtOf x`, and that this is a square root of x.
 use Prim.Native.Nat.{ℕ, zero, suc, _+_, _-_, _*_, _%_, _≤_, _<_}
 use mathlib.Core.Path.{_≡_, refl, sym, ap, subst, _∙_}
 use mathlib.Core.Logic.{_⊎_, inl, inr, ⊎-elim}
@@ -180,6 +180,10 @@ sqrt-is (fin false (suc m) e) f =
     let x = fin false (suc m) e in
     let d = root-edge x f (lt→ltb 0 (suc m) (zero-lt-suc m)) in
     of-positive m e (nearestRoot (squareOf x)) (d .under) (edge-nearest (squareOf x) (nearestRoot (squareOf x)) d)
+
+-- what equals `sqrtOf x` is one: the contract of `sqrt`, from its equation
+pub sqrt-both : (x : Float) → T (fits binary64 x) → {r : Float} → r ≡ sqrtOf x → (r ≡ sqrtOf x) × IsSquareRoot x r
+sqrt-both x f e = (e, subst (λ (r : Float). IsSquareRoot x r) (sym e) (sqrt-is x f))
 
 pub sqrt-exists : (x : Float) → T (fits binary64 x) → (r : Float) × IsSquareRoot x r
 sqrt-exists x f = (sqrtOf x, sqrt-is x f)

@@ -1,7 +1,7 @@
 -- The exact numbers that nine of the coefficients stand for, and what it means that a double is right for one: 01, 'The node and error constants are checked against exact roots:
 -- with q the root of 6, C1=(4-q)/10, C2=(4+q)/10, C1M1=C1-1, C2M1=C2-1, C1MC2=-q/5, DD1=-(13+7q)/3, DD2=(7q-13)/3, DD3=-1/3, each lying strictly between the neighbours of its double;
 -- the cubic u^3-9u^2+36u-60 changes sign within two doubles either way of U1.' Every comparison is one of whole numbers, in units of the smallest double.
-use Prim.Native.Nat.{ℕ, suc, _+_, _-_, _*_, _^_, _<_}
+use Prim.Native.Nat.{ℕ, suc, _+_, _-_, _*_, _^_, _≤_, _<_}
 use mathlib.Core.Bool.{Bool, true, false, _&&_}
 use mathlib.Core.List.{List, [], _∷_}
 use lib.Dec.{T, ltb}
@@ -10,6 +10,8 @@ use lib.ListN.{getD}
 use lib.Ieee.{Float, binary64, toBits}
 use Rattle.words.specs.Loop.{pick}
 use Rattle.scalar.specs.Patterns.{units, unitsInOne}
+use Rattle.scalar.specs.declared.coefficients.Entry.{Entry}
+use Rattle.scalar.specs.declared.coefficients.Entry.the-variants.{Value, Outside}
 
 -- (a + b * q) / d; the root of the cubic; or no rule, where the source is copied
 pub data Exact : Type 0 where
@@ -85,6 +87,11 @@ reach copied = 0
 pub record Between (x : Float) (e : Exact) : Type 0 where
   pub lower : T (less (signedUnits (down (reach e) (toBits binary64 x))) e)
   pub upper : T (more (signedUnits (up (reach e) (toBits binary64 x))) e)
+
+-- what may stand at place k of the table: a double that is right for its exact number; past the 27 entries nothing
+pub data RightAt : ℕ → Entry → Type 0 where
+  entry : (k : ℕ) (x : Float) → k < 27 → Between x (exactAt k) → RightAt k (Value x)
+  past : (k : ℕ) → 27 ≤ k → RightAt k Outside
 
 -- the one test that runs over the table
 unfoldable pub between : Float → Exact → Bool

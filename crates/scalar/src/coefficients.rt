@@ -3,7 +3,7 @@ ghost use mathlib.Core.Path.{_≡_};
 ghost use Prim.Native.Nat.{_<_};
 ghost use Rattle.words.specs.Words.{_!_};
 ghost use Rattle.scalar.specs.Coefficients.{coefficients, entryOf};
-ghost use Rattle.scalar.specs.Exact.{exactAt, Between};
+ghost use Rattle.scalar.specs.Exact.{exactAt, Between, RightAt};
 
 pub const C1: f64 = 0.155_051_025_721_682_2;
 
@@ -97,9 +97,10 @@ pub enum Entry {
     Outside,
 }
 
-// Entry k of the table, in the order of the text, from 0 on.
+// Entry k of the table, in the order of the text, from 0 on. Its exact number lies where 01 says: strictly between the
+// neighbours of the double.
 pub fn coefficient(k: usize) -> Entry
-    ensures { λ r. ⌜ r ≡ entryOf k ⌝ }
+    ensures { λ r. ⌜ (r ≡ entryOf k) × RightAt k r ⌝ }
 {
     if k < 27 {
         return Entry::Value(table_entry(k));

@@ -2,14 +2,16 @@
 ghost use mathlib.Core.Path.{_≡_};
 ghost use Prim.Native.Nat.{_<_, _*_, _^_};
 ghost use Rattle.scalar.specs.Patterns.{units, unitsInOne, infinityPattern};
+ghost use Rattle.scalar.specs.SquareRoot.{IsSquareRoot};
 ghost use Rattle.scalar.specs.Sqrt.{nearestRoot, sqrtOf};
 ghost use Rattle.scalar.specs.Steps.{FullWidth, EvenPlace};
 use crate::digits::wide_root;
 use crate::guesses::digits_guess;
 
 // The square root of x, for every double: the nearest to the exact root, ties to even; -0 for -0; NaN for a negative x or a NaN.
+// The equation is for a caller's proof; `IsSquareRoot` is for a reader: what a root is, with no way to compute it.
 pub fn sqrt(x: f64) -> f64
-    ensures { λ r. ⌜ r ≡ sqrtOf x ⌝ }
+    ensures { λ r. ⌜ (r ≡ sqrtOf x) × IsSquareRoot x r ⌝ }
 {
     if x != x {
         return x;

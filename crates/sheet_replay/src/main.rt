@@ -2,7 +2,7 @@
 // summary, a line for each status and each refusal. tests/sheet_answers.py, which writes the sheets, says how the answers were made.
 mod record;
 
-use answer::forecast::Ending;
+use answer::ending::Ending;
 use answer::print;
 use forecast::forecast;
 use libc::STDIN_FILENO;

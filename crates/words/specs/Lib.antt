@@ -2,3 +2,4 @@
 pub mod Words
 pub mod Loop
 pub mod Grid
+pub mod Contract

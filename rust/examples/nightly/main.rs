@@ -1,30 +1,52 @@
-//! The inventory's question of every night: of each cylinder on the shelf, how much gas will be left on the day of its label?
+//! The inventory's question of every night: of each cylinder on the shelf, how much gas will be left on the day of its
+//! label?
 //!
-//!     cargo run --example nightly [LIST FOLDER]    LIST: the cylinders, as in inventory.txt; FOLDER: where their sheets stand
+//!     cargo run --example nightly [LIST FOLDER]
 //!
-//! The table goes to standard output, with the reason where there is no number; how far the work is goes to standard error.
+//! LIST has the cylinders, as inventory.txt does, and FOLDER their sheets. The table goes to standard output, each row
+//! as soon as it is known, with the reason where there is no number. How far the work is goes to standard error, where
+//! that is a terminal. The exit status is 0 where every cylinder has a forecast, 1 where one has none, 2 where nothing
+//! was done.
 
-mod forecast;
 mod inventory;
-mod model;
 mod night;
+mod sheet;
 
-use std::path::Path;
+use std::io::{stderr, stdout, IsTerminal, Write};
+use std::path::{Path, PathBuf};
+use std::process::ExitCode;
 
-fn main() {
-    let words: Vec<String> = std::env::args().skip(1).collect();
-    let here = env!("CARGO_MANIFEST_DIR");
+fn main() -> ExitCode {
+    let words: Vec<PathBuf> = std::env::args_os().skip(1).map(PathBuf::from).collect();
+    let here = Path::new(env!("CARGO_MANIFEST_DIR"));
     let (list, folder) = match &words[..] {
-        [] => (format!("{here}/examples/nightly/inventory.txt"), format!("{here}/..")),
+        [] => (here.join("examples/nightly/inventory.txt"), here.join("..")),
         [list, folder] => (list.clone(), folder.clone()),
-        _ => stop("usage: nightly [LIST FOLDER]"),
+        _ => return stop("usage: nightly [LIST FOLDER]"),
     };
-    let text = std::fs::read_to_string(&list).unwrap_or_else(|error| stop(&format!("{list}: {error}")));
-    let table = night::table(&text, Path::new(&folder), &mut std::io::stderr());
-    print!("{}", table.unwrap_or_else(|words| stop(&words)));
+    let text = match std::fs::read(&list) {
+        Ok(text) => text,
+        Err(error) => return stop(&format!("{}: {error}", list.display())),
+    };
+    if !elchepur::IS_PROVED {
+        eprintln!("nightly: this program was built with a solver that is not proved");
+    }
+    match night::table(&text, &folder, &mut stdout().lock(), &mut progress) {
+        Ok(true) => ExitCode::SUCCESS,
+        Ok(false) => ExitCode::FAILURE,
+        Err(error) => stop(&format!("the table can't be written: {error}")),
+    }
 }
 
-fn stop(words: &str) -> ! {
+/// Shows where the work is, in place of what was shown before.
+fn progress(words: &str) {
+    if stderr().is_terminal() {
+        // Whoever reads the progress may go away; the table is made all the same.
+        let _ = write!(stderr(), "\r\x1b[K{words}");
+    }
+}
+
+fn stop(words: &str) -> ExitCode {
     eprintln!("nightly: {words}");
-    std::process::exit(2)
+    ExitCode::from(2)
 }

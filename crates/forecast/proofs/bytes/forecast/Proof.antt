@@ -7,8 +7,8 @@ use Rattle.state.specs.Memory.{noughts}
 use Rattle.sheet.specs.Reader.{answerOf, readOf}
 use Rattle.sheet.specs.declared.sheet.Reading.{Reading}
 use Rattle.sheet.specs.declared.sheet.Reading.the-variants as reading
-use Rattle.answer.specs.declared.forecast.Ending.the-variants as ending
-use Rattle.answer.specs.declared.forecast.Forecast.{Forecast}
+use Rattle.answer.specs.declared.ending.Ending.the-variants as ending
+use Rattle.answer.specs.declared.ending.Forecast.{Forecast}
 use Rattle.forecast.specs.Forecast.{refusedBy, Forecasts}
 use Rattle.forecast.proofs.Theorem.{forecast-solves, read-malformed, read-too-long}
 use Rattle.forecast.proofs.bytes.forecast.Statement.{statement}

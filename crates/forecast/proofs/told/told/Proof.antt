@@ -9,8 +9,8 @@ use Rattle.state.specs.declared.talk.IntegrationResult.{IntegrationResult}
 use Rattle.state.specs.declared.talk.Refusal.{Refusal}
 use Rattle.state.specs.declared.talk.Result.the-variants as result
 use Rattle.state.specs.Result.{resultOf}
-use Rattle.answer.specs.declared.forecast.Ending.the-variants as ending
-use Rattle.answer.specs.declared.forecast.Forecast.{Forecast}
+use Rattle.answer.specs.declared.ending.Ending.the-variants as ending
+use Rattle.answer.specs.declared.ending.Forecast.{Forecast}
 use Rattle.budget.specs.declared.run.Finish.{Finish}
 use Rattle.budget.specs.declared.run.Finish.the-variants as finish
 use Rattle.forecast.specs.Forecast.{refusedBy}

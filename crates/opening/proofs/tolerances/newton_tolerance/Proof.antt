@@ -11,7 +11,8 @@ returns c = rw (c .before .newton-tol .given .1)
 returns-2 : tie.Need-returns-2
 unfolding newtonTolOf
 returns-2 c =
-    rw (c .before .before .before .enum-told .given .1, c .max .ensures, c .before .min .ensures, c .before .before .sqrt .ensures)
+    let root = c .before .before .sqrt in
+    rw (c .before .before .before .enum-told .given .1, c .max .ensures, c .before .min .ensures, root .ensures .0)
 
 pub newton-tolerance-spec : {M : Type 1} → statement M
 newton-tolerance-spec =

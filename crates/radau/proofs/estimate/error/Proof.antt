@@ -6,7 +6,9 @@ use Rattle.radau.proofs.estimate.error.Tie as tie
 
 returns : tie.Need-returns
 unfolding errorOf
-returns c = rw (c .max .ensures, c .before .sqrt .ensures, c .before .before .as-float .ensures, c .before .before .before .error-sum .ensures)
+returns c =
+    let b = c .before in
+    rw (c .max .ensures, b .sqrt .ensures .0, b .before .as-float .ensures, b .before .before .error-sum .ensures)
 
 pub error-spec : {M : Type 1} → statement M
 error-spec =

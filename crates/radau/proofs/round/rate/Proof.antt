@@ -13,7 +13,7 @@ returns c = λ kept. yes _ _ _ (eq-eqb _ _ (c .if1 .taken)) refl
 
 returns-2 : tie.Need-returns-2
 unfolding rateOf
-returns-2 c = λ kept. no _ _ _ (ne-eqb _ _ (c .before .before .if1 .left)) (c .sqrt .ensures)
+returns-2 c = λ kept. no _ _ _ (ne-eqb _ _ (c .before .before .if1 .left)) (c .sqrt .ensures .0)
 
 pub rate-spec : {M : Type 1} → statement M
 rate-spec =

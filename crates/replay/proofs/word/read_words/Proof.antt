@@ -1,13 +1,21 @@
--- `word::read_words` is safe and ends: `i` rises to an end within the block, whose length a store leaves as it is. Assumes nothing.
+-- `read_words` meets its contract: up to `i` the block is filled. `i` rises to an end within the block, whose length
+-- stays.
 use borrow.Author.Needs.{needs}
-use mathlib.Core.Path.{_≡_}
-use Prim.Native.Nat.{_-_, _≤_}
+use mathlib.Core.Path.{_≡_, refl}
+use mathlib.Core.Logic.{_⊎_, inl, inr}
+use native.Mathlib.Omega.{arith}
+use Prim.Native.Nat.{_+_, _-_, _≤_, _<_}
 use lib.ListN.{length}
+use Rattle.replay.specs.Word.{withinOf}
+use Rattle.replay.specs.Read.{Filled}
+use Rattle.replay.proofs.ReadLaws.{read-value, filled-none, filled-more, read-all, read-some}
 use Rattle.replay.proofs.word.read_words.Statement.{statement}
 use Rattle.replay.proofs.word.read_words.Tie as tie
 
 abbrev Inv-loop : tie.InvT-loop
-Inv-loop block₀ from end i₀ i-end block i = (length block ≡ length block₀) × (i-end ≤ length block₀)
+Inv-loop block₀ from end i₀ i-end block i =
+    (i-end ≡ withinOf end (length block₀)) × (i-end ≤ length block₀) × (from ≤ i)
+    × ((i ≡ from) ⊎ (i ≤ i-end)) × Filled from i block₀ block
 
 abbrev μ-loop : tie.MeasureT-loop
 μ-loop block₀ from end i₀ i-end block i = i-end - i
@@ -16,7 +24,7 @@ within-requires : tie.Need-within-requires Inv-loop μ-loop
 within-requires c κs = search needs
 
 loop-holds : tie.Need-loop-holds Inv-loop μ-loop
-loop-holds c = search needs
+loop-holds c = (c .within .ensures .1, c .within .ensures .0 .1, omega arith, inl refl, filled-none _ _)
 
 after-requires : tie.Need-after-requires Inv-loop μ-loop
 after-requires c κs = search needs
@@ -40,7 +48,9 @@ same-length : tie.Need-same-length Inv-loop μ-loop
 same-length c = search needs
 
 returns : tie.Need-returns Inv-loop μ-loop
-returns c = search needs
+returns c =
+    let l = c .before .before .before .before .before .loop in
+    read-some (l .inv .0) (l .inv .3) (l .inv .4) (c .before .before .before .before .loop-test .taken)
 
 enum-told-2 : tie.Need-enum-told-2 Inv-loop μ-loop
 enum-told-2 c = search needs
@@ -49,7 +59,9 @@ same-length-2 : tie.Need-same-length-2 Inv-loop μ-loop
 same-length-2 c = search needs
 
 returns-2 : tie.Need-returns-2 Inv-loop μ-loop
-returns-2 c = search needs
+returns-2 c =
+    let l = c .before .before .before .before .before .loop in
+    read-some (l .inv .0) (l .inv .3) (l .inv .4) (c .before .before .before .before .loop-test .taken)
 
 add-i : tie.Need-add-i Inv-loop μ-loop
 add-i c = search needs
@@ -58,13 +70,23 @@ loop-less : tie.Need-loop-less Inv-loop μ-loop
 loop-less c = search needs
 
 loop-again : tie.Need-loop-again Inv-loop μ-loop
-loop-again c = search needs
+loop-again c =
+    let l = c .before .before .before .before .before .before .loop in
+    let test = c .before .before .before .before .before .loop-test .taken in
+    let room : l .i < length (l .block) = omega (arith, test, l .inv .1, l .inv .4 .long) in
+    let put = read-value (c .before .before .before .before .after .ensures)
+    (c .before .before .before .read-word .ensures) (c .before .next .given .1) in
+    let last = c .before .before .before .before .before .before .before .within .result in
+    let more : l .i + 1 ≤ last = omega (arith, test) in
+    (l .inv .0, l .inv .1, omega (arith, l .inv .2), inr more, filled-more (l .inv .4) (l .inv .2) room put)
 
 same-length-3 : tie.Need-same-length-3 Inv-loop μ-loop
 same-length-3 c = search needs
 
 returns-3 : tie.Need-returns-3 Inv-loop μ-loop
-returns-3 c = search needs
+returns-3 c =
+    let l = c .before .loop in
+    read-all (l .inv .0) (l .inv .3) (l .inv .4) (c .loop-test .left)
 
 pub read-words-spec : {M : Type 1} → statement M
 read-words-spec =

@@ -1,4 +1,4 @@
-//! A model of reactions, read from a sheet, as a system that can be solved.
+//! A model of reactions, read from a sheet that is well formed, as a system that can be solved.
 
 use elchepur::prelude::*;
 
@@ -48,7 +48,7 @@ impl Words<'_> {
 }
 
 impl Model {
-    /// Reads a sheet. Whether every line is as it should be is not asked here: that is what the program `decay` is for.
+    /// Reads a sheet that the proved reader takes; of another it may make anything.
     pub fn read(sheet: &str) -> Result<Model, String> {
         let mut words = Words(sheet.split_whitespace());
         if words.number()? != 6 {
@@ -82,7 +82,8 @@ impl FirstOrderSystem for Model {
         dydx.fill(0.0);
         for Reaction { rate, species } in &self.reactions {
             let (reactants, products) = species.split_at(2);
-            let present = |places: &[usize]| places.iter().filter(|place| **place > 0).map(|place| place - 1).collect::<Vec<_>>();
+            let present =
+                |places: &[usize]| places.iter().filter(|place| **place > 0).map(|place| place - 1).collect::<Vec<_>>();
             let (reactants, products) = (present(reactants), present(products));
             let v = reactants.iter().fold(*rate, |v, place| v * y[*place]);
             for place in reactants {

@@ -1,7 +1,7 @@
--- When a pass through the matrices is singular: exactly where the elimination of a matrix that it built stops at a column, which is a 17 of that try.
---     error-column, column-error      an answered stop is an error exactly at a column, which is the one that the event names; its number is 17
+-- What a pass through the matrices meets: an error exactly where the elimination of a matrix that it built stops at a
+-- column, which is a 17 of that try.
+--     error-column, no-error          an answered stop is an error exactly at a column, which the event names; its number is 17
 --     real-answers, complex-answers   what a try of a pass answers: no refusal, so an error is `Singular`
---     pass-events, pass-silent        what a pass writes, by the two stops; and nothing where no matrices are wanted
 --     pass-total                      total is as it was: a pass begins no attempt
 use Prim.Native.Nat.{ℕ, _*_, _≤_}
 use mathlib.Core.Path.{_≡_, refl, sym, ap, _∙_}
@@ -10,8 +10,7 @@ use mathlib.Core.List.{List, [], _∷_}
 use lib.Ieee.{Float}
 use borrow.Author.Tests.{le-leb, eq-eqb}
 use Rattle.words.specs.Loop.{pick}
-use Rattle.words.proofs.Branch.{pick-yes, pick-no, pick-all}
-use Rattle.matrix.specs.declared.answers.Decomposed.{Decomposed}
+use Rattle.words.proofs.Branch.{pick-all}
 use Rattle.matrix.specs.Answers.{Stop, nowhere, column, stopAnswer, decomposedNumber}
 use Rattle.matrix.specs.Complex.{Parts, parts}
 use Rattle.matrix.specs.Elimination.{worked, answered}
@@ -19,22 +18,22 @@ use Rattle.matrix.specs.Lu.{real, luDecompOf}
 use Rattle.matrix.specs.LuComplex.{complexKind, luDecompComplexOf}
 use Rattle.state.specs.declared.run.Run.{Run}
 use Rattle.state.specs.Memory.{Factors}
 use Rattle.blocks.specs.declared.step.Step.{Step}
 use Rattle.blocks.specs.Setters.{_▸_, inCounts, oneLu}
 use Rattle.blocks.specs.Entries.{Three, three}
-use Rattle.blocks.specs.Events.{real-try, complex-try, real-singular, complex-singular, Logged, logged, quiet, noted}
+use Rattle.blocks.specs.Events.{Logged}
 use Rattle.blocks.specs.Matrices.{failedOf, isErr, columnOf, builtOf, Tried, runOf, complexTriedOf, realTriedOf, triedOf}
 use Rattle.blocks.specs.Needs.{FactorsLong}
-use Rattle.account.specs.Truth.{passLog}
-use Rattle.account.proofs.Decompositions.{Long, set-long}
-use Rattle.account.proofs.Passes.{Each, built-kept}
+use Rattle.blocks.proofs.Decompositions.{Long, set-long}
+use Rattle.blocks.proofs.Passes.{Each, built-kept}
 
 pub error-column : (s : Stop) → isErr (stopAnswer s) ≡ true → (s ≡ column (columnOf s)) × (decomposedNumber (stopAnswer s) ≡ 17)
 error-column nowhere e = absurd (true≢false (sym e))
 error-column (column k) e = (refl, refl)
 
-pub column-error : (k : ℕ) → isErr (stopAnswer (column k)) ≡ true
-column-error k = refl
+pub no-error : (s : Stop) → isErr (stopAnswer s) ≡ false → s ≡ nowhere
+no-error nowhere e = refl
+no-error (column k) e = absurd (true≢false e)
 
 -- ---- a try: an order and lengths that fit are not refused
 
@@ -49,16 +48,6 @@ module _ (n : ℕ) (ip : List ℕ) (low : 1 ≤ n) (high : n ≤ 32) (rows : Lon
 
 -- ---- a pass
 
--- the two tries of a pass, over what they answered
-tries : {A : Type 0} (x y z : A) (s t : Stop) {p q : Decomposed} → p ≡ stopAnswer s → q ≡ stopAnswer t
-    → let second = noted complex-try (pick (isErr q) (logged y (complex-singular (columnOf t) ∷ [])) (quiet z)) in
-    noted real-try (pick (isErr p) (logged x (real-singular (columnOf s) ∷ [])) second) .log ≡ passLog s t
-unfolding pick passLog
-tries x y z nowhere nowhere e f = rw (e, f)
-tries x y z nowhere (column k) e f = rw (e, f)
-tries x y z (column k) nowhere e f = rw e
-tries x y z (column k) (column j) e f = rw e
-
 module _ (r : Run) (mass jac : List Float) (f : Factors) where
   -- E1, and the two parts of E2, as the pass builds them; and where their eliminations stop
   abbrev pub built : Three
@@ -70,10 +59,6 @@ module _ (r : Run) (mass jac : List Float) (f : Factors) where
   abbrev pub e2Stop : Stop
   e2Stop = worked complexKind (r .shape .n) (parts (built .two) (built .three)) (f .ip2) .stop
 
-  pub pass-silent : r .control .«call_decomp» ≡ false → triedOf r mass jac f .log ≡ []
-  unfolding triedOf
-  pass-silent e = ap (λ (l : Logged Tried). l .log) (pick-no _ _ e)
-
   -- lengths that fit n say also that n is at most 32
   module _ (low : 1 ≤ r .shape .n) (long : FactorsLong (r .shape .n) f) where
     built-long : Each (Long (r .shape .n * r .shape .n)) built
@@ -82,14 +67,14 @@ module _ (r : Run) (mass jac : List Float) (f : Factors) where
         (long .e1 .full, long .e2r .full, long .e2i .full)
 
     pub real-answers : luDecompOf (r .shape .n) (built .one) (f .ip1) .answer ≡ stopAnswer e1Stop
-    real-answers = real-fits (r .shape .n) (f .ip1) low (long .e1 .small) (long .ip1) (built .one) (built-long .0)
+    real-answers =
+        real-fits (r .shape .n) (f .ip1) low (long .e1 .small) (long .ip1) (built .one) (built-long .0)
 
-    pub complex-answers : luDecompComplexOf (r .shape .n) (parts (built .two) (built .three)) (f .ip2) .answer ≡ stopAnswer e2Stop
-    complex-answers = complex-fits (r .shape .n) (f .ip2) low (long .e1 .small) (long .ip2) (parts (built .two) (built .three)) (built-long .1) (built-long .2)
-
-    pub pass-events : r .control .«call_decomp» ≡ true → triedOf r mass jac f .log ≡ passLog e1Stop e2Stop
-    unfolding triedOf realTriedOf complexTriedOf
-    pass-events e = ap (λ (l : Logged Tried). l .log) (pick-yes _ _ e) ∙ tries _ _ _ e1Stop e2Stop real-answers complex-answers
+    pub complex-answers :
+        luDecompComplexOf (r .shape .n) (parts (built .two) (built .three)) (f .ip2) .answer ≡ stopAnswer e2Stop
+    complex-answers =
+        complex-fits (r .shape .n) (f .ip2) low (long .e1 .small) (long .ip2) (parts (built .two) (built .three))
+        (built-long .1) (built-long .2)
 
 -- ---- a pass begins no attempt, singular or not
 

@@ -13,11 +13,11 @@ use Rattle.state.specs.declared.settings.Mass.{Mass}
 use Rattle.state.specs.declared.run.Run.{Run}
 use Rattle.state.specs.declared.run.Shape.{Shape}
 use Rattle.state.specs.Memory.{Factors}
 use Rattle.blocks.specs.declared.step.Step.{Step}
 use Rattle.blocks.specs.Events.{Logged, quiet}
 use Rattle.blocks.specs.Entries.{Three}
 use Rattle.blocks.specs.Matrices.{failedOf, buildAt, buildRow, builtOf, Tried, tried, complexTriedOf, realTriedOf, triedOf, runOf, passAt, passesOf}
-use Rattle.account.proofs.Decompositions.{loop-keeps, lu-kept, lu-complex-kept}
+use Rattle.blocks.proofs.Decompositions.{loop-keeps, lu-kept, lu-complex-kept}
 
 abbrev pub Shaped : Shape → Step → Type 0
 Shaped h s = runOf s .shape ≡ h
@@ -67,7 +67,7 @@ module _ (P : List Float → Type 0) (set-kept : (a : List Float) (i : ℕ) (x :
           let b = built-kept (r .settings .mass) (r .shape .n) mass jac (r .numbers .h) _ (p .0, p .1, p .2) in
           pick-all Kept _ _ _ (λ _. real-kept r _ e (b .0, b .1, b .2, p .3, p .4)) (λ _. (e, p))
 
-      pass-kept : (k : ℕ) (l : Logged Tried) → Kept l → Kept (passAt mass jac k l)
+      pub pass-kept : (k : ℕ) (l : Logged Tried) → Kept l → Kept (passAt mass jac k l)
       unfolding passAt
       pass-kept k l p = pick-all Kept _ _ _ (λ _. tried-kept (runOf (l .core .step)) (l .core .factors) (p .0) (p .1)) (λ _. p)
 

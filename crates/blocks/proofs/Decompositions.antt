@@ -13,7 +13,7 @@ use lib.Ieee.{Float}
 use borrow.Author.Tests.{eqb-true}
 use Rattle.words.specs.Words.{_!_}
 use Rattle.words.specs.Loop.{turns, loop, pick}
-use Rattle.words.specs.Grid.{put}
+use Rattle.words.specs.Grid.{Square, put}
 use Rattle.words.proofs.Branch.{pick-all}
 use Rattle.matrix.specs.declared.answers.Decomposed.{Decomposed}
 use Rattle.matrix.specs.declared.answers.Solved.{Solved}
@@ -44,6 +44,9 @@ Long n xs = length xs ≡ n
 
 pub set-long : {A : Type 0} {n : ℕ} (xs : List A) (i : ℕ) (x : A) → Long n xs → Long n (set xs i x)
 set-long xs i x e = length-set xs i x ∙ e
+
+pub set-square : {n : ℕ} (a : List Float) (i : ℕ) (x : Float) → Square n a → Square n (set a i x)
+set-square a i x s = record { small = s .small; full = set-long a i x (s .full) }
 
 -- ---- elimination, over a kind of matrix
 

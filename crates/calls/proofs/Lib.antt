@@ -1,0 +1,4 @@
+-- In order of reading.
+pub mod Defined
+pub mod Fixed
+pub mod Journals

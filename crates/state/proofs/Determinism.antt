@@ -1,0 +1,37 @@
+-- Each contract settles its call: it asks nothing, and two outcomes that it allows for one input are the same answer
+-- and the same memory.
+use Prim.Native.Nat.{ℕ}
+use mathlib.Core.List.{List}
+use lib.Ieee.{Float}
+use Rattle.words.specs.Contract.{Settles}
+use Rattle.words.proofs.Outcome.{_▹_, one-part, one-result}
+use Rattle.state.proofs.numbers.status_number as status-number
+use Rattle.state.proofs.numbers.refusal_number as refusal-number
+use Rattle.state.proofs.outcome.result as result
+use Rattle.state.proofs.settings.Settings.new as new
+use Rattle.state.proofs.stray.stray_pivot as stray-pivot
+use Rattle.state.proofs.parts.zero as zero
+use Rattle.state.proofs.parts.zero_pivots as zero-pivots
+
+pub status-number-once
+    : Settles status-number.Kinds.ps status-number.Kinds.r status-number.Reads.Asked status-number.Reads.Post
+status-number-once κs a = (tt, λ o p. one-result (o .1))
+
+pub refusal-number-once
+    : Settles refusal-number.Kinds.ps refusal-number.Kinds.r refusal-number.Reads.Asked refusal-number.Reads.Post
+refusal-number-once κs a = (tt, λ o p. one-result (o .1))
+
+pub result-once : Settles result.Kinds.ps result.Kinds.r result.Reads.Asked result.Reads.Post
+result-once κs a = (tt, λ o p. one-result (o .1))
+
+pub new-once : Settles new.Kinds.ps new.Kinds.r new.Reads.Asked new.Reads.Post
+new-once κs a = (tt, λ o p. one-result (o .1))
+
+pub stray-pivot-once : Settles stray-pivot.Kinds.ps stray-pivot.Kinds.r stray-pivot.Reads.Asked stray-pivot.Reads.Post
+stray-pivot-once κs a = (tt, λ o p. one-result (o .1))
+
+pub zero-once : Settles zero.Kinds.ps zero.Kinds.r zero.Reads.Asked zero.Reads.Post
+zero-once κs a = (tt, λ o p. one-part (λ (part : List Float). tt ▹ part ▹ tt))
+
+pub zero-pivots-once : Settles zero-pivots.Kinds.ps zero-pivots.Kinds.r zero-pivots.Reads.Asked zero-pivots.Reads.Post
+zero-pivots-once κs a = (tt, λ o p. one-part (λ (part : List ℕ). tt ▹ part ▹ tt))

@@ -1,0 +1,30 @@
+"""The stiff solver RADAU (Radau IIA, order 5), proved in Rattle: the library behind include/elchepur.h, for Python.
+
+`solve` runs a problem of one's own, `forecast` a model sheet. A result is a run that succeeded: every other end
+raises, unless one asks with `check=False` to be told by the result. README.md beside this folder says how to get the
+library."""
+
+from ._errors import BrokenOff, Error, NoLibrary, Refused, ShortenedStep, Unproved
+from ._library import load
+from ._run import Step
+from ._sheets import Forecast, forecast
+from ._solving import INTERRUPT, Mark, Modified, Result, Solution, solve
+
+__all__ = [
+    "INTERRUPT",
+    "BrokenOff",
+    "Error",
+    "Forecast",
+    "Mark",
+    "Modified",
+    "NoLibrary",
+    "Refused",
+    "Result",
+    "ShortenedStep",
+    "Solution",
+    "Step",
+    "Unproved",
+    "forecast",
+    "load",
+    "solve",
+]

@@ -1,0 +1,235 @@
+"""The numbers, parts and functions of include/elchepur.h. Written by tests/python_module.py, not by hand."""
+
+DONE = 0
+REFUSED_ORDER = 1
+REFUSED_PART = 2
+REFUSED_NOT_FINITE = 3
+REFUSED_MAX_STEPS = 4
+REFUSED_UROUND = 5
+REFUSED_SAFETY_FACTOR = 6
+REFUSED_SCALES = 7
+REFUSED_NEWTON_MAXITER = 8
+REFUSED_TOLERANCE = 9
+REFUSED_PARTITION = 10
+REFUSED_FIRST_STEP = 11
+REFUSED_STEP_LIMITS = 12
+REFUSED_UNFIT = 13
+REFUSED_HAS_ENDED = 14
+REFUSED_REPLY = 15
+REFUSED_LENGTH = 16
+REFUSED_SINGULAR = 17
+REFUSED_PIVOT = 18
+REFUSED_TARGET = 19
+REFUSED_NOT_ENDED = 29
+REFUSED_OUTSIDE = 30
+MOST = 32
+STATE = 67
+NUMBERS = 17
+FLOATS = 8
+TOLD = 3
+AT = 2
+RESULT_NUMBERS = 7
+RESULT_FLOATS = 2
+COEFFICIENTS = 27
+NUMBER_MAX_STEPS = 0
+NUMBER_NEWTON_MAXITER = 1
+NUMBER_PREDICTIVE = 2
+NUMBER_DENSE_OUTPUT = 3
+NUMBER_MASS = 4
+NUMBER_SOURCE = 5
+NUMBER_RULE = 6
+NUMBER_MAX_STEP_GIVEN = 7
+NUMBER_MIN_STEP_GIVEN = 8
+NUMBER_NEWTON_TOL_GIVEN = 9
+NUMBER_FIRST_STEP_GIVEN = 10
+NUMBER_NIND1_GIVEN = 11
+NUMBER_NIND1 = 12
+NUMBER_NIND2_GIVEN = 13
+NUMBER_NIND2 = 14
+NUMBER_NIND3_GIVEN = 15
+NUMBER_NIND3 = 16
+FLOAT_UROUND = 0
+FLOAT_SAFETY_FACTOR = 1
+FLOAT_SCALE_MIN = 2
+FLOAT_SCALE_MAX = 3
+FLOAT_MAX_STEP = 4
+FLOAT_MIN_STEP = 5
+FLOAT_NEWTON_TOL = 6
+FLOAT_FIRST_STEP = 7
+TOLD_KIND = 0
+TOLD_PLACE = 1
+TOLD_FLAG = 2
+KIND_DERIVATIVE = 1
+KIND_JACOBIAN = 2
+KIND_REPORT = 3
+KIND_ENDED = 4
+PLACE_NOWHERE = 0
+PLACE_Y_TO_F0 = 1
+PLACE_CONT_TO_Z1 = 2
+PLACE_CONT_TO_Z2 = 3
+PLACE_CONT_TO_Z3 = 4
+PLACE_CONT_TO_F1 = 5
+PLACE_Y_TO_F_ORIGIN = 6
+PLACE_Y_PERTURBED_TO_F_PERTURBED = 7
+REPLY_FILLED = 1
+REPLY_CONTINUE = 2
+REPLY_INTERRUPT = 3
+REPLY_MODIFIED = 4
+REPLY_MARK = 5
+STATUS_SUCCESS = 0
+STATUS_USER_INTERRUPT = 1
+STATUS_NEED_LARGER_NMAX = 2
+STATUS_STEP_SIZE_TOO_SMALL = 3
+STATUS_SINGULAR_MATRIX = 5
+RESULT_STATUS = 0
+RESULT_ODE = 1
+RESULT_JAC = 2
+RESULT_LU = 3
+RESULT_TOTAL = 4
+RESULT_ACCEPTED = 5
+RESULT_REJECTED = 6
+RESULT_H = 0
+RESULT_X = 1
+PRINTED = 1024
+PRINTED_MOST = 735
+
+# The header's words for each number that refuses.
+REFUSALS = {
+    1: "n is not 1 to 32",
+    2: "a lent part has the wrong length",
+    3: "a given float is not finite: ends, amounts, mass entries, tolerances, settings",
+    4: "max_steps is not 1 to 1,000,000",
+    5: "uround <= 1e-35 or >= 1",
+    6: "safety_factor <= 1e-4 or >= 1",
+    7: "scale_min <= 0 or not below scale_max",
+    8: "newton_maxiter is not 1 to 16",
+    9: "an rtol <= 0 or an atol < 0",
+    10: "nind1 is given and the three don't sum to n, or only others are and exceed n",
+    11: "first_step is given as 0",
+    12: "max_step < 0, or min_step above the step ceiling",
+    13: "the state is unfit, or the words are no state's",
+    14: "the run has ended",
+    15: "the reply is not of the kind asked for",
+    16: "matrix routine: a length is not n * n or n",
+    17: "the matrix is singular",
+    18: "one of the first n - 1 pivots is n or more",
+    19: "the target is shorter than a quarter of the coefficients",
+    29: "there is no result yet",
+    30: "the table has no such entry",
+}
+
+# The parts in the order of a call, with their types: how many times n and how many times n n entries.
+PARTS = (
+    ("y", "double", 1, 0),
+    ("f0", "double", 1, 0),
+    ("scal", "double", 1, 0),
+    ("cont", "double", 4, 0),
+    ("z1", "double", 1, 0),
+    ("z2", "double", 1, 0),
+    ("z3", "double", 1, 0),
+    ("f1", "double", 1, 0),
+    ("f2", "double", 1, 0),
+    ("f3", "double", 1, 0),
+    ("rtol", "double", 1, 0),
+    ("atol", "double", 1, 0),
+    ("mass", "double", 0, 1),
+    ("jac", "double", 0, 1),
+    ("e1", "double", 0, 1),
+    ("e2r", "double", 0, 1),
+    ("e2i", "double", 0, 1),
+    ("ip1", "size_t", 1, 0),
+    ("ip2", "size_t", 1, 0),
+    ("y_perturbed", "double", 1, 0),
+    ("f_perturbed", "double", 1, 0),
+    ("f_origin", "double", 1, 0),
+)
+
+# What each function gives and takes; an array and a slice are pointers.
+FUNCTIONS = {
+    "elchepur_default_settings": (
+        "void", "uint64_t *", "double *",
+    ),
+    "elchepur_open": (
+        "uint64_t", "const uint64_t *", "const double *", "size_t", "double", "double", "uint64_t", "double", "double",
+        "uint64_t *", "uint64_t *", "double *", "const double *", "size_t", "double *", "size_t", "double *", "size_t",
+        "double *", "size_t", "double *", "size_t", "double *", "size_t", "double *", "size_t", "double *", "size_t",
+        "double *", "size_t", "double *", "size_t", "double *", "size_t", "double *", "size_t", "double *", "size_t",
+        "double *", "size_t", "double *", "size_t", "double *", "size_t", "double *", "size_t", "size_t *", "size_t",
+        "size_t *", "size_t", "double *", "size_t", "double *", "size_t", "double *", "size_t",
+    ),
+    "elchepur_advance": (
+        "uint64_t", "uint64_t *", "uint64_t", "double", "uint64_t *", "double *", "double *", "size_t",
+        "const double *", "size_t", "double *", "size_t", "double *", "size_t", "double *", "size_t", "double *",
+        "size_t", "double *", "size_t", "double *", "size_t", "double *", "size_t", "double *", "size_t",
+        "const double *", "size_t", "const double *", "size_t", "const double *", "size_t", "double *", "size_t",
+        "double *", "size_t", "double *", "size_t", "double *", "size_t", "size_t *", "size_t", "size_t *", "size_t",
+        "double *", "size_t", "double *", "size_t", "double *", "size_t",
+    ),
+    "elchepur_result": (
+        "uint64_t", "const uint64_t *", "uint64_t *", "double *",
+    ),
+    "elchepur_held_step": (
+        "uint64_t", "const uint64_t *", "double *",
+    ),
+    "elchepur_interpolate": (
+        "uint64_t", "double", "double *", "size_t", "const double *", "size_t", "double", "double",
+    ),
+    "elchepur_bounds": (
+        "void", "double", "double", "double *",
+    ),
+    "elchepur_lu_decomp": (
+        "uint64_t", "size_t", "double *", "size_t", "size_t *", "size_t",
+    ),
+    "elchepur_lu_decomp_complex": (
+        "uint64_t", "size_t", "double *", "size_t", "double *", "size_t", "size_t *", "size_t",
+    ),
+    "elchepur_lin_solve": (
+        "uint64_t", "size_t", "const double *", "size_t", "double *", "size_t", "const size_t *", "size_t",
+    ),
+    "elchepur_lin_solve_complex": (
+        "uint64_t", "size_t", "const double *", "size_t", "const double *", "size_t", "double *", "size_t", "double *",
+        "size_t", "const size_t *", "size_t",
+    ),
+    "elchepur_sqrt": (
+        "double", "double",
+    ),
+    "elchepur_root": (
+        "double", "uint64_t", "double",
+    ),
+    "elchepur_power": (
+        "double", "uint8_t", "double",
+    ),
+    "elchepur_two_thirds": (
+        "double", "double",
+    ),
+    "elchepur_four_fifths": (
+        "double", "double",
+    ),
+    "elchepur_quarter": (
+        "double", "double",
+    ),
+    "elchepur_inverse_root": (
+        "double", "uint64_t", "double",
+    ),
+    "elchepur_abs": (
+        "double", "double",
+    ),
+    "elchepur_max": (
+        "double", "double", "double",
+    ),
+    "elchepur_min": (
+        "double", "double", "double",
+    ),
+    "elchepur_clamp": (
+        "double", "double", "double", "double",
+    ),
+    "elchepur_signum": (
+        "double", "double",
+    ),
+    "elchepur_coefficient": (
+        "uint64_t", "size_t", "double *",
+    ),
+    "elchepur_forecast": (
+        "uint64_t", "const uint8_t *", "size_t", "uint8_t *",
+    ),
+}
