@@ -1,12 +1,14 @@
 -- The arithmetic of src/digits.rt and of a number at full width: a root digit by digit, what a number has beyond a square, and m * 2 ^ w.
 use Prim.Native.Nat.{ℕ, zero, suc, _+_, _-_, _*_, _/_, _%_, _^_, _≤_, _<_}
 use mathlib.Core.Path.{_≡_, refl, sym, ap, subst, _∙_}
-use native.Mathlib.Nat.{pow-succ', mul-assoc, mul-comm, mul-left-comm, lt-of-not-le, mul-le-mul, mul-le-mul-right, mul-le-mul-left, mul-lt-mul-of-pos-right, not-suc-le-zero, div-le-self}
-use native.Mathlib.Decide.{decLe}
+use native.Mathlib.Nat.{pow-succ', mul-assoc, mul-comm, mul-left-comm, lt-of-not-le, mul-le-mul, mul-le-mul-right}
+use native.Mathlib.Nat.{mul-le-mul-left, not-suc-le-zero, div-le-self, mod-eq-of-lt}
+use native.Mathlib.Nat.{le-trans, le-of-eq, not-le-of-lt}
 use native.Mathlib.Omega.{arith}
-use lib.Pow.{pow-pos, pow-add, pow-mono, shr-shr}
+use lib.Pow.{pow-add, pow-mono, shr-shr, shl-lt}
+use lib.Count.{leadingZeros, leading-top}
 use Rattle.scalar.specs.Patterns.{unitsInOne}
-use Rattle.scalar.specs.Steps.{Digits, Near}
+use Rattle.scalar.specs.Steps.{Digits, Near, FullWidth}
 use Rattle.scalar.proofs.Squares.{square-mono, square-shows, square-above}
 
 -- ---- a root digit by digit
@@ -95,21 +97,52 @@ one-split : (k l : ℕ) → k + l ≡ 1074 → 2 ^ k * 2 ^ l ≡ unitsInOne
 unfolding unitsInOne
 one-split k l e = sym (pow-add 2 k l) ∙ ap (λ (n : ℕ). 2 ^ n) e
 
--- m * 2 ^ w is 2 ^ 1074 at least, so w is large where m is small
-pub place-large : (m w b k l : ℕ) → k + l ≡ 1074 → 0 < b → m * 2 ^ w ≡ b * unitsInOne → m < 2 ^ k → l < w
-place-large m w b k l e hb h g = by (decLe w l)
-  where
-    by : Dec (w ≤ l) → l < w
-    by (yes p) =
-        let a : m * 2 ^ w ≤ m * 2 ^ l = mul-le-mul-left m (pow-mono p) in
-        let s : m * 2 ^ l < 2 ^ k * 2 ^ l = mul-lt-mul-of-pos-right g (pow-pos l) in
-        let u : 1 * unitsInOne ≤ b * unitsInOne = mul-le-mul-right unitsInOne hb in
-        omega (arith, one-split k l e)
-    by (no p) = lt-of-not-le p
+-- b, whose highest digit stands at the place j, shifted to the place 52
+module _ (b j s : ℕ) (low : 2 ^ j ≤ b) (high : b < 2 ^ suc j) (sum : j + s ≡ 52) where
+  shifted-low : 2 ^ 52 ≤ b * 2 ^ s
+  shifted-low =
+      subst (λ (n : ℕ). 2 ^ n ≤ b * 2 ^ s) sum (le-trans (le-of-eq (pow-add 2 j s)) (mul-le-mul-right (2 ^ s) low))
 
-pub at-start : (b : ℕ) → b * 2 ^ 1074 ≡ b * unitsInOne
-unfolding unitsInOne
-at-start b = refl
+  shifted-high : b * 2 ^ s < 2 ^ 53
+  shifted-high =
+      let e : suc j + s ≡ 53 = omega arith in
+      subst (λ (n : ℕ). b * 2 ^ s < 2 ^ n) e (shl-lt {a = b} (suc j) s high)
+
+  -- no digit is lost at 64
+  shifted-whole : b * 2 ^ s % 2 ^ 64 ≡ b * 2 ^ s
+  shifted-whole = mod-eq-of-lt (omega (arith, shifted-high))
+
+  shifted-full : FullWidth b (b * 2 ^ s) (1074 - s)
+  shifted-full =
+      record {
+        same = mul-assoc b (2 ^ s) (2 ^ (1074 - s)) ∙ ap (λ (x : ℕ). b * x) (one-split s (1074 - s) (omega arith));
+        full = shifted-low;
+        fits = shifted-high;
+        least = omega arith;
+        most = omega arith;
+      }
+
+-- the leading zeros of a subnormal number, and what a shift by all but 11 of them brings it to
+module _ (b : ℕ) (some : 0 < b) (few : b < 2 ^ 52) where
+  top : (j : ℕ) × (leadingZeros 64 b + suc j ≡ 64) × (2 ^ j ≤ b) × (b < 2 ^ suc j)
+  top = leading-top 64 b some (omega arith)
+
+  top-low : top .0 < 52
+  top-low = lt-of-not-le (λ (g : 52 ≤ top .0). not-le-of-lt few (le-trans (pow-mono g) (top .2)))
+
+  pub zeros-least : 12 ≤ leadingZeros 64 b
+  zeros-least = omega (arith, top .1, top-low)
+
+  pub zeros-most : leadingZeros 64 b ≤ 63
+  zeros-most = omega (arith, top .1)
+
+  pub widened : FullWidth b (b * 2 ^ (leadingZeros 64 b - 11) % 2 ^ 64) (1074 - (leadingZeros 64 b - 11))
+  widened =
+      let s = leadingZeros 64 b - 11 in
+      let sum : top .0 + s ≡ 52 = omega (arith, top .1, top-low) in
+      subst (λ (m : ℕ). FullWidth b m (1074 - s))
+      (sym (shifted-whole b (top .0) s (top .2) (top .3) sum))
+      (shifted-full b (top .0) s (top .2) (top .3) sum)
 
 -- the digits t of a pattern with the field f
 pub field-place : (t f : ℕ) → 0 < f → t * 2 ^ (1073 + f) ≡ t * 2 ^ (f - 1) * unitsInOne

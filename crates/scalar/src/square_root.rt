@@ -51,18 +51,16 @@ pub struct Scaled {
     pub w: u64,
 }
 
-// A subnormal number, of b units, brought to full width by one shift a pass: at most 52 passes.
+// A subnormal number, of b units, brought to full width by one shift: of its leading zeros 11 stay.
 fn full_width(b: u64) -> Scaled
     requires { ⌜ (0 < b) × (b < 2 ^ 52) ⌝ }
     ensures { λ r. ⌜ FullWidth b (r .m) (r .w) ⌝ }
 {
-    let mut m = b;
-    let mut w: u64 = 1074;
-    while m < 0x10_0000_0000_0000 {
-        m = 2 * m;
-        w -= 1;
+    let shift = u64::leading_zeros(b) - 11;
+    Scaled {
+        m: b << shift,
+        w: 1074 - shift as u64,
     }
-    Scaled { m, w }
 }
 
 // The number with the pattern b, at full width: from its two fields where it has a leading digit.

@@ -1,4 +1,4 @@
--- `any_width` meets its contract: by the loop for a subnormal number, by the two fields for any other.
+-- `any_width` meets its contract: by a shift for a subnormal number, by the two fields for any other.
 use Prim.Native.Nat.{ℕ, _+_, _*_, _/_, _%_, _^_, _≤_, _<_}
 use mathlib.Core.Path.{_≡_, sym, ap, subst, _∙_}
 use native.Mathlib.Omega.{arith}
