@@ -5,7 +5,7 @@ use native.Mathlib.Nat.{pow-succ', mul-assoc, mul-comm, mul-left-comm, lt-of-not
 use native.Mathlib.Decide.{decLe}
 use native.Mathlib.Omega.{arith}
 use lib.Pow.{pow-pos, pow-add, pow-mono, shr-shr}
-use Rattle.scalar.specs.Patterns.{unitsInOne}
+use Rattle.words.specs.Patterns.{unitsInOne}
 use Rattle.scalar.specs.Steps.{Digits, Near}
 use Rattle.scalar.proofs.Squares.{square-mono, square-shows, square-above}
 

@@ -2,7 +2,7 @@
 use Prim.Native.Nat.{_-_, _*_, _^_, _≤_, _<_}
 use mathlib.Core.Path.{_≡_, refl, _∙_}
 use native.Mathlib.Omega.{arith}
-use Rattle.scalar.specs.Patterns.{unitsInOne}
+use Rattle.words.specs.Patterns.{unitsInOne}
 use Rattle.scalar.proofs.DigitLaws.{doubled, place-large, at-start}
 use Rattle.scalar.proofs.square_root.full_width.Statement.{statement}
 use Rattle.scalar.proofs.square_root.full_width.Tie as tie
