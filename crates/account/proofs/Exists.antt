@@ -15,7 +15,7 @@ use Rattle.words.specs.Grid.{at, put}
 use Rattle.words.specs.Loop.{loop, pick}
 use Rattle.scalar.specs.Halving.{halve}
 use Rattle.scalar.specs.Order.{absOf, maxOf, minOf, clampOf, signumOf}
-use Rattle.scalar.specs.Patterns.{units, unitsInOne}
+use Rattle.words.specs.Patterns.{units, unitsInOne}
 use Rattle.scalar.specs.Products.{timesAt, powerOf, product}
 use Rattle.scalar.specs.Root.{keeps, halvedRoot, rootOfForm, rootOf}
 use Rattle.scalar.specs.Sqrt.{border, reaches, nearestRoot, sqrtOf}
@@ -46,7 +46,7 @@ use Rattle.blocks.specs.Scale.{scaleAt, scaledOf, divideAt, weightedOf}
 use Rattle.history.specs.History.{nextPoint}
 use Rattle.history.specs.Host.{isEnd, partAt, filled, modified, wrote}
 use Rattle.scalar.specs.SquareRoot.{squareOf}
-use Rattle.words.specs.Words.{double}
+use Rattle.words.specs.Constants.{«0·0», «1·0», «0·5», «0·001»}
 use Rattle.state.specs.declared.settings.Settings.{Settings}
 use Rattle.state.specs.declared.settings.Number.the-variants as number
 use Rattle.state.specs.declared.settings.Mass.the-variants.{Identity}
@@ -70,11 +70,11 @@ use Rattle.account.specs.Account.{Strategy}
 use Rattle.account.proofs.Computed.{sameLength, actions, plays, computed}
 
 abbrev none : List Float
-none = double 0 ∷ []
+none = «0·0» ∷ []
 
 abbrev lent : Memory
 lent =
-    memory (amounts (double 0x3ff0_0000_0000_0000 ∷ []) none none (double 0 ∷ double 0 ∷ double 0 ∷ double 0 ∷ []))
+    memory (amounts («1·0» ∷ []) none none («0·0» ∷ «0·0» ∷ «0·0» ∷ «0·0» ∷ []))
     (newton none none none none none none) (given none none none none) (factors none none none (0 ∷ []) (0 ∷ []))
     (differences none none none)
 
@@ -98,23 +98,23 @@ chosen =
       nind3 = d .nind3;
       mass = Identity;
       source = Host;
-      «first_step» = number.Given (double 0x3fe0_0000_0000_0000);
+      «first_step» = number.Given «0·5»;
       «dense_output» = d .«dense_output»;
       rule = Book;
     }
 
 abbrev tolerance : Float
-tolerance = double 0x3f50_624d_d2f1_a9fc
+tolerance = «0·001»
 
 abbrev sample : Opening
-sample = opening chosen 1 (double 0) (double 0x3ff0_0000_0000_0000) (Scalars tolerance tolerance) lent
+sample = opening chosen 1 «0·0» «1·0» (Scalars tolerance tolerance) lent
 
 -- where its first request leaves the talk
 abbrev start : Journal
 start =
     journal
-    (point (firstRun chosen 1 (double 0) (double 0x3ff0_0000_0000_0000) (convertedOf Book 1 (Scalars tolerance tolerance) none none .conversion))
-    (request.Derivative (double 0)) YToF0 (openOf sample .memory))
+    (point (firstRun chosen 1 «0·0» «1·0» (convertedOf Book 1 (Scalars tolerance tolerance) none none .conversion))
+    (request.Derivative «0·0») YToF0 (openOf sample .memory))
     []
 
 -- the derivative and the Jacobian are 0, and no report is interrupted

@@ -10,7 +10,8 @@ use mathlib.Core.List.{List, [], _∷_, _++_}
 use native.Mathlib.Omega.{arith}
 use lib.ListN.{length-replicate}
 use lib.Ieee.{Float, le}
-use Rattle.words.specs.Words.{double, _⊕_, _⊖_, _⊗_, _⊘_}
+use Rattle.words.specs.Words.{_⊕_, _⊖_, _⊗_, _⊘_}
+use Rattle.words.specs.Constants.{«0·0», «1·0», «0·1»}
 use Rattle.words.specs.Loop.{pick}
 use Rattle.scalar.specs.Order.{absOf, signumOf}
 use Rattle.matrix.specs.Answers.{Stop}
@@ -249,12 +250,12 @@ module _ (o : Opening) (m : Memory) (p : Reply) (st : Standing) (g : Progress) w
   -- the tests are made with the numbers of the opening
   reaches-from : (r : Run) (hnew : Float) (b : Bool) → Grounds o r → ways.Reaches r hnew b → Reaches o (r .numbers .x) hnew b
   reaches-from r hnew b k e =
-      ap₂ (λ (end sign : Float). le (double 0) ((r .numbers .x ⊕ hnew ⊘ double 0x3ff0_0000_0000_0000 ⊖ end) ⊗ sign))
+      ap₂ (λ (end sign : Float). le «0·0» ((r .numbers .x ⊕ hnew ⊘ «1·0» ⊖ end) ⊗ sign))
       (sym (k .xend-is)) (sym (k .posneg-is)) ∙ e
 
   small-from : (r : Run) (b : Bool) → Grounds o r → ways.TooSmall r b → TooSmall o (r .numbers .h) (r .numbers .x) b
   small-from r b k e =
-      ap (λ (s : Settings). le (double 0x3fb9_9999_9999_999a ⊗ absOf (r .numbers .h)) (absOf (r .numbers .x) ⊗ s .uround))
+      ap (λ (s : Settings). le («0·1» ⊗ absOf (r .numbers .h)) (absOf (r .numbers .x) ⊗ s .uround))
       (sym (k .settings-are)) ∙ e
 
   within : {es : List Event} {r : Run} → TrueAt es (attempt r) → r .counts .total + 1 ≤ r .settings .«max_steps»

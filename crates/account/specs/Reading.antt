@@ -5,7 +5,7 @@ use mathlib.Core.Bool.{Bool, true, false, not, _&&_, _||_}
 use mathlib.Core.List.{List, [], _∷_}
 use lib.Dec.{eqb, ltb}
 use lib.Ieee.{Float}
-use Rattle.words.specs.Words.{double}
+use Rattle.words.specs.Constants.{«0·0»}
 use Rattle.words.specs.Loop.{pick}
 use Rattle.state.specs.declared.settings.Source.{Source}
 use Rattle.state.specs.declared.settings.Source.the-variants as source
@@ -217,7 +217,7 @@ progressReply (request.Ended s) p a g = g
 
 -- past the reply of a turn, before its events; and past them
 unfoldable pub progressAt : List Turn → Progress
-progressAt [] = progress (double 0) 0 0
+progressAt [] = progress «0·0» 0 0
 progressAt (t ∷ ts) =
     progressEvents (t .events) (progressReply (t .here .request) (t .here .place) (t .action .reply) (progressAt ts))
 

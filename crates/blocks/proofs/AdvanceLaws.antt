@@ -35,7 +35,10 @@ use Rattle.blocks.specs.Newton.{rounded, roundOf, resumed, againOf}
 use Rattle.blocks.specs.Judge.{judged, estimated, estimateOf, refinedOf}
 use Rattle.blocks.specs.Report.{askFirstReport, askReport, reportedOf, arrivedOf}
 use Rattle.blocks.specs.Jacobian.{asking, askJacobianOf, columned, columnOf}
-use Rattle.blocks.specs.Advance.{Stepped, stepped, setScal, setCont, setYCont, setF12, setNewton, setFactors, setDifferences, setColumn, startedOf, returnedOf, concludeOf, repliedOf, called, calledOf, outcome, advanceBy, advanceOf}
+use Rattle.blocks.specs.MemorySetters.{setScal, setCont, setYCont, setF12, setNewton, setFactors, setDifferences}
+use Rattle.blocks.specs.MemorySetters.{setColumn}
+use Rattle.blocks.specs.Advance.{Stepped, stepped, startedOf, returnedOf, concludeOf, repliedOf, called, calledOf}
+use Rattle.blocks.specs.Advance.{outcome, advanceBy, advanceOf}
 use Rattle.blocks.specs.Needs.{Fit, StepFit, RoundFit, ToldFit, NewtonLong}
 
 -- ---- past a report

@@ -10,7 +10,8 @@ use native.Mathlib.Omega.{arith}
 use lib.ListN.{length}
 use lib.Ieee.{Float, le}
 use borrow.Author.Tests.{lt-ltb, le-ltb}
-use Rattle.words.specs.Words.{double, _⊗_}
+use Rattle.words.specs.Words.{_⊗_}
+use Rattle.words.specs.Constants.{«0·1»}
 use Rattle.words.proofs.Branch.{yes, pick-yes, pick-no}
 use Rattle.scalar.specs.Order.{absOf}
 use Rattle.state.specs.declared.run.Run.{Run}
@@ -65,7 +66,7 @@ module _ (r : Run) (y scal cont : List Float) (m : Newton) where
       (within : r .counts .total + 1 ≤ r .settings .«max_steps»)
       (h x : Float) (he : h ≡ absOf (r .numbers .h)) (xe : x ≡ absOf (r .numbers .x)) where
     pub attempt-small :
-        le (double 0x3fb9_9999_9999_999a ⊗ h) (x ⊗ r .settings .uround) ≡ true →
+        le («0·1» ⊗ h) (x ⊗ r .settings .uround) ≡ true →
         (c : Call) → c ≡ endedOf StepSizeTooSmall (inCounts oneTotal r) →
         begunAs c scal cont m ≡ attemptOf r y scal cont m .core
     unfolding attemptOf
@@ -73,7 +74,7 @@ module _ (r : Run) (y scal cont : List Float) (m : Newton) where
         rw e (ap (λ (l : Logged Begun). l .core) (sym (pick-no _ _ (le-ltb _ _ within) ∙ pick-yes _ _ (rw (he, xe) at t))))
 
     pub attempt-begun :
-        le (double 0x3fb9_9999_9999_999a ⊗ h) (x ⊗ r .settings .uround) ≡ false →
+        le («0·1» ⊗ h) (x ⊗ r .settings .uround) ≡ false →
         (b : Begun) → b ≡ beganOf (inCounts oneTotal r) y scal cont m →
         b ≡ attemptOf r y scal cont m .core
     unfolding attemptOf

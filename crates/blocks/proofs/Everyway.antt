@@ -9,7 +9,7 @@ use native.Mathlib.Omega.{arith}
 use lib.Dec.{leb, ltb}
 use lib.Ieee.{Float, le}
 use borrow.Author.Tests.{ltb-true, ltb-false, leb-true, leb-false, not-true, not-false}
-use Rattle.words.specs.Words.{double}
+use Rattle.words.specs.Constants.{«1·0»}
 use Rattle.words.specs.Loop.{pick}
 use Rattle.words.specs.Grid.{Square}
 use Rattle.words.proofs.Branch.{pick-all}
@@ -212,7 +212,7 @@ module _ {p : Reply} {mass jac : List Float} {P : List Event → Position → Ty
       unfolding concludedOf
       concluded-at = pick-all (λ (v : Round). P es (roundAt v)) _ _ _ (λ e. c .not-near theta thqold faccon _ h) (λ e. c .near theta thqold faccon _ h)
 
-      module _ (dyth : Float) (predicted : le (double 0x3ff0_0000_0000_0000) dyth ≡ true) where
+      module _ (dyth : Float) (predicted : le «1·0» dyth ≡ true) where
         slow-at : (under : Rule) → r .settings .rule ≡ under → (shorter hhfac : Float)
             → P (es ++ (slow dyth ∷ [])) (roundAt (slowRound under (iterated theta thqold faccon dynold r ▸ slowed shorter hhfac)))
         unfolding slowRound
@@ -262,7 +262,7 @@ module _ {p : Reply} {mass jac : List Float} {P : List Event → Position → Ty
     judged-leads : P es (judging r) → Leads es (judgedOf r err z y cont) judgedAt
     unfolding judgedOf acceptedOf rejectedOf
     judged-leads h =
-        pick-all (λ (l : Logged Judged). Leads es l judgedAt) (le err (double 0x3ff0_0000_0000_0000)) _ _
+        pick-all (λ (l : Logged Judged). Leads es l judgedAt) (le err «1·0») _ _
         (λ met. pick-all
         (λ (s : Run). P (es ++ (accepted err (r .numbers .h) ∷ []))
         (stepAt

@@ -6,7 +6,8 @@ use mathlib.Core.List.{List}
 use borrow.Author.Needs.{needs}
 use lib.ListN.{length}
 use lib.Ieee.{Float, le}
-use Rattle.words.specs.Words.{double, _⊘_}
+use Rattle.words.specs.Words.{_⊘_}
+use Rattle.words.specs.Constants.{«1·0»}
 use Rattle.words.specs.Loop.{loop}
 use Rattle.words.proofs.Branch.{pick-yes, pick-no, pick-all}
 use Rattle.state.specs.declared.run.Counts.{Counts}
@@ -58,7 +59,7 @@ accepted-room r err quot s e f = rw e (pick-all (λ (t : Run). t .counts .ode + 
 -- ---- the judgement
 
 module _ (r : Run) (err : Float) (z : Three) (y cont : List Float) where
-  pub judge-accepted : (q : Float) (y′ cont′ : List Float) (s : Run) (a : Call) → le err (double 0x3ff0_0000_0000_0000) ≡ true
+  pub judge-accepted : (q : Float) (y′ cont′ : List Float) (s : Run) (a : Call) → le err «1·0» ≡ true
       → q ≡ quotOf (r .settings) (r .control .«newt_iter») err
       → moved y′ cont′ ≡ movedOf (r .shape .n) z (moved y cont)
       → s ≡ acceptedOf r err q
@@ -69,21 +70,22 @@ module _ (r : Run) (err : Float) (z : Three) (y cont : List Float) where
       rw (g, f, e) (ap (λ (m : Moved). judged (askAccepted (acceptedOf r err (quotOf (r .settings) (r .control .«newt_iter») err))) (m .y) (m .cont)) m)
       ∙ sym (ap (λ (l : Logged Judged). l .core) (pick-yes _ _ h))
 
-  pub judge-rejected : (q : Float) (s : Run) → le err (double 0x3ff0_0000_0000_0000) ≡ false
+  pub judge-rejected : (q : Float) (s : Run) → le err «1·0» ≡ false
       → q ≡ quotOf (r .settings) (r .control .«newt_iter») err
       → s ≡ rejectedOf (r ▸ inNumbers (setHnew (r .numbers .h ⊘ q))) (r .numbers .h ⊘ q)
       → judged (step.Main s) y cont ≡ judgedOf r err z y cont .core
   unfolding judgedOf
   judge-rejected q s h e f = rw (f, e) (sym (ap (λ (l : Logged Judged). l .core) (pick-no _ _ h)))
 
-  pub tested-asked : (cont′ : List Float) (a : Call) → (le (double 0x3ff0_0000_0000_0000) err && (r .control .first || r .control .reject)) ≡ true
+  pub tested-asked : (cont′ : List Float) (a : Call)
+      → (le «1·0» err && (r .control .first || r .control .reject)) ≡ true
       → cont′ ≡ loop (plusAt y) 0 (r .shape .n) cont
       → a ≡ call (r ▸ inCounts oneOde ▸ atStage stage.Refinement) (request.Derivative (r .numbers .x)) ContToF1
       → judged (step.Asked a) y cont′ ≡ testedOf r err z y cont .core
   unfolding testedOf
   tested-asked cont′ a h e f = rw (f, e) (sym (ap (λ (l : Logged Judged). l .core) (pick-yes _ _ h)))
 
-  pub tested-judged : (le (double 0x3ff0_0000_0000_0000) err && (r .control .first || r .control .reject)) ≡ false
+  pub tested-judged : (le «1·0» err && (r .control .first || r .control .reject)) ≡ false
       → judgedOf r err z y cont .core ≡ testedOf r err z y cont .core
   unfolding testedOf
   tested-judged h = sym (ap (λ (l : Logged Judged). l .core) (pick-no _ _ h))
@@ -129,14 +131,15 @@ module _ (k n : ℕ) (r : Run) (f : Fit k n r) (h : r .counts .rejected + (k + 1
   judged-fit : StepFit k n (judgedOf r err z y cont .core .step)
   unfolding judgedOf StepFit
   judged-fit =
-      pick-all (λ (l : Logged Judged). StepFit k n (l .core .step)) (le err (double 0x3ff0_0000_0000_0000)) _ _
+      pick-all (λ (l : Logged Judged). StepFit k n (l .core .step)) (le err «1·0») _ _
       (λ _. tt)
       (λ _. fit-rejected k n r _ f h)
 
   tested-fit : StepFit k n (testedOf r err z y cont .core .step)
   unfolding testedOf StepFit
   tested-fit =
-      pick-all (λ (l : Logged Judged). StepFit k n (l .core .step)) (le (double 0x3ff0_0000_0000_0000) err && (r .control .first || r .control .reject)) _ _
+      pick-all (λ (l : Logged Judged). StepFit k n (l .core .step))
+      (le «1·0» err && (r .control .first || r .control .reject)) _ _
       (λ _. tt)
       (λ _. judged-fit)
 

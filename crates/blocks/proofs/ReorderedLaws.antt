@@ -14,7 +14,8 @@ use lib.Ieee.{Float, inf, binary64, add, sub, mul, neg, eq, isNan, fits, ofBits,
 use lib.Ieee.Fits.{neg-fits, mul-fits}
 use lib.Ieee.Scale.{finite}
 use borrow.Author.Tests.{eq-eqb, ne-eqb}
-use Rattle.words.specs.Words.{double, _⊕_, _⊖_, _⊗_, _⊘_, _!_}
+use Rattle.words.specs.Words.{_⊕_, _⊖_, _⊗_, _⊘_, _!_}
+use Rattle.words.specs.Constants.{«0·0», «1·0»}
 use Rattle.words.specs.Loop.{loop, pick}
 use Rattle.words.specs.Grid.{at, put}
 use Rattle.words.proofs.Branch.{pick-yes, pick-no}
@@ -77,29 +78,28 @@ module _ (jac : List Float) where
       rw (set-comm (e .one) l k (a′ ⊖ jac ! l) (a ⊖ jac ! k) h, set-comm (e .two) l k (b′ ⊖ jac ! l) (b ⊖ jac ! k) h, set-comm (e .three) l k c′ c h)
 
   module _ (n : ℕ) (mass : List Float) (fac1 alphn betan : Float) where
-    abbrev one : Float
-    one = double 0x3ff0_0000_0000_0000
-
     abbrev plain : ℕ → Three → Three
-    plain = madeAt (double 0 ⊗ fac1) (double 0 ⊗ alphn) (double 0 ⊗ betan) jac
+    plain = madeAt («0·0» ⊗ fac1) («0·0» ⊗ alphn) («0·0» ⊗ betan) jac
 
     abbrev diagonal : ℕ → Three → Three
-    diagonal = diagonalAt n (one ⊗ fac1) (one ⊗ alphn) (one ⊗ betan) jac
+    diagonal = diagonalAt n («1·0» ⊗ fac1) («1·0» ⊗ alphn) («1·0» ⊗ betan) jac
 
     abbrev built : ℕ → ℕ → Three → Three
     built = buildAt Identity n mass jac fac1 alphn betan
 
     off-diagonal : (r c : ℕ) → r ≢ c → (e : Three) → built r c e ≡ plain (r * n + c) e
     unfolding buildAt massAt jacAt at put madeAt
-    off-diagonal r c h e = rw (pick-no one (double 0) (ne-eqb r c h))
+    off-diagonal r c h e = rw (pick-no «1·0» «0·0» (ne-eqb r c h))
 
     on-diagonal : (r : ℕ) (e : Three) → built r r e ≡ diagonal r e
     unfolding buildAt massAt jacAt at put madeAt diagonalAt
-    on-diagonal r e = rw (pick-yes one (double 0) (eq-eqb r r refl))
+    on-diagonal r e = rw (pick-yes «1·0» «0·0» (eq-eqb r r refl))
 
     diagonal-past : (r k : ℕ) → r * n + r ≢ k → (e : Three) → plain k (diagonal r e) ≡ diagonal r (plain k e)
     unfolding diagonalAt
-    diagonal-past r k h e = made-apart (double 0 ⊗ fac1) (double 0 ⊗ alphn) (double 0 ⊗ betan) (one ⊗ fac1) (one ⊗ alphn) (one ⊗ betan) k (r * n + r) e h
+    diagonal-past r k h e =
+        made-apart («0·0» ⊗ fac1) («0·0» ⊗ alphn) («0·0» ⊗ betan) («1·0» ⊗ fac1) («1·0» ⊗ alphn) («1·0» ⊗ betan)
+        k (r * n + r) e h
 
     module _ (r : ℕ) (hr : r < n) (e : Three) where
       abbrev row : ℕ → Three → Three
@@ -116,7 +116,8 @@ module _ (jac : List Float) where
           rw z
           (loop-more (built r) 0 r e (omega arith) ∙ on-diagonal r (loop (built r) 0 r e) ∙ ap (diagonal r) before
           ∙ sym
-          (made-anew (one ⊗ fac1) (one ⊗ alphn) (one ⊗ betan) (double 0 ⊗ fac1) (double 0 ⊗ alphn) (double 0 ⊗ betan) (r * n + r) (loop row 0 r e))
+          (made-anew («1·0» ⊗ fac1) («1·0» ⊗ alphn) («1·0» ⊗ betan) («0·0» ⊗ fac1) («0·0» ⊗ alphn) («0·0» ⊗ betan)
+          (r * n + r) (loop row 0 r e))
           ∙ ap (diagonal r) (sym (loop-more row 0 r e (omega arith))))
       beyond (suc d) =
           let z : r + 1 + suc d ≡ r + 1 + d + 1 = omega arith in
@@ -150,24 +151,25 @@ module _ (term : ℕ → Float) (n i : ℕ) (hi : i < n) (fit : T (fits binary64
   abbrev added : ℕ → Float → Float
   added j s = s ⊕ term j
 
-  zeros-only : loop added 0 i (double 0) ≡ double 0
+  zeros-only : loop added 0 i «0·0» ≡ «0·0»
   zeros-only =
-      through (λ (s : Float). s ≡ double 0) added 0 i (omega arith)
+      through (λ (s : Float). s ≡ «0·0») added 0 i (omega arith)
       (λ j l₁ l₂ s e. ap (λ (x : Float). x ⊕ term j) e ∙ zero-first (term j) (zeros j (omega arith) (λ z. omega arith)))
-      (double 0) refl
+      «0·0» refl
 
-  term-and-zeros : (d : ℕ) → i + 1 + d ≤ n → loop added 0 (i + 1 + d) (double 0) ≡ double 0 ⊕ term i
+  term-and-zeros : (d : ℕ) → i + 1 + d ≤ n → loop added 0 (i + 1 + d) «0·0» ≡ «0·0» ⊕ term i
   term-and-zeros zero l =
       let z : i + 1 + 0 ≡ i + 1 = omega arith in
-      rw z (loop-more added 0 i (double 0) (omega arith) ∙ ap (λ (x : Float). x ⊕ term i) zeros-only)
+      rw z (loop-more added 0 i «0·0» (omega arith) ∙ ap (λ (x : Float). x ⊕ term i) zeros-only)
   term-and-zeros (suc d) l =
       let z : i + 1 + suc d ≡ i + 1 + d + 1 = omega arith in
       rw z
-      (loop-more added 0 (i + 1 + d) (double 0) (omega arith) ∙ ap (λ (x : Float). x ⊕ term (i + 1 + d)) (term-and-zeros d (omega arith))
+      (loop-more added 0 (i + 1 + d) «0·0» (omega arith)
+      ∙ ap (λ (x : Float). x ⊕ term (i + 1 + d)) (term-and-zeros d (omega arith))
       ∙ zero-after (term i) (term (i + 1 + d)) fit (zeros (i + 1 + d) (omega arith) (λ y. omega arith)))
 
-  lone : loop added 0 n (double 0) ≡ double 0 ⊕ term i
-  lone = whole (λ (h : ℕ). loop added 0 h (double 0) ≡ double 0 ⊕ term i) (i + 1) n (omega arith) term-and-zeros
+  lone : loop added 0 n «0·0» ≡ «0·0» ⊕ term i
+  lone = whole (λ (h : ℕ). loop added 0 h «0·0» ≡ «0·0» ⊕ term i) (i + 1) n (omega arith) term-and-zeros
 
 -- ---- a row of the identity times a vector whose entries are finite
 
@@ -178,23 +180,24 @@ module _ (mass : List Float) (n i : ℕ) (hi : i < n) (values : List Float) (fin
   abbrev product : ℕ → Float
   product j = massAt Identity mass n i j ⊗ values ! j
 
-  one-there : product i ≡ double 0x3ff0_0000_0000_0000 ⊗ values ! i
+  one-there : product i ≡ «1·0» ⊗ values ! i
   unfolding massAt
-  one-there = rw (pick-yes (double 0x3ff0_0000_0000_0000) (double 0) (eq-eqb i i refl))
+  one-there = rw (pick-yes «1·0» «0·0» (eq-eqb i i refl))
 
   zero-elsewhere : (j : ℕ) → j < n → j ≢ i → isZero (product j) ≡ true
   unfolding massAt
-  zero-elsewhere j l h = rw (pick-no (double 0x3ff0_0000_0000_0000) (double 0) (ne-eqb i j (λ e. h (sym e)))) (zero-times (values ! j) (fine j l))
+  zero-elsewhere j l h = rw (pick-no «1·0» «0·0» (ne-eqb i j (λ e. h (sym e)))) (zero-times (values ! j) (fine j l))
 
-  sum-added : loop (λ (j : ℕ) (s : Float). s ⊕ product j) 0 n (double 0) ≡ double 0 ⊕ double 0x3ff0_0000_0000_0000 ⊗ values ! i
+  sum-added : loop (λ (j : ℕ) (s : Float). s ⊕ product j) 0 n «0·0» ≡ «0·0» ⊕ «1·0» ⊗ values ! i
   sum-added =
-      lone product n i hi (mul-fits binary64 (massAt Identity mass n i i) (values ! i)) zero-elsewhere ∙ ap (λ (x : Float). double 0 ⊕ x) one-there
+      lone product n i hi (mul-fits binary64 (massAt Identity mass n i i) (values ! i)) zero-elsewhere
+      ∙ ap (λ (x : Float). «0·0» ⊕ x) one-there
 
-  sum-taken : loop (λ (j : ℕ) (s : Float). s ⊖ product j) 0 n (double 0) ≡ double 0 ⊖ double 0x3ff0_0000_0000_0000 ⊗ values ! i
+  sum-taken : loop (λ (j : ℕ) (s : Float). s ⊖ product j) 0 n «0·0» ≡ «0·0» ⊖ «1·0» ⊗ values ! i
   unfolding sub
   sum-taken =
       lone (λ (j : ℕ). neg (product j)) n i hi (neg-fits binary64 (product i) (mul-fits binary64 (massAt Identity mass n i i) (values ! i)))
-      (λ j l h. zero-negated (product j) (zero-elsewhere j l h)) ∙ ap (λ (x : Float). double 0 ⊕ neg x) one-there
+      (λ j l h. zero-negated (product j) (zero-elsewhere j l h)) ∙ ap (λ (x : Float). «0·0» ⊕ neg x) one-there
 
 -- ---- the code's test
 
@@ -203,7 +206,7 @@ both true q h = (refl, h)
 both false q h = never (sym h)
 
 abbrev passed : List Float → ℕ → Bool
-passed values j = eq (values ! j ⊖ values ! j) (double 0)
+passed values j = eq (values ! j ⊖ values ! j) «0·0»
 
 last-passed : (n : ℕ) (values : List Float) → allFinite (suc n) values ≡ true → (allFinite n values ≡ true) × (passed values n ≡ true)
 unfolding allFinite finiteAt
@@ -245,10 +248,11 @@ module _ (n : ℕ) (mass : List Float) (f : Three) (test : allFinite n (f .one) 
   fine3 = all-finite n (f .three) (both (allFinite n (f .one) && allFinite n (f .two)) (allFinite n (f .three)) test .1)
 
   identity-sums : (i : ℕ) → i < n
-      → massSums Identity n mass f i ≡ sums (double 0 ⊖ double 0x3ff0_0000_0000_0000 ⊗ f .one ! i) (double 0 ⊖ double 0x3ff0_0000_0000_0000 ⊗ f .two ! i) (double 0 ⊖ double 0x3ff0_0000_0000_0000 ⊗ f .three ! i)
+      → massSums Identity n mass f i
+      ≡ sums («0·0» ⊖ «1·0» ⊗ f .one ! i) («0·0» ⊖ «1·0» ⊗ f .two ! i) («0·0» ⊖ «1·0» ⊗ f .three ! i)
   unfolding massSums massSumAt
   identity-sums i hi =
-      let start = sums (double 0) (double 0) (double 0) in
+      let start = sums «0·0» «0·0» «0·0» in
       let turn = massSumAt Identity n mass f i in
       same-sums (loop turn 0 n start)
       (part-alone (λ (s : Sums). s .sum1) turn (λ (j : ℕ) (s : Float). s ⊖ massAt Identity mass n i j ⊗ f .one ! j) 0 n (omega arith) (λ j s. refl) start
@@ -277,6 +281,6 @@ pub not-without-test :
     → ⊥
 unfolding loop pick identityAddAt massAddAt massSums massSumAt massAt addSums add sub mul neg sum round ofBits isNan
 not-without-test wrong =
-    let one = double 0x3ff0_0000_0000_0000 in
+    let one = «1·0» in
     let ones = one ∷ one ∷ [] in
     never (ap (λ (t : Three). isNan (t .one ! 1)) (sym (wrong 2 [] (three (inf false ∷ one ∷ []) ones ones) one one one (three ones ones ones))))

@@ -7,7 +7,8 @@ use mathlib.Core.Path.{_≡_}
 use mathlib.Core.Bool.{Bool, true, false}
 use mathlib.Core.List.{List, [], _∷_, _++_}
 use lib.Ieee.{Float, le, lt}
-use Rattle.words.specs.Words.{double, _⊕_, _⊖_, _⊗_, _⊘_}
+use Rattle.words.specs.Words.{_⊕_, _⊖_, _⊗_, _⊘_}
+use Rattle.words.specs.Constants.{«0·0», «1·0», «0·99», «0·1»}
 use Rattle.scalar.specs.Order.{absOf}
 use Rattle.matrix.specs.Answers.{nowhere, column}
 use Rattle.state.specs.declared.settings.Number.{Number}
@@ -91,13 +92,11 @@ isModified (reply.Mark x) = false
 
 -- a step of hnew from x reaches the end point (radau.rs:764), spelled out: a rule leans on no definition's test
 abbrev pub Reaches : Run → Float → Bool → Type 0
-Reaches r hnew b =
-    le (double 0) ((r .numbers .x ⊕ hnew ⊘ double 0x3ff0_0000_0000_0000 ⊖ r .fixed .xend) ⊗ r .fixed .posneg) ≡ b
+Reaches r hnew b = le «0·0» ((r .numbers .x ⊕ hnew ⊘ «1·0» ⊖ r .fixed .xend) ⊗ r .fixed .posneg) ≡ b
 
 -- the step is too small (radau.rs:430)
 abbrev pub TooSmall : Run → Bool → Type 0
-TooSmall r b =
-    le (double 0x3fb9_9999_9999_999a ⊗ absOf (r .numbers .h)) (absOf (r .numbers .x) ⊗ r .settings .uround) ≡ b
+TooSmall r b = le («0·1» ⊗ absOf (r .numbers .h)) (absOf (r .numbers .x) ⊗ r .settings .uround) ≡ b
 
 -- ---- the rules, for the reply p, and for the mass and the Jacobian of which the passes build their matrices
 
@@ -169,12 +168,17 @@ pub record Closed (p : Reply) (mass jac : List Float) (P : List Event → Positi
       → P es (asked (call (r ▸ inCounts oneOde ▸ atStage stage.Newton3) (request.Derivative x) place.ContToZ3))
   pub not-near : {es : List Event} {r : Run} (theta thqold faccon dynold : Float) → P es (replied stage.Newton3 r) → P es (newton (iterated theta thqold faccon dynold r))
   pub near : {es : List Event} {r : Run} (theta thqold faccon dynold : Float) → P es (replied stage.Newton3 r) → P es (estimate (iterated theta thqold faccon dynold r))
-  pub diverges : {es : List Event} {r : Run} (theta thqold faccon dynold : Float) → lt theta (double 0x3fef_ae14_7ae1_47ae) ≡ false → P es (replied stage.Newton3 r)
+  pub diverges : {es : List Event} {r : Run} (theta thqold faccon dynold : Float)
+      → lt theta «0·99» ≡ false → P es (replied stage.Newton3 r)
       → P (es ++ (diverged theta ∷ [])) (failing (iterated theta thqold faccon dynold r))
-  pub slow-rust : {es : List Event} {r : Run} (theta thqold faccon dynold dyth h hhfac : Float) → r .settings .rule ≡ rule.Rust → le (double 0x3ff0_0000_0000_0000) dyth ≡ true
-      → P es (replied stage.Newton3 r) → P (es ++ (slow dyth ∷ [])) (estimate (iterated theta thqold faccon dynold r ▸ slowed h hhfac ▸ inControl (setLast false)))
-  pub slow-book : {es : List Event} {r : Run} (theta thqold faccon dynold dyth h hhfac : Float) → r .settings .rule ≡ rule.Book → le (double 0x3ff0_0000_0000_0000) dyth ≡ true
-      → P es (replied stage.Newton3 r) → P (es ++ (slow dyth ∷ [])) (main (iterated theta thqold faccon dynold r ▸ slowed h hhfac ▸ inControl missed))
+  pub slow-rust : {es : List Event} {r : Run} (theta thqold faccon dynold dyth h hhfac : Float)
+      → r .settings .rule ≡ rule.Rust → le «1·0» dyth ≡ true → P es (replied stage.Newton3 r)
+      → P (es ++ (slow dyth ∷ []))
+      (estimate (iterated theta thqold faccon dynold r ▸ slowed h hhfac ▸ inControl (setLast false)))
+  pub slow-book : {es : List Event} {r : Run} (theta thqold faccon dynold dyth h hhfac : Float)
+      → r .settings .rule ≡ rule.Book → le «1·0» dyth ≡ true → P es (replied stage.Newton3 r)
+      → P (es ++ (slow dyth ∷ []))
+      (main (iterated theta thqold faccon dynold r ▸ slowed h hhfac ▸ inControl missed))
   pub used-up : {es : List Event} {r : Run} → r .settings .«newton_maxiter» ≤ r .control .«newt_iter» → P es (newton r) → P (es ++ (rounds-used (r .control .«newt_iter») ∷ [])) (failing r)
   pub another-round : {es : List Event} {r : Run} (x : Float) → r .control .«newt_iter» < r .settings .«newton_maxiter» → P es (newton r)
       → P es (asked (call (r ▸ inCounts oneOde ▸ atStage stage.Newton1) (request.Derivative x) place.ContToZ1))
@@ -183,12 +187,14 @@ pub record Closed (p : Reply) (mass jac : List Float) (P : List Event → Positi
       → P (es ++ (error-solve ∷ [])) (asked (call (r ▸ inCounts oneLu ▸ inCounts oneOde ▸ atStage stage.Refinement) (request.Derivative (r .numbers .x)) place.ContToF1))
   pub estimated : {es : List Event} {r : Run} → P es (estimate r) → P (es ++ (error-solve ∷ [])) (judging (r ▸ inCounts oneLu))
   pub refined : {es : List Event} {r : Run} → P es (replied stage.Refinement r) → P es (judging r)
-  pub accepts : {es : List Event} {r : Run} (err hnew hacc erracc : Float) → le err (double 0x3ff0_0000_0000_0000) ≡ true → P es (judging r)
+  pub accepts : {es : List Event} {r : Run} (err hnew hacc erracc : Float) → le err «1·0» ≡ true → P es (judging r)
       → P (es ++ (accepted err (r .numbers .h) ∷ []))
       (asked (call (acceptedRun hnew hacc erracc r ▸ inCounts oneOde ▸ atStage stage.Accepted) (request.Derivative (r .numbers .xph)) place.YToF0))
-  pub fails-first : {es : List Event} {r : Run} (err hnew h hhfac : Float) → le err (double 0x3ff0_0000_0000_0000) ≡ false → r .control .first ≡ true → P es (judging r)
+  pub fails-first : {es : List Event} {r : Run} (err hnew h hhfac : Float)
+      → le err «1·0» ≡ false → r .control .first ≡ true → P es (judging r)
       → P (es ++ (failed err ∷ [])) (main (r ▸ inNumbers (setHnew hnew) ▸ stepOf h hhfac ▸ inControl missed))
-  pub fails-later : {es : List Event} {r : Run} (err hnew h hhfac : Float) → le err (double 0x3ff0_0000_0000_0000) ≡ false → r .control .first ≡ false → P es (judging r)
+  pub fails-later : {es : List Event} {r : Run} (err hnew h hhfac : Float)
+      → le err «1·0» ≡ false → r .control .first ≡ false → P es (judging r)
       → P (es ++ (failed err ∷ [])) (main (r ▸ inNumbers (setHnew hnew) ▸ stepOf h hhfac ▸ inCounts oneRejected ▸ inControl missed))
   pub accepted-filled : {es : List Event} {r : Run} (offered : Bool) → P es (replied stage.Accepted r)
       → P es (asked (call (r ▸ atStage stage.Report) (request.Report (r .numbers .xold) (r .numbers .x) offered) place.Nowhere))

@@ -14,7 +14,8 @@ use lib.Ieee.Fits.{up-pos, down-pos, round-fits, and-l, and-r}
 use lib.Ieee.Exact.{HasValue, round-exact}
 use lib.Ieee.Scale.{round-same, finite}
 use borrow.Author.Tests.{lt-ltb, le-ltb, eq-eqb}
-use Rattle.words.specs.Words.{double, _⊕_, _⊖_, _⊗_}
+use Rattle.words.specs.Words.{_⊕_, _⊖_, _⊗_}
+use Rattle.words.specs.Constants.{«0·0»}
 use Rattle.scalar.proofs.Tests.{isZero, never}
 use Rattle.scalar.proofs.OrderLaws.{equal-same}
 
@@ -119,7 +120,7 @@ sum-second false true a c h = let e : a - 0 ≡ a = omega arith in rw (le-ltb a 
 -- ---- the laws
 
 module _ (t : Bool) (n : ℕ) (d : ℤ) (fit : T (fits binary64 (fin t (suc n) d))) where
-  first-gone : double 0 ⊕ fin t (suc n) d ≡ fin t (suc n) d
+  first-gone : «0·0» ⊕ fin t (suc n) d ≡ fin t (suc n) d
   unfolding add ofBits
   first-gone =
       ap (λ (a : ℕ). sum binary64 false a t (suc n * up d * 1) (1 * down d)) (zero-mul (down d))
@@ -136,7 +137,7 @@ module _ (t : Bool) (n : ℕ) (d : ℤ) (fit : T (fits binary64 (fin t (suc n) d
       (mul-assoc (suc n * up d) (down e) (down d) ∙ ap (λ (x : ℕ). suc n * up d * x) (mul-comm (down e) (down d)))
       ∙ given-back t n d fit
 
-pub zero-first : (z : Float) → isZero z ≡ true → double 0 ⊕ z ≡ double 0
+pub zero-first : (z : Float) → isZero z ≡ true → «0·0» ⊕ z ≡ «0·0»
 unfolding add ofBits
 zero-first nan h = never (sym h)
 zero-first (inf s) h = never (sym h)
@@ -146,7 +147,7 @@ zero-first (fin s zero e) h =
     ∙ sum-zeros s (1 * down e) ∙ round-zero false (1 * down e) (mul-pos (zero-lt-suc 0) (down-pos e))
 zero-first (fin s (suc m) e) h = never (sym h)
 
-pub zero-after : (y z : Float) → T (fits binary64 y) → isZero z ≡ true → double 0 ⊕ y ⊕ z ≡ double 0 ⊕ y
+pub zero-after : (y z : Float) → T (fits binary64 y) → isZero z ≡ true → «0·0» ⊕ y ⊕ z ≡ «0·0» ⊕ y
 unfolding add ofBits
 zero-after y nan f h = never (sym h)
 zero-after y (inf s) f h = never (sym h)
@@ -160,7 +161,7 @@ zero-after (fin t (suc n) d) (fin s zero e) f h =
     let w = first-gone t n d f in
     ap (λ (x : Float). x ⊕ fin s 0 e) w ∙ second-gone t n d f s e ∙ sym w
 
-pub zero-times : (x : Float) → T (finite x) → isZero (double 0 ⊗ x) ≡ true
+pub zero-times : (x : Float) → T (finite x) → isZero («0·0» ⊗ x) ≡ true
 unfolding mul ofBits
 zero-times nan h = absurd h
 zero-times (inf s) h = absurd h
@@ -176,7 +177,7 @@ zero-negated (inf s) h = h
 zero-negated (fin s zero e) h = h
 zero-negated (fin s (suc m) e) h = h
 
-pub less-itself : (x : Float) → eq (x ⊖ x) (double 0) ≡ true → T (finite x)
+pub less-itself : (x : Float) → eq (x ⊖ x) «0·0» ≡ true → T (finite x)
 unfolding eq sub add neg ofBits
 less-itself nan h = never (sym h)
 less-itself (inf true) h = never (sym h)

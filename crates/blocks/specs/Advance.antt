@@ -1,4 +1,5 @@
--- An advance: refused by the first row that holds, and then nothing is written; else `solve` goes on from the call of the host that the reply answers, up to its next one.
+-- An advance: refused by the first row that holds, and then nothing is written; else `solve` goes on from the call of
+-- the host that the reply answers, up to its next one.
 use mathlib.Core.List.{List}
 use lib.Ieee.{Float}
 use Rattle.words.specs.Words.{_⊕_, _⊗_}
@@ -12,7 +13,7 @@ use Rattle.state.specs.declared.talk.Place.the-variants.{ContToZ2, ContToZ3}
 use Rattle.state.specs.declared.talk.Reply.{Reply}
 use Rattle.state.specs.declared.talk.Verdict.{Verdict}
 use Rattle.state.specs.declared.talk.Verdict.the-variants as verdict
-use Rattle.state.specs.Memory.{Memory, memory, amounts, Newton, newton, given, Factors, Differences, differences}
+use Rattle.state.specs.Memory.{Memory, memory, amounts}
 use Rattle.opening.specs.Rows.{verdictOf}
 use Rattle.opening.specs.Admission.{admissionRows}
 use Rattle.blocks.specs.declared.step.Call.{Call}
@@ -22,6 +23,8 @@ use Rattle.blocks.specs.declared.step.Round.{Round}
 use Rattle.blocks.specs.declared.step.Round.the-variants as round
 use Rattle.blocks.specs.declared.step.Step.{Step}
 use Rattle.blocks.specs.declared.step.Step.the-variants as step
+use Rattle.blocks.specs.MemorySetters.{setScal, setCont, setYCont, setF12}
+use Rattle.blocks.specs.MemorySetters.{setNewton, setFactors, setDifferences, setColumn}
 use Rattle.blocks.specs.Events.{Logged, logged, quiet, andThen}
 use Rattle.blocks.specs.Scale.{scaledOf}
 use Rattle.blocks.specs.Matrices.{endedOf, passesOf}
@@ -38,34 +41,6 @@ pub record Stepped : Type 0 where
 
 abbrev pub stepped : Step → Memory → Stepped
 stepped s m = record { step = s; memory = m }
-
--- ---- memory with some parts exchanged
-
-abbrev pub setScal : List Float → Memory → Memory
-setScal scal m = memory (amounts (m .amounts .y) (m .amounts .f0) scal (m .amounts .cont)) (m .newton) (m .given) (m .factors) (m .differences)
-
-abbrev pub setCont : List Float → Memory → Memory
-setCont cont m = memory (amounts (m .amounts .y) (m .amounts .f0) (m .amounts .scal) cont) (m .newton) (m .given) (m .factors) (m .differences)
-
-abbrev pub setYCont : List Float → List Float → Memory → Memory
-setYCont y cont m = memory (amounts y (m .amounts .f0) (m .amounts .scal) cont) (m .newton) (m .given) (m .factors) (m .differences)
-
-abbrev pub setF12 : List Float → List Float → Memory → Memory
-setF12 f1 f2 m = memory (m .amounts) (newton (m .newton .z1) (m .newton .z2) (m .newton .z3) f1 f2 (m .newton .f3)) (m .given) (m .factors) (m .differences)
-
-abbrev pub setNewton : Newton → Memory → Memory
-setNewton z m = memory (m .amounts) z (m .given) (m .factors) (m .differences)
-
-abbrev pub setFactors : Factors → Memory → Memory
-setFactors f m = memory (m .amounts) (m .newton) (m .given) f (m .differences)
-
-abbrev pub setDifferences : Differences → Memory → Memory
-setDifferences d m = memory (m .amounts) (m .newton) (m .given) (m .factors) d
-
-abbrev pub setColumn : List Float → List Float → Memory → Memory
-setColumn yp jac m =
-    memory (m .amounts) (m .newton) (given (m .given .rtol) (m .given .atol) (m .given .mass) jac) (m .factors)
-    (differences yp (m .differences .«f_perturbed») (m .differences .«f_origin»))
 
 -- ---- from a reply to a label
 

@@ -1,12 +1,12 @@
 -- An attempt begins: its two guards, the scale, the first guess of the stages, and the request for the first of them (radau.rs:421-502).
--- Doubles by their patterns: 0x3f50_624d_d2f1_a9fc is 0.001, 0x3fb9_9999_9999_999a is 0.1; double 0 is +0.
 use Prim.Native.Nat.{ℕ, _+_, _*_}
 use mathlib.Core.Bool.{Bool}
 use mathlib.Core.List.{List, [], _∷_}
 use lib.Dec.{ltb}
 use lib.ListN.{set}
 use lib.Ieee.{Float, le}
-use Rattle.words.specs.Words.{double, _⊕_, _⊖_, _⊗_, _⊘_, _!_}
+use Rattle.words.specs.Words.{_⊕_, _⊖_, _⊗_, _⊘_, _!_}
+use Rattle.words.specs.Constants.{«0·1», «0·001»}
 use Rattle.words.specs.Loop.{loop, pick}
 use Rattle.scalar.specs.Order.{absOf, maxOf}
 use Rattle.scalar.specs.Powers.{fourFifthsOf}
@@ -85,9 +85,9 @@ pub record Begun : Type 0 where
 abbrev pub begunAs : Call → List Float → List Float → Newton → Begun
 begunAs c scal cont m = record { call = c; scal = scal; cont = cont; newton = m }
 
--- 0.001 [radau.rs:313]
+-- [radau.rs:313]
 abbrev pub thet : Float
-thet = double 0x3f50_624d_d2f1_a9fc
+thet = «0·001»
 
 -- what the Newton iteration starts with
 abbrev pub started : Run → Run
@@ -114,6 +114,6 @@ attemptOf r y scal cont m =
     let x = r .numbers .x in
     pick (ltb (r .settings .«max_steps») (r .counts .total + 1))
     (logged (begunAs (endedOf NeedLargerNMax s) scal cont m) (over-limit ∷ []))
-    (pick (le (double 0x3fb9_9999_9999_999a ⊗ absOf h) (absOf x ⊗ r .settings .uround))
+    (pick (le («0·1» ⊗ absOf h) (absOf x ⊗ r .settings .uround))
     (logged (begunAs (endedOf StepSizeTooSmall s) scal cont m) (too-small h x ∷ []))
     (logged (beganOf s y scal cont m) (begun h x ∷ [])))

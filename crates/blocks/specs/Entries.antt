@@ -1,11 +1,11 @@
 -- Entries that depend on a mode: of the mass matrix, of the Jacobian, of the tolerances; and the sums of three products that `solve` is full of.
--- Doubles by their patterns: 0x3ff0_0000_0000_0000 is 1.0; double 0 is +0.
 use Prim.Native.Nat.{ℕ}
 use mathlib.Core.List.{List}
 use lib.Dec.{eqb}
 use lib.Ieee.{Float, binary64, ofInt}
 use lib.IntN.{pos}
-use Rattle.words.specs.Words.{double, _⊕_, _⊗_, _!_}
+use Rattle.words.specs.Words.{_⊕_, _⊗_, _!_}
+use Rattle.words.specs.Constants.{«0·0», «1·0»}
 use Rattle.words.specs.Loop.{pick}
 use Rattle.words.specs.Grid.{at}
 use Rattle.state.specs.declared.settings.Mass.{Mass}
@@ -15,7 +15,7 @@ use Rattle.state.specs.declared.run.Tolerances.the-variants.{Scalars, Lists}
 
 -- `mass[(r, c)]` (matrix/index.rs:17-25)
 unfoldable pub massAt : Mass → List Float → ℕ → ℕ → ℕ → Float
-massAt Identity mass n r c = pick (eqb r c) (double 0x3ff0_0000_0000_0000) (double 0)
+massAt Identity mass n r c = pick (eqb r c) «1·0» «0·0»
 massAt Full mass n r c = at mass n r c
 
 -- `jac[(r, c)]` (matrix/index.rs:25)

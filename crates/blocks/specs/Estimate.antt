@@ -1,10 +1,10 @@
 -- The error of an attempt whose Newton iteration is over (radau.rs:622-669).
--- Doubles by their patterns: 0x3ddb_7cdf_d9d7_bdbb is 1e-10; double 0 is +0.
 use Prim.Native.Nat.{ℕ}
 use mathlib.Core.List.{List, _++_}
 use lib.ListN.{set, take, drop}
 use lib.Ieee.{Float}
-use Rattle.words.specs.Words.{double, _⊕_, _⊗_, _⊘_, _!_}
+use Rattle.words.specs.Words.{_⊕_, _⊗_, _⊘_, _!_}
+use Rattle.words.specs.Constants.{«0·0», «1e-10»}
 use Rattle.words.specs.Loop.{loop}
 use Rattle.scalar.specs.Order.{maxOf}
 use Rattle.scalar.specs.Sqrt.{sqrtOf}
@@ -27,7 +27,7 @@ rowAt mode n mass f1 i j sum = sum ⊕ massAt mode mass n i j ⊗ f1 ! j
 
 -- [radau.rs:630-631]
 unfoldable pub rowSum : Mass → ℕ → List Float → List Float → ℕ → Float
-rowSum mode n mass f1 i = loop (rowAt mode n mass f1 i) 0 n (double 0)
+rowSum mode n mass f1 i = loop (rowAt mode n mass f1 i) 0 n «0·0»
 
 pub record Sides : Type 0 where
   pub f2 : List Float
@@ -58,7 +58,7 @@ errorAt scal cont i err =
 
 -- a NaN becomes 1e-10 [radau.rs:646] [again radau.rs:668]
 unfoldable pub errorOf : ℕ → List Float → List Float → Float
-errorOf n scal cont = maxOf (sqrtOf (loop (errorAt scal cont) 0 n (double 0) ⊘ asFloat n)) (double 0x3ddb_7cdf_d9d7_bdbb)
+errorOf n scal cont = maxOf (sqrtOf (loop (errorAt scal cont) 0 n «0·0» ⊘ asFloat n)) «1e-10»
 
 -- [radau.rs:650-652]
 unfoldable pub plusAt : List Float → ℕ → List Float → List Float

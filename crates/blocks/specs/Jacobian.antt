@@ -1,11 +1,11 @@
 -- The Jacobian: asked of the host, or made by differences of derivatives, one request for each column and one at the point itself (radau.rs:370-374; ivp.rs:67-107).
--- Doubles by their patterns: 0x3e50_0000_0000_0000 is 2^-26, 0x3ff0_0000_0000_0000 is 1.0; double 0 is +0.
 use Prim.Native.Nat.{ℕ, suc, zero, _+_}
 use mathlib.Core.List.{List}
 use lib.Dec.{ltb}
 use lib.ListN.{set}
 use lib.Ieee.{Float}
-use Rattle.words.specs.Words.{double, _⊕_, _⊖_, _⊗_, _⊘_, _!_}
+use Rattle.words.specs.Words.{_⊕_, _⊖_, _⊗_, _⊘_, _!_}
+use Rattle.words.specs.Constants.{«1·0», «2^-26»}
 use Rattle.words.specs.Loop.{loop, pick}
 use Rattle.words.specs.Grid.{put}
 use Rattle.scalar.specs.Order.{absOf, maxOf}
@@ -42,7 +42,7 @@ askJacobianOf r y d = askJacobianBy (r .settings .source) r y d
 -- [ivp.rs:87-91]
 unfoldable pub perturbation : Float → Float
 -- the root of 2^-52 is 2^-26 [ivp.rs:82-83]
-perturbation y = double 0x3e50_0000_0000_0000 ⊗ maxOf (absOf y) (double 0x3ff0_0000_0000_0000)
+perturbation y = «2^-26» ⊗ maxOf (absOf y) «1·0»
 
 pub record Columned : Type 0 where
   pub step : Step

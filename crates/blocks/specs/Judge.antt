@@ -1,12 +1,12 @@
 -- The attempt is judged by its error: the next step, an acceptance or a rejection (radau.rs:649-712, 780-795).
--- Doubles by their patterns: 0x3ff0_0000_0000_0000 is 1.0, 0x4000_0000_0000_0000 is 2.0, 0x3f84_7ae1_47ae_147b is 1e-2, 0x3fb9_9999_9999_999a is 0.1; double 0 is +0.
 use Prim.Native.Nat.{ℕ, _+_, _*_}
 use mathlib.Core.Bool.{false, _&&_, _||_}
 use mathlib.Core.List.{List, [], _∷_}
 use lib.Dec.{ltb}
 use lib.ListN.{set}
 use lib.Ieee.{Float, le}
-use Rattle.words.specs.Words.{double, _⊕_, _⊖_, _⊗_, _⊘_, _!_}
+use Rattle.words.specs.Words.{_⊕_, _⊖_, _⊗_, _⊘_, _!_}
+use Rattle.words.specs.Constants.{«1·0», «2·0», «0·1», «1e-2»}
 use Rattle.words.specs.Loop.{loop, pick}
 use Rattle.scalar.specs.Order.{maxOf, minOf}
 use Rattle.scalar.specs.Powers.{quarterOf}
@@ -29,19 +29,19 @@ use Rattle.blocks.specs.Estimate.{defectOf, sides, sidesOf, solvedFirst,
 
 -- [radau.rs:167]
 abbrev pub facl : Settings → Float
-facl s = double 0x3ff0_0000_0000_0000 ⊘ s .«scale_min»
+facl s = «1·0» ⊘ s .«scale_min»
 
 -- [radau.rs:168]
 abbrev pub facr : Settings → Float
-facr s = double 0x3ff0_0000_0000_0000 ⊘ s .«scale_max»
+facr s = «1·0» ⊘ s .«scale_max»
 
 -- [radau.rs:308]
 abbrev pub cfac : Settings → Float
-cfac s = s .«safety_factor» ⊗ (double 0x3ff0_0000_0000_0000 ⊕ double 0x4000_0000_0000_0000 ⊗ asFloat (s .«newton_maxiter»))
+cfac s = s .«safety_factor» ⊗ («1·0» ⊕ «2·0» ⊗ asFloat (s .«newton_maxiter»))
 
 -- [radau.rs:671-672]
 unfoldable pub facOf : Settings → ℕ → Float
-facOf s newt = minOf (s .«safety_factor») (cfac s ⊘ (asFloat newt ⊕ double 0x4000_0000_0000_0000 ⊗ asFloat (s .«newton_maxiter»)))
+facOf s newt = minOf (s .«safety_factor») (cfac s ⊘ (asFloat newt ⊕ «2·0» ⊗ asFloat (s .«newton_maxiter»)))
 
 -- between facr and facl (radau.rs:673, 686)
 unfoldable pub between : Settings → Float → Float
@@ -85,7 +85,7 @@ movedOf n z m = loop (moveAt n z) 0 n m
 abbrev pub remembered : Float → Run → Run
 remembered err r =
     pick (r .settings .predictive)
-    (r ▸ inNumbers (setHAcc (r .numbers .h)) ▸ inNumbers (setErrAcc (maxOf err (double 0x3f84_7ae1_47ae_147b))))
+    (r ▸ inNumbers (setHAcc (r .numbers .h)) ▸ inNumbers (setErrAcc (maxOf err «1e-2»)))
     r
 
 unfoldable pub acceptedOf : Run → Float → Float → Run
@@ -110,7 +110,7 @@ askAccepted r = step.Asked (call (r ▸ inCounts oneOde ▸ atStage stage.Accept
 unfoldable pub rejectedOf : Run → Float → Run
 rejectedOf r hnew =
     pick (r .control .first)
-    (r ▸ inNumbers (setH (r .numbers .h ⊗ double 0x3fb9_9999_9999_999a)) ▸ inNumbers (setHhfac (double 0x3fb9_9999_9999_999a)) ▸ inControl missed)
+    (r ▸ inNumbers (setH (r .numbers .h ⊗ «0·1»)) ▸ inNumbers (setHhfac «0·1») ▸ inControl missed)
     (r ▸ inNumbers (setHhfac (hnew ⊘ r .numbers .h)) ▸ inNumbers (setH hnew) ▸ inCounts oneRejected ▸ inControl missed)
 
 -- ---- the judgement
@@ -129,7 +129,7 @@ judgedOf r err z y cont =
     let quot = quotOf (r .settings) (r .control .«newt_iter») err in
     let m = movedOf (r .shape .n) z (moved y cont) in
     let hnew = r .numbers .h ⊘ quot in
-    pick (le err (double 0x3ff0_0000_0000_0000))
+    pick (le err «1·0»)
     (logged (judged (askAccepted (acceptedOf r err quot)) (m .y) (m .cont)) (accepted err (r .numbers .h) ∷ []))
     (logged (judged (step.Main (rejectedOf (r ▸ inNumbers (setHnew hnew)) hnew)) y cont) (failed err ∷ []))
 
@@ -151,7 +151,7 @@ withJudged f1 f2 l = logged (estimated (l .core .step) (l .core .y) (l .core .co
 -- before the first acceptance and after a rejection an error that is too large is refined by one derivative, at the old x [radau.rs:648-649]
 unfoldable pub testedOf : Run → Float → Three → List Float → List Float → Logged Judged
 testedOf r err z y cont =
-    pick (le (double 0x3ff0_0000_0000_0000) err && (r .control .first || r .control .reject))
+    pick (le «1·0» err && (r .control .first || r .control .reject))
     -- [radau.rs:653-654]
     (quiet (judged (step.Asked (call (r ▸ inCounts oneOde ▸ atStage stage.Refinement) (request.Derivative (r .numbers .x)) ContToF1)) y (loop (plusAt y) 0 (r .shape .n) cont)))
     (judgedOf r err z y cont)

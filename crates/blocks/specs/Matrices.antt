@@ -1,11 +1,11 @@
 -- The matrices E1 and E2 of a pass, and the two decompositions, with what a singular one leads to (radau.rs:376-419).
--- Doubles by their patterns: 0x3fe0_0000_0000_0000 is 0.5; double 0 is +0.
 use Prim.Native.Nat.{ℕ, _+_}
 use mathlib.Core.Bool.{Bool, true, false, not}
 use mathlib.Core.List.{List, [], _∷_}
 use lib.Dec.{ltb}
 use lib.Ieee.{Float}
-use Rattle.words.specs.Words.{double, _⊖_, _⊗_, _⊘_}
+use Rattle.words.specs.Words.{_⊖_, _⊗_, _⊘_}
+use Rattle.words.specs.Constants.{«0·5»}
 use Rattle.words.specs.Loop.{loop, pick}
 use Rattle.words.specs.Grid.{put}
 use Rattle.scalar.specs.Coefficients.{U1, ALPH, BETA}
@@ -54,7 +54,7 @@ unfoldable pub failedOf : Run → Step
 failedOf r =
     let s = r ▸ inControl (setSingular (r .control .«singular_count» + 1)) in
     pick (ltb 5 (r .control .«singular_count» + 1)) (step.Asked (endedOf SingularMatrix s))
-    (step.Main (s ▸ inNumbers (setH (r .numbers .h ⊗ double 0x3fe0_0000_0000_0000)) ▸ inNumbers (setHhfac (double 0x3fe0_0000_0000_0000)) ▸ inControl missed))
+    (step.Main (s ▸ inNumbers (setH (r .numbers .h ⊗ «0·5»)) ▸ inNumbers (setHhfac «0·5») ▸ inControl missed))
 
 -- ---- the matrices
 

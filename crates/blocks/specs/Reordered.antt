@@ -1,13 +1,13 @@
 -- Where this port's code goes another way than radau.rs, which no offered contract speaks of (proofs/ReorderedLaws.antt: what it leaves is the same):
 --     the three matrices are made in one pass over their n * n entries; under Identity as if no entry stood on the diagonal, and the diagonal is then made anew
 --     under Identity a row of the mass matrix times a vector whose entries are finite is a single term, the others being zeros
--- Doubles by their patterns: 0x3ff0_0000_0000_0000 is 1.0; double 0 is +0.
 use Prim.Native.Nat.{ℕ, _+_, _*_}
 use mathlib.Core.Bool.{Bool, true, _&&_}
 use mathlib.Core.List.{List}
 use lib.ListN.{set}
 use lib.Ieee.{Float, eq}
-use Rattle.words.specs.Words.{double, _⊕_, _⊖_, _⊗_, _!_}
+use Rattle.words.specs.Words.{_⊕_, _⊖_, _⊗_, _!_}
+use Rattle.words.specs.Constants.{«0·0», «1·0»}
 use Rattle.words.specs.Loop.{loop}
 use Rattle.blocks.specs.Entries.{Three, three}
 use Rattle.blocks.specs.Newton.{sums, addSums}
@@ -27,25 +27,24 @@ diagonalAt n a b c jac r e = madeAt a b c jac (r * n + r) e
 
 unfoldable pub identityBuilt : ℕ → List Float → Float → Float → Float → Three → Three
 identityBuilt n jac fac1 alphn betan e =
-    let zero = double 0 in
-    let one = double 0x3ff0_0000_0000_0000 in
-    loop (diagonalAt n (one ⊗ fac1) (one ⊗ alphn) (one ⊗ betan) jac) 0 n (loop (madeAt (zero ⊗ fac1) (zero ⊗ alphn) (zero ⊗ betan) jac) 0 (n * n) e)
+    loop (diagonalAt n («1·0» ⊗ fac1) («1·0» ⊗ alphn) («1·0» ⊗ betan) jac) 0 n
+    (loop (madeAt («0·0» ⊗ fac1) («0·0» ⊗ alphn) («0·0» ⊗ betan) jac) 0 (n * n) e)
 
 -- ---- the sums
 
 -- a double that is no zero when it is taken from itself is infinite or a NaN
 unfoldable pub finiteAt : List Float → ℕ → Bool → Bool
-finiteAt values j all = all && eq (values ! j ⊖ values ! j) (double 0)
+finiteAt values j all = all && eq (values ! j ⊖ values ! j) «0·0»
 
 unfoldable pub allFinite : ℕ → List Float → Bool
 allFinite n values = loop (finiteAt values) 0 n true
 
 unfoldable pub identityAddAt : Three → Float → Float → Float → ℕ → Three → Three
 identityAddAt f fac1 alphn betan i z =
-    let one = double 0x3ff0_0000_0000_0000 in
-    addSums fac1 alphn betan (sums (double 0 ⊖ one ⊗ f .one ! i) (double 0 ⊖ one ⊗ f .two ! i) (double 0 ⊖ one ⊗ f .three ! i)) i z
+    addSums fac1 alphn betan
+    (sums («0·0» ⊖ «1·0» ⊗ f .one ! i) («0·0» ⊖ «1·0» ⊗ f .two ! i) («0·0» ⊖ «1·0» ⊗ f .three ! i)) i z
 
 unfoldable pub identitySideAt : List Float → List Float → ℕ → Sides → Sides
 identitySideAt f0 f1 i s =
-    let sum = double 0 ⊕ double 0x3ff0_0000_0000_0000 ⊗ f1 ! i in
+    let sum = «0·0» ⊕ «1·0» ⊗ f1 ! i in
     sides (set (s .f2) i sum) (set (s .cont) i (sum ⊕ f0 ! i))

@@ -1,9 +1,9 @@
 -- Reports, and what follows them: the end, or the step of the next attempt (radau.rs:337-358, 719-779).
--- Doubles by their patterns: 0x3ff0_0000_0000_0000 is 1.0, 0x3ff3_3333_3333_3333 is 1.2; double 0 is +0.
 use mathlib.Core.Bool.{Bool, true, false, _&&_, _||_}
 use mathlib.Core.List.{[], _∷_}
 use lib.Ieee.{Float, le, lt}
-use Rattle.words.specs.Words.{double, _⊕_, _⊖_, _⊗_, _⊘_}
+use Rattle.words.specs.Words.{_⊕_, _⊖_, _⊗_, _⊘_}
+use Rattle.words.specs.Constants.{«0·0», «1·0», «1·2»}
 use Rattle.words.specs.Loop.{pick}
 use Rattle.scalar.specs.Order.{absOf, minOf, clampOf}
 use Rattle.state.specs.declared.settings.Number.{Number}
@@ -78,14 +78,14 @@ unfoldable pub grownOf : Run → Float → Run
 grownOf r hnew =
     let qt = hnew ⊘ r .numbers .h in
     -- quot1 is 1, quot2 1.2 [radau.rs:306-307]
-    pick (lt (r .numbers .theta) thet && lt (double 0x3ff0_0000_0000_0000) qt && lt qt (double 0x3ff3_3333_3333_3333))
+    pick (lt (r .numbers .theta) thet && lt «1·0» qt && lt qt «1·2»)
     (r ▸ inNumbers (setHhfac (r .numbers .h)) ▸ inControl (setCallDecomp false) ▸ inControl (setCallJac false))
     (r ▸ freshOf hnew)
 
 -- a step that reaches the end point is aimed at it [radau.rs:763-766]
 unfoldable pub renewedOf : Run → Float → Logged Step
 renewedOf r hnew =
-    pick (le (double 0) ((r .numbers .x ⊕ hnew ⊘ double 0x3ff0_0000_0000_0000 ⊖ r .fixed .xend) ⊗ r .fixed .posneg))
+    pick (le «0·0» ((r .numbers .x ⊕ hnew ⊘ «1·0» ⊖ r .fixed .xend) ⊗ r .fixed .posneg))
     (logged (step.Main (r ▸ inControl (setLast true) ▸ freshOf (r .fixed .xend ⊖ r .numbers .x)))
     (aimed (r .numbers .x) hnew ∷ []))
     (logged (step.Main (grownOf r hnew)) (not-aimed (r .numbers .x) hnew ∷ []))

@@ -16,21 +16,65 @@ a ▸ f = f a
 -- ---- the run
 
 abbrev pub inCounts : (Counts → Counts) → Run → Run
-inCounts f r = record { settings = r .settings; shape = r .shape; fixed = r .fixed; counts = f (r .counts); control = r .control; numbers = r .numbers; stage = r .stage }
+inCounts f r =
+    record {
+      settings = r .settings;
+      shape = r .shape;
+      fixed = r .fixed;
+      counts = f (r .counts);
+      control = r .control;
+      numbers = r .numbers;
+      stage = r .stage;
+    }
 
 abbrev pub inControl : (Control → Control) → Run → Run
-inControl f r = record { settings = r .settings; shape = r .shape; fixed = r .fixed; counts = r .counts; control = f (r .control); numbers = r .numbers; stage = r .stage }
+inControl f r =
+    record {
+      settings = r .settings;
+      shape = r .shape;
+      fixed = r .fixed;
+      counts = r .counts;
+      control = f (r .control);
+      numbers = r .numbers;
+      stage = r .stage;
+    }
 
 abbrev pub inNumbers : (Numbers → Numbers) → Run → Run
-inNumbers f r = record { settings = r .settings; shape = r .shape; fixed = r .fixed; counts = r .counts; control = r .control; numbers = f (r .numbers); stage = r .stage }
+inNumbers f r =
+    record {
+      settings = r .settings;
+      shape = r .shape;
+      fixed = r .fixed;
+      counts = r .counts;
+      control = r .control;
+      numbers = f (r .numbers);
+      stage = r .stage;
+    }
 
 abbrev pub atStage : Stage → Run → Run
-atStage s r = record { settings = r .settings; shape = r .shape; fixed = r .fixed; counts = r .counts; control = r .control; numbers = r .numbers; stage = s }
+atStage s r =
+    record {
+      settings = r .settings;
+      shape = r .shape;
+      fixed = r .fixed;
+      counts = r .counts;
+      control = r .control;
+      numbers = r .numbers;
+      stage = s;
+    }
 
 -- ---- counts, one more of each
 
 abbrev pub counts : ℕ → ℕ → ℕ → ℕ → ℕ → ℕ → Counts
-counts ode jac lu total accepted rejected = record { ode = ode; jac = jac; lu = lu; total = total; accepted = accepted; rejected = rejected }
+counts ode jac lu total accepted rejected =
+    record {
+      ode = ode;
+      jac = jac;
+      lu = lu;
+      total = total;
+      accepted = accepted;
+      rejected = rejected;
+    }
 
 abbrev pub oneOde : Counts → Counts
 oneOde c = counts (c .ode + 1) (c .jac) (c .lu) (c .total) (c .accepted) (c .rejected)
@@ -54,7 +98,15 @@ oneRejected c = counts (c .ode) (c .jac) (c .lu) (c .total) (c .accepted) (c .re
 
 abbrev pub control : Bool → Bool → Bool → Bool → Bool → ℕ → ℕ → Control
 control first last reject jac decomp singular newt =
-    record { first = first; last = last; reject = reject; «call_jac» = jac; «call_decomp» = decomp; «singular_count» = singular; «newt_iter» = newt }
+    record {
+      first = first;
+      last = last;
+      reject = reject;
+      «call_jac» = jac;
+      «call_decomp» = decomp;
+      «singular_count» = singular;
+      «newt_iter» = newt;
+    }
 
 abbrev pub setFirst : Bool → Control → Control
 setFirst v c = control v (c .last) (c .reject) (c .«call_jac») (c .«call_decomp») (c .«singular_count») (c .«newt_iter»)
@@ -80,43 +132,267 @@ setNewt v c = control (c .first) (c .last) (c .reject) (c .«call_jac») (c .«c
 -- ---- floats
 
 abbrev pub setX : Float → Numbers → Numbers
-setX v n = record { x = v; xold = n .xold; xph = n .xph; h = n .h; hold = n .hold; hnew = n .hnew; hhfac = n .hhfac; «h_acc» = n .«h_acc»; «err_acc» = n .«err_acc»; faccon = n .faccon; theta = n .theta; dynold = n .dynold; thqold = n .thqold; xout = n .xout }
+setX v n =
+    record {
+      x = v;
+      xold = n .xold;
+      xph = n .xph;
+      h = n .h;
+      hold = n .hold;
+      hnew = n .hnew;
+      hhfac = n .hhfac;
+      «h_acc» = n .«h_acc»;
+      «err_acc» = n .«err_acc»;
+      faccon = n .faccon;
+      theta = n .theta;
+      dynold = n .dynold;
+      thqold = n .thqold;
+      xout = n .xout;
+    }
 
 abbrev pub setXold : Float → Numbers → Numbers
-setXold v n = record { x = n .x; xold = v; xph = n .xph; h = n .h; hold = n .hold; hnew = n .hnew; hhfac = n .hhfac; «h_acc» = n .«h_acc»; «err_acc» = n .«err_acc»; faccon = n .faccon; theta = n .theta; dynold = n .dynold; thqold = n .thqold; xout = n .xout }
+setXold v n =
+    record {
+      x = n .x;
+      xold = v;
+      xph = n .xph;
+      h = n .h;
+      hold = n .hold;
+      hnew = n .hnew;
+      hhfac = n .hhfac;
+      «h_acc» = n .«h_acc»;
+      «err_acc» = n .«err_acc»;
+      faccon = n .faccon;
+      theta = n .theta;
+      dynold = n .dynold;
+      thqold = n .thqold;
+      xout = n .xout;
+    }
 
 abbrev pub setXph : Float → Numbers → Numbers
-setXph v n = record { x = n .x; xold = n .xold; xph = v; h = n .h; hold = n .hold; hnew = n .hnew; hhfac = n .hhfac; «h_acc» = n .«h_acc»; «err_acc» = n .«err_acc»; faccon = n .faccon; theta = n .theta; dynold = n .dynold; thqold = n .thqold; xout = n .xout }
+setXph v n =
+    record {
+      x = n .x;
+      xold = n .xold;
+      xph = v;
+      h = n .h;
+      hold = n .hold;
+      hnew = n .hnew;
+      hhfac = n .hhfac;
+      «h_acc» = n .«h_acc»;
+      «err_acc» = n .«err_acc»;
+      faccon = n .faccon;
+      theta = n .theta;
+      dynold = n .dynold;
+      thqold = n .thqold;
+      xout = n .xout;
+    }
 
 abbrev pub setH : Float → Numbers → Numbers
-setH v n = record { x = n .x; xold = n .xold; xph = n .xph; h = v; hold = n .hold; hnew = n .hnew; hhfac = n .hhfac; «h_acc» = n .«h_acc»; «err_acc» = n .«err_acc»; faccon = n .faccon; theta = n .theta; dynold = n .dynold; thqold = n .thqold; xout = n .xout }
+setH v n =
+    record {
+      x = n .x;
+      xold = n .xold;
+      xph = n .xph;
+      h = v;
+      hold = n .hold;
+      hnew = n .hnew;
+      hhfac = n .hhfac;
+      «h_acc» = n .«h_acc»;
+      «err_acc» = n .«err_acc»;
+      faccon = n .faccon;
+      theta = n .theta;
+      dynold = n .dynold;
+      thqold = n .thqold;
+      xout = n .xout;
+    }
 
 abbrev pub setHold : Float → Numbers → Numbers
-setHold v n = record { x = n .x; xold = n .xold; xph = n .xph; h = n .h; hold = v; hnew = n .hnew; hhfac = n .hhfac; «h_acc» = n .«h_acc»; «err_acc» = n .«err_acc»; faccon = n .faccon; theta = n .theta; dynold = n .dynold; thqold = n .thqold; xout = n .xout }
+setHold v n =
+    record {
+      x = n .x;
+      xold = n .xold;
+      xph = n .xph;
+      h = n .h;
+      hold = v;
+      hnew = n .hnew;
+      hhfac = n .hhfac;
+      «h_acc» = n .«h_acc»;
+      «err_acc» = n .«err_acc»;
+      faccon = n .faccon;
+      theta = n .theta;
+      dynold = n .dynold;
+      thqold = n .thqold;
+      xout = n .xout;
+    }
 
 abbrev pub setHnew : Float → Numbers → Numbers
-setHnew v n = record { x = n .x; xold = n .xold; xph = n .xph; h = n .h; hold = n .hold; hnew = v; hhfac = n .hhfac; «h_acc» = n .«h_acc»; «err_acc» = n .«err_acc»; faccon = n .faccon; theta = n .theta; dynold = n .dynold; thqold = n .thqold; xout = n .xout }
+setHnew v n =
+    record {
+      x = n .x;
+      xold = n .xold;
+      xph = n .xph;
+      h = n .h;
+      hold = n .hold;
+      hnew = v;
+      hhfac = n .hhfac;
+      «h_acc» = n .«h_acc»;
+      «err_acc» = n .«err_acc»;
+      faccon = n .faccon;
+      theta = n .theta;
+      dynold = n .dynold;
+      thqold = n .thqold;
+      xout = n .xout;
+    }
 
 abbrev pub setHhfac : Float → Numbers → Numbers
-setHhfac v n = record { x = n .x; xold = n .xold; xph = n .xph; h = n .h; hold = n .hold; hnew = n .hnew; hhfac = v; «h_acc» = n .«h_acc»; «err_acc» = n .«err_acc»; faccon = n .faccon; theta = n .theta; dynold = n .dynold; thqold = n .thqold; xout = n .xout }
+setHhfac v n =
+    record {
+      x = n .x;
+      xold = n .xold;
+      xph = n .xph;
+      h = n .h;
+      hold = n .hold;
+      hnew = n .hnew;
+      hhfac = v;
+      «h_acc» = n .«h_acc»;
+      «err_acc» = n .«err_acc»;
+      faccon = n .faccon;
+      theta = n .theta;
+      dynold = n .dynold;
+      thqold = n .thqold;
+      xout = n .xout;
+    }
 
 abbrev pub setHAcc : Float → Numbers → Numbers
-setHAcc v n = record { x = n .x; xold = n .xold; xph = n .xph; h = n .h; hold = n .hold; hnew = n .hnew; hhfac = n .hhfac; «h_acc» = v; «err_acc» = n .«err_acc»; faccon = n .faccon; theta = n .theta; dynold = n .dynold; thqold = n .thqold; xout = n .xout }
+setHAcc v n =
+    record {
+      x = n .x;
+      xold = n .xold;
+      xph = n .xph;
+      h = n .h;
+      hold = n .hold;
+      hnew = n .hnew;
+      hhfac = n .hhfac;
+      «h_acc» = v;
+      «err_acc» = n .«err_acc»;
+      faccon = n .faccon;
+      theta = n .theta;
+      dynold = n .dynold;
+      thqold = n .thqold;
+      xout = n .xout;
+    }
 
 abbrev pub setErrAcc : Float → Numbers → Numbers
-setErrAcc v n = record { x = n .x; xold = n .xold; xph = n .xph; h = n .h; hold = n .hold; hnew = n .hnew; hhfac = n .hhfac; «h_acc» = n .«h_acc»; «err_acc» = v; faccon = n .faccon; theta = n .theta; dynold = n .dynold; thqold = n .thqold; xout = n .xout }
+setErrAcc v n =
+    record {
+      x = n .x;
+      xold = n .xold;
+      xph = n .xph;
+      h = n .h;
+      hold = n .hold;
+      hnew = n .hnew;
+      hhfac = n .hhfac;
+      «h_acc» = n .«h_acc»;
+      «err_acc» = v;
+      faccon = n .faccon;
+      theta = n .theta;
+      dynold = n .dynold;
+      thqold = n .thqold;
+      xout = n .xout;
+    }
 
 abbrev pub setFaccon : Float → Numbers → Numbers
-setFaccon v n = record { x = n .x; xold = n .xold; xph = n .xph; h = n .h; hold = n .hold; hnew = n .hnew; hhfac = n .hhfac; «h_acc» = n .«h_acc»; «err_acc» = n .«err_acc»; faccon = v; theta = n .theta; dynold = n .dynold; thqold = n .thqold; xout = n .xout }
+setFaccon v n =
+    record {
+      x = n .x;
+      xold = n .xold;
+      xph = n .xph;
+      h = n .h;
+      hold = n .hold;
+      hnew = n .hnew;
+      hhfac = n .hhfac;
+      «h_acc» = n .«h_acc»;
+      «err_acc» = n .«err_acc»;
+      faccon = v;
+      theta = n .theta;
+      dynold = n .dynold;
+      thqold = n .thqold;
+      xout = n .xout;
+    }
 
 abbrev pub setTheta : Float → Numbers → Numbers
-setTheta v n = record { x = n .x; xold = n .xold; xph = n .xph; h = n .h; hold = n .hold; hnew = n .hnew; hhfac = n .hhfac; «h_acc» = n .«h_acc»; «err_acc» = n .«err_acc»; faccon = n .faccon; theta = v; dynold = n .dynold; thqold = n .thqold; xout = n .xout }
+setTheta v n =
+    record {
+      x = n .x;
+      xold = n .xold;
+      xph = n .xph;
+      h = n .h;
+      hold = n .hold;
+      hnew = n .hnew;
+      hhfac = n .hhfac;
+      «h_acc» = n .«h_acc»;
+      «err_acc» = n .«err_acc»;
+      faccon = n .faccon;
+      theta = v;
+      dynold = n .dynold;
+      thqold = n .thqold;
+      xout = n .xout;
+    }
 
 abbrev pub setDynold : Float → Numbers → Numbers
-setDynold v n = record { x = n .x; xold = n .xold; xph = n .xph; h = n .h; hold = n .hold; hnew = n .hnew; hhfac = n .hhfac; «h_acc» = n .«h_acc»; «err_acc» = n .«err_acc»; faccon = n .faccon; theta = n .theta; dynold = v; thqold = n .thqold; xout = n .xout }
+setDynold v n =
+    record {
+      x = n .x;
+      xold = n .xold;
+      xph = n .xph;
+      h = n .h;
+      hold = n .hold;
+      hnew = n .hnew;
+      hhfac = n .hhfac;
+      «h_acc» = n .«h_acc»;
+      «err_acc» = n .«err_acc»;
+      faccon = n .faccon;
+      theta = n .theta;
+      dynold = v;
+      thqold = n .thqold;
+      xout = n .xout;
+    }
 
 abbrev pub setThqold : Float → Numbers → Numbers
-setThqold v n = record { x = n .x; xold = n .xold; xph = n .xph; h = n .h; hold = n .hold; hnew = n .hnew; hhfac = n .hhfac; «h_acc» = n .«h_acc»; «err_acc» = n .«err_acc»; faccon = n .faccon; theta = n .theta; dynold = n .dynold; thqold = v; xout = n .xout }
+setThqold v n =
+    record {
+      x = n .x;
+      xold = n .xold;
+      xph = n .xph;
+      h = n .h;
+      hold = n .hold;
+      hnew = n .hnew;
+      hhfac = n .hhfac;
+      «h_acc» = n .«h_acc»;
+      «err_acc» = n .«err_acc»;
+      faccon = n .faccon;
+      theta = n .theta;
+      dynold = n .dynold;
+      thqold = v;
+      xout = n .xout;
+    }
 
 abbrev pub setXout : Number → Numbers → Numbers
-setXout v n = record { x = n .x; xold = n .xold; xph = n .xph; h = n .h; hold = n .hold; hnew = n .hnew; hhfac = n .hhfac; «h_acc» = n .«h_acc»; «err_acc» = n .«err_acc»; faccon = n .faccon; theta = n .theta; dynold = n .dynold; thqold = n .thqold; xout = v }
+setXout v n =
+    record {
+      x = n .x;
+      xold = n .xold;
+      xph = n .xph;
+      h = n .h;
+      hold = n .hold;
+      hnew = n .hnew;
+      hhfac = n .hhfac;
+      «h_acc» = n .«h_acc»;
+      «err_acc» = n .«err_acc»;
+      faccon = n .faccon;
+      theta = n .theta;
+      dynold = n .dynold;
+      thqold = n .thqold;
+      xout = v;
+    }

@@ -5,7 +5,7 @@ use Rattle.words.specs.Loop.{loop, pick}
 use Rattle.words.specs.Grid.{at, put}
 use Rattle.scalar.specs.Order.{absOf}
 use Rattle.scalar.specs.Products.{timesAt, product}
-use Rattle.scalar.specs.Patterns.{units, unitsInOne}
+use Rattle.words.specs.Patterns.{units, unitsInOne}
 use Rattle.scalar.specs.Halving.{halve}
 use Rattle.scalar.specs.Root.{keeps, halvedRoot, rootOfForm, rootOf}
 use Rattle.scalar.specs.SquareRoot.{squareOf}

@@ -2,7 +2,7 @@
 use Prim.Native.Nat.{ℕ}
 use mathlib.Core.List.{List, [], _∷_}
 use lib.Ieee.{Float}
-use Rattle.words.specs.Words.{double}
+use Rattle.words.specs.Constants.{«0·0»}
 use Rattle.state.specs.Settings.{orElse, orNone}
 use Rattle.state.specs.declared.settings.Settings.{Settings}
 use Rattle.export.specs.Choices.{flagWord, numberTag, wholeTag, massWord, sourceWord, ruleWord}
@@ -34,8 +34,8 @@ floatsOf s =
     ∷ s .«safety_factor»
     ∷ s .«scale_min»
     ∷ s .«scale_max»
-    ∷ orElse (s .«max_step») (double 0)
-    ∷ orElse (s .«min_step») (double 0)
-    ∷ orElse (s .«newton_tol») (double 0)
-    ∷ orElse (s .«first_step») (double 0)
+    ∷ orElse (s .«max_step») «0·0»
+    ∷ orElse (s .«min_step») «0·0»
+    ∷ orElse (s .«newton_tol») «0·0»
+    ∷ orElse (s .«first_step») «0·0»
     ∷ []

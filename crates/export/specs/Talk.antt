@@ -5,7 +5,8 @@ use mathlib.Core.Bool.{Bool}
 use mathlib.Core.List.{List, [], _∷_}
 use lib.Dec.{eqb}
 use lib.Ieee.{Float}
-use Rattle.words.specs.Words.{double, _!_}
+use Rattle.words.specs.Words.{_!_}
+use Rattle.words.specs.Constants.{«0·0»}
 use Rattle.words.specs.Loop.{pick}
 use Rattle.state.specs.declared.settings.Settings.{Settings}
 use Rattle.state.specs.declared.run.Run.{Run}
@@ -93,7 +94,7 @@ abbrev pub atOf : Request → List Float
 atOf (request.Derivative x) = x ∷ x ∷ []
 atOf (request.Jacobian x) = x ∷ x ∷ []
 atOf (request.Report xold x offered) = xold ∷ x ∷ []
-atOf (request.Ended s) = double 0 ∷ double 0 ∷ []
+atOf (request.Ended s) = «0·0» ∷ «0·0» ∷ []
 
 -- ---- a reply
 

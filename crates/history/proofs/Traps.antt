@@ -4,7 +4,7 @@
 use mathlib.Core.Path.{_≡_, refl}
 use mathlib.Core.Bool.{Bool, true, false}
 use lib.Ieee.{Float, nan, le, ofBits}
-use Rattle.words.specs.Words.{double}
+use Rattle.words.specs.Constants.{«0·0»}
 use Rattle.words.specs.Loop.{pick}
 use Rattle.state.specs.declared.settings.Number.the-variants as number
 use Rattle.state.specs.declared.settings.Rule.the-variants as rule
@@ -24,12 +24,12 @@ abbrev sample : Run
 sample = sampleAt stage.Newton3
 
 -- a mark is due at x itself, not only past it (radau.rs:722)
-mark-at-x : isDue (number.Given (double 0)) (double 0) ≡ true
+mark-at-x : isDue (number.Given «0·0») «0·0» ≡ true
 unfolding isDue le ofBits
 mark-at-x = refl
 
 -- and a NaN mark never
-mark-nan : isDue (number.Given nan) (double 0) ≡ false
+mark-nan : isDue (number.Given nan) «0·0» ≡ false
 unfolding isDue le
 mark-nan = refl
 

@@ -6,7 +6,8 @@ use mathlib.Core.Path.{_≡_, refl, sym, ap, _∙_}
 use mathlib.Core.Bool.{Bool, true, false, true≢false}
 use mathlib.Core.List.{List, [], _∷_}
 use lib.Ieee.{Float, le, add, mul, ofBits}
-use Rattle.words.specs.Words.{double, _!_}
+use Rattle.words.specs.Words.{_!_}
+use Rattle.words.specs.Constants.{«0·0», «1·0»}
 use Rattle.words.specs.Loop.{loop, pick}
 use Rattle.state.specs.declared.run.Run.{Run}
 use Rattle.state.specs.declared.run.Stage.{Stage}
@@ -42,28 +43,36 @@ Meets s = (r : Run) (p : Reply) (m : Memory) → s r p m ≡ advanceOf r p m .co
 -- ---- a run of one amount, and its memory
 
 abbrev pub one : List Float
-one = double 0 ∷ []
+one = «0·0» ∷ []
 
 abbrev pub sampleMemory : Memory
 sampleMemory =
-    memory (amounts one one one (double 0 ∷ double 0 ∷ double 0 ∷ double 0 ∷ [])) (newton one one one one one one) (given one one one one) (factors one one one (0 ∷ []) (0 ∷ []))
-    (differences one one one)
+    memory (amounts one one one («0·0» ∷ «0·0» ∷ «0·0» ∷ «0·0» ∷ [])) (newton one one one one one one)
+    (given one one one one) (factors one one one (0 ∷ []) (0 ∷ [])) (differences one one one)
 
 abbrev pub sampleAt : Stage → Run
 sampleAt s =
     record {
       settings = defaultsOf;
       shape = record { n = 1; nind1 = 1; nind2 = 0; nind3 = 0 };
-      fixed = record { tolerances = Scalars (double 0) (double 0); «newton_tol» = double 0; xend = double 0; posneg = double 0; hmax = double 0; hmin = double 0 };
+      fixed =
+          record {
+            tolerances = Scalars «0·0» «0·0»;
+            «newton_tol» = «0·0»;
+            xend = «0·0»;
+            posneg = «0·0»;
+            hmax = «0·0»;
+            hmin = «0·0»;
+          };
       counts = firstCounts;
       control = firstControl;
-      numbers = firstNumbers (double 0) (double 0);
+      numbers = firstNumbers «0·0» «0·0»;
       stage = s;
     }
 
 -- the first advance is admitted, and asks for a report
 first-asks : advanceOf (sampleAt stage.FirstDerivative) reply.Filled sampleMemory .core .answer
-    ≡ answer.Asked (sampleAt stage.FirstReport) (request.Report (double 0) (double 0) false) Nowhere
+    ≡ answer.Asked (sampleAt stage.FirstReport) (request.Report «0·0» «0·0» false) Nowhere
 unfolding advanceBy repliedOf calledOf passesOf passAt loop pick verdictOf amountsFit newtonFit givenFit factorsFit differencesFit askingAt answersReport stray strayAt le ofBits
 first-asks = refl
 
@@ -76,11 +85,11 @@ interrupt-ends = refl
 -- one amount of 1: its first stage's derivative is answered with the second stage's amount in cont
 abbrev heldMemory : Memory
 heldMemory =
-    memory (amounts (double 0x3ff0_0000_0000_0000 ∷ []) one one (sampleMemory .amounts .cont))
+    memory (amounts («1·0» ∷ []) one one (sampleMemory .amounts .cont))
     (sampleMemory .newton) (sampleMemory .given) (sampleMemory .factors) (sampleMemory .differences)
 
 abbrev isStored : Memory → Bool
-isStored m = le (double 0x3ff0_0000_0000_0000) (m .amounts .cont ! 0)
+isStored m = le «1·0» (m .amounts .cont ! 0)
 
 second-writes : isStored (advanceOf (sampleAt stage.Newton1) reply.Filled heldMemory .core .memory) ≡ true
 unfolding advanceBy repliedOf calledOf passesOf passAt askStageOf stageSumAt loop pick verdictOf amountsFit newtonFit

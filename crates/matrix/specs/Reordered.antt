@@ -8,7 +8,8 @@ use mathlib.Core.Path.{_≡_}
 use mathlib.Core.List.{List}
 use lib.ListN.{set}
 use lib.Ieee.{Float, neg, eq, ne}
-use Rattle.words.specs.Words.{_⊕_, _⊗_, _⊘_, _!_, double}
+use Rattle.words.specs.Words.{_⊕_, _⊗_, _⊘_, _!_}
+use Rattle.words.specs.Constants.{«0·0»}
 use Rattle.words.specs.Loop.{loop, pick}
 use Rattle.words.specs.Grid.{at}
 use Rattle.matrix.specs.declared.complex.Complex.{Complex}
@@ -32,13 +33,13 @@ pub record IdleFrom {A E : Type 0} (kind : Kind A E) (entry : E → E → E → 
 
 -- a real entry (lu.rs:113-115)
 unfoldable pub addedOf : Float → Float → Float → Float
-addedOf x t y = pick (ne t (double 0)) (y ⊕ x ⊗ t) y
+addedOf x t y = pick (ne t «0·0») (y ⊕ x ⊗ t) y
 
 -- x times a complex multiplier, of which a part that is zero is left out (lu.rs:271-291)
 unfoldable pub multipliedOf : Complex → Complex → Complex
 multipliedOf t x =
-    pick (eq (t .im) (double 0)) (complex (x .re ⊗ t .re) (x .im ⊗ t .re))
-    (pick (eq (t .re) (double 0)) (complex (neg (x .im) ⊗ t .im) (x .re ⊗ t .im)) (timesComplex x t))
+    pick (eq (t .im) «0·0») (complex (x .re ⊗ t .re) (x .im ⊗ t .re))
+    (pick (eq (t .re) «0·0») (complex (neg (x .im) ⊗ t .im) (x .re ⊗ t .im)) (timesComplex x t))
 
 unfoldable pub multipliedAt : ℕ → ℕ → ℕ → Complex → ℕ → Parts → Parts
 multipliedAt n k j t i a = addedComplex n i j a (multipliedOf t (atComplex a n i k))

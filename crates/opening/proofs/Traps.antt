@@ -7,7 +7,7 @@ use mathlib.Core.Path.{_≡_, refl}
 use mathlib.Core.List.{List, [], _∷_}
 use lib.Dec.{leb}
 use lib.Ieee.{Float, nan, le, lt, eq, sub, ofBits}
-use Rattle.words.specs.Words.{double}
+use Rattle.words.specs.Constants.{«0·0», «1·0», «2·0»}
 use Rattle.words.specs.Loop.{pick}
 use Rattle.scalar.specs.Order.{absOf}
 use Rattle.state.specs.declared.settings.Settings.{Settings}
@@ -27,13 +27,13 @@ use Rattle.opening.specs.Rows.{Opening, opening, openingRows, verdictOf,
 -- ---- openings of one amount, from 0 to 1
 
 abbrev nought : List Float
-nought = double 0 ∷ []
+nought = «0·0» ∷ []
 
 abbrev one : Float
-one = double 0x3ff0_0000_0000_0000
+one = «1·0»
 
 abbrev two : Float
-two = double 0x4000_0000_0000_0000
+two = «2·0»
 
 -- the defaults but for what rows 4 to 8 test
 abbrev ranged : ℕ → Float → Float → Float → ℕ → Settings
@@ -86,7 +86,8 @@ stepped s nind1 nind2 nind3 first ceiling floor =
 -- the memory, y apart
 abbrev memoryOf : List Float → Memory
 memoryOf y =
-    memory (amounts y nought nought (double 0 ∷ double 0 ∷ double 0 ∷ double 0 ∷ [])) (newton nought nought nought nought nought nought) (given nought nought nought nought)
+    memory (amounts y nought nought («0·0» ∷ «0·0» ∷ «0·0» ∷ «0·0» ∷ []))
+    (newton nought nought nought nought nought nought) (given nought nought nought nought)
     (factors nought nought nought (0 ∷ []) (0 ∷ [])) (differences nought nought nought)
 
 -- ---- the claims
@@ -96,10 +97,14 @@ abbrev failsFrom : ℕ → Opening
 failsFrom k =
     opening
     (stepped
-    (ranged (pick (leb k 4) 0 100_000) (pick (leb k 5) one (defaultsOf .uround)) (pick (leb k 6) one (defaultsOf .«safety_factor»)) (pick (leb k 7) (double 0) (defaultsOf .«scale_min»)) (pick (leb k 8) 17 7))
+    (ranged (pick (leb k 4) 0 100_000) (pick (leb k 5) one (defaultsOf .uround))
+    (pick (leb k 6) one (defaultsOf .«safety_factor»)) (pick (leb k 7) «0·0» (defaultsOf .«scale_min»))
+    (pick (leb k 8) 17 7))
     whole.Absent (pick (leb k 10) (whole.Given 2) whole.Absent) whole.Absent
-    (pick (leb k 11) (number.Given (double 0)) number.Absent) (pick (leb k 12) (number.Given (double 0)) number.Absent) (pick (leb k 12) (number.Given one) number.Absent))
-    (pick (leb k 1) 0 1) (pick (leb k 3) nan (double 0)) one (Scalars (pick (leb k 9) (double 0) one) (double 0)) (memoryOf (pick (leb k 2) [] nought))
+    (pick (leb k 11) (number.Given «0·0») number.Absent) (pick (leb k 12) (number.Given «0·0») number.Absent)
+    (pick (leb k 12) (number.Given one) number.Absent))
+    (pick (leb k 1) 0 1) (pick (leb k 3) nan «0·0») one (Scalars (pick (leb k 9) «0·0» one) «0·0»)
+    (memoryOf (pick (leb k 2) [] nought))
 
 -- 01's number, and 0 where it passes
 abbrev numberOf : Verdict → ℕ
@@ -117,7 +122,10 @@ rows-in-order = refl
 -- from 0 to 1 with this partition and these two steps
 abbrev verdictBy : Whole → Whole → Whole → Number → Number → Verdict
 verdictBy nind1 nind2 nind3 ceiling floor =
-    verdictOf (openingRows (opening (stepped defaultsOf nind1 nind2 nind3 number.Absent ceiling floor) 1 (double 0) one (Scalars one one) (memoryOf nought)))
+    verdictOf
+    (openingRows
+    (opening (stepped defaultsOf nind1 nind2 nind3 number.Absent ceiling floor) 1 «0·0» one (Scalars one one)
+    (memoryOf nought)))
 
 -- the ceiling is max_step, else |xend - x0|, here 1 [radau.rs:176-178]
 pub floor-at-ceiling : (verdictBy whole.Absent whole.Absent whole.Absent (number.Given two) (number.Given two) ≡ Passed)

@@ -4,7 +4,8 @@ use Prim.Native.Nat.{ℕ, _-_, _*_}
 use mathlib.Core.Bool.{true, false}
 use mathlib.Core.List.{List}
 use lib.Ieee.{Float, neg}
-use Rattle.words.specs.Words.{double, _⊖_, _⊗_}
+use Rattle.words.specs.Words.{_⊖_, _⊗_}
+use Rattle.words.specs.Constants.{«0·0», «1·0», «1·0e-6»}
 use Rattle.scalar.specs.Order.{absOf, clampOf, signumOf}
 use Rattle.state.specs.declared.settings.Settings.{Settings}
 use Rattle.state.specs.declared.settings.Number.{Number}
@@ -51,7 +52,7 @@ shapeOf n s =
 -- |first_step|, else 1e-6, with the direction's sign [radau.rs:252-257]
 unfoldable pub wishedStep : Number → Float → Float
 wishedStep (number.Given h0) posneg = absOf h0 ⊗ posneg
-wishedStep number.Absent posneg = double 0x3eb0_c6f7_a0b5_ed8d ⊗ posneg
+wishedStep number.Absent posneg = «1·0e-6» ⊗ posneg
 
 -- [radau.rs:264]
 unfoldable pub firstStepOf : Settings → Float → Float → Float
@@ -86,20 +87,20 @@ firstNumbers x h =
       x = x;
       -- [radau.rs:318-321]
       xold = x;
-      xph = double 0;
+      xph = «0·0»;
       h = h;
       -- [radau.rs:295-302]
       hold = h;
-      hnew = double 0;
+      hnew = «0·0»;
       hhfac = h;
-      «h_acc» = double 0;
-      «err_acc» = double 0;
+      «h_acc» = «0·0»;
+      «err_acc» = «0·0»;
       -- [radau.rs:310-312]
-      faccon = double 0x3ff0_0000_0000_0000;
-      theta = double 0;
+      faccon = «1·0»;
+      theta = «0·0»;
       -- [radau.rs:314-316]
-      dynold = double 0;
-      thqold = double 0;
+      dynold = «0·0»;
+      thqold = «0·0»;
       -- [radau.rs:334-335]
       xout = number.Absent;
     }

@@ -8,10 +8,10 @@ use lib.Ieee.{Float, nan, binary64, ofBits, toBits}
 use lib.Ieee.Fits.{and-l, and-r}
 use Rattle.words.specs.Words.{_!_}
 use Rattle.words.specs.Loop.{pick}
-use Rattle.scalar.specs.Patterns.{units, unitsInOne}
+use Rattle.words.specs.Patterns.{units, unitsInOne}
 use Rattle.scalar.specs.Coefficients.{coefficients}
 use Rattle.scalar.specs.Exact.{Exact, exactAt, Between, between, reach, less, more, cubicAt, signedUnits, up, down}
-use Rattle.scalar.proofs.Table.{every, at-each}
+use Rattle.words.proofs.Table.{every, at-each}
 
 right : ℕ → Float → Bool
 right k x = between x (exactAt k)

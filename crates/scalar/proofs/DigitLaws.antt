@@ -7,7 +7,7 @@ use native.Mathlib.Nat.{le-trans, le-of-eq, not-le-of-lt}
 use native.Mathlib.Omega.{arith}
 use lib.Pow.{pow-add, pow-mono, shr-shr, shl-lt}
 use lib.Count.{leadingZeros, leading-top}
-use Rattle.scalar.specs.Patterns.{unitsInOne}
+use Rattle.words.specs.Patterns.{unitsInOne}
 use Rattle.scalar.specs.Steps.{Digits, Near, FullWidth}
 use Rattle.scalar.proofs.Squares.{square-mono, square-shows, square-above}
 

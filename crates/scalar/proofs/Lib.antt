@@ -10,7 +10,6 @@ pub mod Squares
 pub mod DigitLaws
 pub mod RoundingLaws
 pub mod SquareRootTheorems
-pub mod Table
 pub mod CoefficientTheorems
 pub mod Traps
 pub mod Determinism

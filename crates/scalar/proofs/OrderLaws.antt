@@ -13,6 +13,7 @@ use lib.Ieee.Fits.{up-pos, down-pos}
 use lib.Ieee.Bits.{ofBits-toBits}
 use borrow.Author.Tests.{eqb-true, ne-eqb}
 use Rattle.words.specs.Words.{double, _⊘_}
+use Rattle.words.specs.Constants.{«0·0», «1·0»}
 use Rattle.scalar.specs.Order.{absOf, signumOf}
 use Rattle.scalar.proofs.Tests.{negative, above, isZero, never}
 
@@ -41,7 +42,7 @@ abs-negative (fin s zero e) h = never (sym h)
 abs-negative (fin true (suc m) e) h = refl
 abs-negative (fin false (suc m) e) h = never (sym h)
 
-pub abs-zero : (x : Float) → fits binary64 x ≡ true → isZero x ≡ true → double 0 ≡ absOf x
+pub abs-zero : (x : Float) → fits binary64 x ≡ true → isZero x ≡ true → «0·0» ≡ absOf x
 unfolding absOf ofBits
 abs-zero nan f h = never (sym h)
 abs-zero (inf s) f h = never (sym h)
@@ -59,11 +60,11 @@ abs-other (fin false (suc m) e) h g = refl
 
 -- ---- signum
 
-pub one-is : double 0x3ff0_0000_0000_0000 ≡ fin false 1 (pos 0)
+pub one-is : «1·0» ≡ fin false 1 (pos 0)
 unfolding ofBits
 one-is = refl
 
-pub minus-one-is : neg (double 0x3ff0_0000_0000_0000) ≡ fin true 1 (pos 0)
+pub minus-one-is : neg «1·0» ≡ fin true 1 (pos 0)
 unfolding neg ofBits
 minus-one-is = refl
 
@@ -91,7 +92,7 @@ sign-above (fin false (suc m) e) h = refl
 
 -- past the three tests x is a zero, and 1 / x the infinity of its sign
 pub sign-zero : (x : Float) → isNan x ≡ false → negative x ≡ false → above x ≡ false
-    → fin (lt (double 0x3ff0_0000_0000_0000 ⊘ x) (double 0)) 1 (pos 0) ≡ signumOf x
+    → fin (lt («1·0» ⊘ x) «0·0») 1 (pos 0) ≡ signumOf x
 unfolding signumOf isNan lt ofBits div
 sign-zero nan n h g = never n
 sign-zero (inf true) n h g = never h

@@ -19,7 +19,7 @@ use lib.Ieee.Positive.{positive, positive-of-value}
 use borrow.Author.Tests.{lt-ltb, le-ltb, lt-leb, ne-eqb, ltb-false}
 use Rattle.words.specs.Words.{double}
 use Rattle.words.specs.Loop.{pick}
-use Rattle.scalar.specs.Patterns.{units, infinityPattern}
+use Rattle.words.specs.Patterns.{units, infinityPattern}
 
 -- ---- units
 

@@ -13,9 +13,10 @@ use lib.Ieee.Bits.{is-true}
 use lib.Ieee.Positive.{positive}
 use borrow.Author.Tests.{lt-leb, le-leb}
 use Rattle.words.specs.Words.{double, _⊗_}
+use Rattle.words.specs.Constants.{«0·0»}
 use Rattle.words.specs.Loop.{pick}
 use Rattle.scalar.specs.Products.{product}
-use Rattle.scalar.specs.Patterns.{infinityPattern}
+use Rattle.words.specs.Patterns.{infinityPattern}
 use Rattle.scalar.specs.Halving.{halve}
 use Rattle.scalar.specs.Root.{keeps, halvedRoot, rootOfForm, rootOf}
 use Rattle.scalar.specs.Steps.{Ordered}
@@ -26,7 +27,7 @@ use Rattle.scalar.proofs.HalvingLaws.{Edge, halve-edge, halve-finds}
 
 -- ---- the ends of the halving
 
-zero-squared : double 0 ⊗ double 0 ≡ double 0
+zero-squared : «0·0» ⊗ «0·0» ≡ «0·0»
 unfolding mul ofBits
 zero-squared = refl
 
@@ -34,7 +35,7 @@ infinity-squared : double infinityPattern ⊗ double infinityPattern ≡ double 
 unfolding mul ofBits
 infinity-squared = refl
 
-zero-least : (v : Float) → T (positive v) → T (le (double 0) v)
+zero-least : (v : Float) → T (positive v) → T (le «0·0» v)
 unfolding ofBits
 zero-least nan p = absurd p
 zero-least (inf s) p = absurd p
@@ -50,7 +51,7 @@ infinity-above (fin s n d) p = refl
 module _ (m : ℕ) (v : Float) (pv : T (positive v)) where
   pub keeps-zero : keeps m v 0 ≡ true
   unfolding keeps
-  keeps-zero = ap (λ (x : Float). le x v) (product-same m (double 0) zero-squared) ∙ is-true (le (double 0) v) (zero-least v pv)
+  keeps-zero = ap (λ (x : Float). le x v) (product-same m «0·0» zero-squared) ∙ is-true (le «0·0» v) (zero-least v pv)
 
   keeps-infinity : keeps m v infinityPattern ≡ false
   unfolding keeps
@@ -124,11 +125,11 @@ module _ (m : ℕ) (v : Float) (l : 1 ≤ m) (h : m ≤ 17) where
       by (fin true (suc n) d) t = refl
       by (fin false (suc n) d) t = never (sym t)
 
-  pub of-zero : isZero v ≡ true → rootOf m v ≡ double 0
+  pub of-zero : isZero v ≡ true → rootOf m v ≡ «0·0»
   unfolding rootOfForm ofBits
   of-zero e = of-form ∙ by v e
     where
-      by : (x : Float) → isZero x ≡ true → rootOfForm m x ≡ double 0
+      by : (x : Float) → isZero x ≡ true → rootOfForm m x ≡ «0·0»
       by nan t = never (sym t)
       by (inf s) t = never (sym t)
       by (fin s zero d) t = refl

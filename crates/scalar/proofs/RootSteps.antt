@@ -7,7 +7,7 @@ use native.Mathlib.Omega.{arith}
 use mir.Val.{boolByte}
 use lib.Ieee.{Float}
 use Rattle.words.specs.Words.{double}
-use Rattle.scalar.specs.Patterns.{infinityPattern}
+use Rattle.words.specs.Patterns.{infinityPattern}
 use Rattle.scalar.specs.Root.{keeps, rootOf}
 use Rattle.scalar.specs.Steps.{Ordered, Ends, Seen}
 use Rattle.scalar.proofs.RootLaws.{keeps-zero, root-only}

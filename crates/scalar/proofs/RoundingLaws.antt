@@ -8,7 +8,7 @@ use native.Mathlib.Decide.{decLe}
 use native.Mathlib.Omega.{arith}
 use lib.Pow.{pow-pos, pow-add}
 use borrow.Author.Tests.{lt-ltb, le-ltb, ne-eqb}
-use Rattle.scalar.specs.Patterns.{units, unitsInOne, infinityPattern}
+use Rattle.words.specs.Patterns.{units, unitsInOne, infinityPattern}
 use Rattle.scalar.specs.Sqrt.{border, reaches, nearestRoot}
 use Rattle.scalar.specs.Steps.{EvenPlace, Digits, Near}
 use Rattle.scalar.proofs.Squares.{square-mono, square-strict, square-shows}

@@ -17,7 +17,7 @@ use lib.Ieee.Positive.{positive}
 use borrow.Author.Tests.{lt-ltb, le-ltb, eq-eqb, ne-eqb, ltb-true, ltb-false, eqb-true, eqb-false}
 use Rattle.words.specs.Words.{double}
 use Rattle.words.specs.Loop.{pick}
-use Rattle.scalar.specs.Patterns.{units, unitsInOne, infinityPattern}
+use Rattle.words.specs.Patterns.{units, unitsInOne, infinityPattern}
 use Rattle.scalar.specs.SquareRoot.{squareOf, Nearest, IsSquareRoot, of-nan, of-infinity, of-minus-infinity, of-zero, of-negative, of-positive}
 use Rattle.scalar.specs.Sqrt.{border, reaches, nearestRoot, sqrtOf}
 use Rattle.scalar.proofs.Tests.{never, negative, isZero, infinite}

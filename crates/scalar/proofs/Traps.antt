@@ -6,10 +6,11 @@ use native.Mathlib.Omega.{arith}
 use lib.Dec.{leb}
 use lib.Ieee.{Float, binary64, nan, mul, le, lt, isNan, ofBits, toBits}
 use Rattle.words.specs.Words.{double}
+use Rattle.words.specs.Constants.{«1·0»}
 use Rattle.words.specs.Loop.{loop, pick}
 use Rattle.scalar.specs.Order.{minOf, maxOf, signumOf}
 use Rattle.scalar.specs.Products.{timesAt, product}
-use Rattle.scalar.specs.Patterns.{units, unitsInOne, infinityPattern}
+use Rattle.words.specs.Patterns.{units, unitsInOne, infinityPattern}
 use Rattle.scalar.specs.Halving.{halve}
 use Rattle.scalar.specs.Root.{keeps, halvedRoot, rootOfForm, rootOf}
 use Rattle.scalar.specs.SquareRoot.{squareOf}
@@ -17,12 +18,12 @@ use Rattle.scalar.specs.Sqrt.{border, reaches, nearestRoot, sqrtOf}
 use Rattle.scalar.specs.Steps.{Ordered, EvenPlace, Digits}
 use Rattle.scalar.specs.Exact.{exactAt, between, less, more, cubicAt, signedUnits, up, down}
 
--- of max and min, a NaN yields the other, on either side (1.0)
-min-of-nan : minOf nan (double 0x3ff0_0000_0000_0000) ≡ double 0x3ff0_0000_0000_0000
+-- of max and min, a NaN yields the other, on either side
+min-of-nan : minOf nan «1·0» ≡ «1·0»
 unfolding minOf pick isNan ofBits
 min-of-nan = refl
 
-min-by-nan : minOf (double 0x3ff0_0000_0000_0000) nan ≡ double 0x3ff0_0000_0000_0000
+min-by-nan : minOf «1·0» nan ≡ «1·0»
 unfolding minOf pick isNan lt ofBits
 min-by-nan = refl
 

@@ -9,7 +9,7 @@ use lib.IntN.{ℤ, pos, negsuc, negℤ, _-ℤ_, _*ℤ_}
 use lib.ListN.{getD}
 use lib.Ieee.{Float, binary64, toBits}
 use Rattle.words.specs.Loop.{pick}
-use Rattle.scalar.specs.Patterns.{units, unitsInOne}
+use Rattle.words.specs.Patterns.{units, unitsInOne}
 use Rattle.scalar.specs.declared.coefficients.Entry.{Entry}
 use Rattle.scalar.specs.declared.coefficients.Entry.the-variants.{Value, Outside}
 

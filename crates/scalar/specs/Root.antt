@@ -9,7 +9,7 @@ use lib.Ieee.{Float, nan, inf, fin, le}
 use Rattle.words.specs.Words.{double}
 use Rattle.words.specs.Loop.{pick}
 use Rattle.scalar.specs.Products.{product}
-use Rattle.scalar.specs.Patterns.{infinityPattern}
+use Rattle.words.specs.Patterns.{infinityPattern}
 use Rattle.scalar.specs.Halving.{halve}
 
 -- the number with the pattern b is kept below: its m-fold product doesn't exceed v

@@ -4,7 +4,7 @@ use mathlib.Core.Bool.{Bool, true, false, _&&_, _||_}
 use lib.Dec.{ltb, eqb}
 use lib.Ieee.{Float, nan, inf, fin}
 use Rattle.words.specs.Words.{double}
-use Rattle.scalar.specs.Patterns.{units, infinityPattern}
+use Rattle.words.specs.Patterns.{units, infinityPattern}
 use Rattle.scalar.specs.Halving.{halve}
 use Rattle.scalar.specs.SquareRoot.{squareOf}
 

@@ -7,7 +7,7 @@ use mathlib.Core.Bool.{Bool, true, false}
 use lib.IntN.{ℤ}
 use lib.Ieee.{Float, nan, inf, fin, binary64, toBits}
 use Rattle.words.specs.Words.{double}
-use Rattle.scalar.specs.Patterns.{units, unitsInOne, infinityPattern}
+use Rattle.words.specs.Patterns.{units, unitsInOne, infinityPattern}
 
 -- the exact root of x, in units of the smallest double, is the root of this whole number: x is `units` * 2 ^ -1074, and the square of a unit 2 ^ -2148
 unfoldable pub squareOf : Float → ℕ

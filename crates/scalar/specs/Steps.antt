@@ -5,7 +5,7 @@ use mathlib.Core.Bool.{Bool, true, false}
 use lib.Dec.{T}
 use lib.Ieee.{Float}
 use lib.Ieee.Positive.{positive}
-use Rattle.scalar.specs.Patterns.{unitsInOne, infinityPattern}
+use Rattle.words.specs.Patterns.{unitsInOne, infinityPattern}
 use Rattle.scalar.specs.Root.{keeps}
 use Rattle.scalar.specs.declared.digits.Beyond.{Beyond}
 use Rattle.scalar.specs.declared.digits.Beyond.the-variants.{Small, Other}

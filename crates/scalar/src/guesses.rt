@@ -1,7 +1,7 @@
 // Guesses at roots, in plain arithmetic on doubles. Nothing rests on them: whoever takes a guess tests it, and a bad one only costs time.
 // A guess starts from the pattern b of v, divided by the order, which is the logarithm cut to a few digits.
 ghost use Prim.Native.Nat.{_<_, _≤_, _^_};
-ghost use Rattle.scalar.specs.Patterns.{infinityPattern};
+ghost use Rattle.words.specs.Patterns.{infinityPattern};
 use crate::patterns::number;
 use crate::patterns::pattern;
 

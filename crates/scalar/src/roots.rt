@@ -3,7 +3,7 @@
 ghost use mathlib.Core.Path.{_≡_};
 ghost use Prim.Native.Nat.{_<_, _≤_};
 ghost use Rattle.scalar.specs.Products.{product};
-ghost use Rattle.scalar.specs.Patterns.{infinityPattern};
+ghost use Rattle.words.specs.Patterns.{infinityPattern};
 ghost use Rattle.scalar.specs.Root.{keeps, rootOf};
 ghost use Rattle.scalar.specs.Steps.{Ordered, Ends, Seen};
 use crate::guesses::root_guess;

@@ -1,7 +1,7 @@
 // The square root of a double, proved from IEEE 754. The number is brought to a whole number with an even place, whose root is cut to 53 digits and rounded.
 ghost use mathlib.Core.Path.{_≡_};
 ghost use Prim.Native.Nat.{_<_, _*_, _^_};
-ghost use Rattle.scalar.specs.Patterns.{units, unitsInOne, infinityPattern};
+ghost use Rattle.words.specs.Patterns.{units, unitsInOne, infinityPattern};
 ghost use Rattle.scalar.specs.SquareRoot.{IsSquareRoot};
 ghost use Rattle.scalar.specs.Sqrt.{nearestRoot, sqrtOf};
 ghost use Rattle.scalar.specs.Steps.{FullWidth, EvenPlace};

@@ -23,7 +23,8 @@ use Rattle.blocks.specs.declared.step.Step.the-variants as step
 use Rattle.blocks.specs.Setters.{_▸_, atStage}
 use Rattle.blocks.specs.Matrices.{call, Tried, tried, triedOf, passesOf, passAt}
 use Rattle.blocks.specs.Jacobian.{Columned, columned, askJacobianBy, askColumnOf, columnAt, columnOf, perturbation}
-use Rattle.blocks.specs.Advance.{Stepped, stepped, setFactors, setColumn, setDifferences, jacobianOf, repliedOf, calledOf}
+use Rattle.blocks.specs.MemorySetters.{setFactors, setColumn, setDifferences}
+use Rattle.blocks.specs.Advance.{Stepped, stepped, jacobianOf, repliedOf, calledOf}
 use Rattle.blocks.proofs.PassLaws.{passed, passes-core}
 use Rattle.history.specs.Host.{isEnd, wrote, filled}
 use Rattle.solve.specs.Talk.{Host, World, onMemory, ask, replyOf}

@@ -3,7 +3,7 @@ use Prim.Native.Nat.{ℕ}
 use mathlib.Core.Bool.{false, _&&_, _||_}
 use mathlib.Core.Path.{refl}
 use lib.Ieee.{Float, le}
-use Rattle.words.specs.Words.{double}
+use Rattle.words.specs.Constants.{«1·0»}
 use Rattle.words.specs.Loop.{loop}
 use Rattle.state.specs.declared.run.Run.{Run}
 use Rattle.state.specs.declared.run.Stage.the-variants as stage
@@ -17,7 +17,8 @@ use Rattle.blocks.specs.Entries.{three}
 use Rattle.blocks.specs.Matrices.{call}
 use Rattle.blocks.specs.Estimate.{solvedFirst, errorOf, plusAt, sumAt}
 use Rattle.blocks.specs.Judge.{Judged, judgedOf, testedOf, estimateOf, refinedOf, askAccepted}
-use Rattle.blocks.specs.Advance.{Stepped, stepped, setCont, setYCont, repliedOf, concludeOf}
+use Rattle.blocks.specs.MemorySetters.{setCont, setYCont}
+use Rattle.blocks.specs.Advance.{Stepped, stepped, repliedOf, concludeOf}
 use Rattle.history.specs.Host.{isEnd}
 use Rattle.solve.specs.Talk.{Host, World, onMemory, ask}
 use Rattle.solve.specs.Solve.{Result, Next, estimate, refine, judge}
@@ -43,7 +44,7 @@ module _ (host : Host) (d : ℕ) where
   unfolding judgedOf judge
   judge-goes main next mains goes err r w sound =
       both (λ (l : Logged Judged) (R : Result). From host d (stepped (l .core .step) (setYCont (l .core .y) (l .core .cont) (w .memory))) (w .exchanges) R)
-      (le err (double 0x3ff0_0000_0000_0000)) _ _ _ _
+      (le err «1·0») _ _ _ _
       (λ _. goes _ _ (accepted-sound r sound err _))
       (λ _. mains _ w (rejected-sound _ sound _))
 
@@ -61,7 +62,7 @@ module _ (host : Host) (d : ℕ) where
         let x = v ▸ onMemory (setCont cont) in
         let err′ = errorOf n (m .amounts .scal) cont in
         both (λ (l : Logged Judged) (R : Result). From host d (stepped (l .core .step) (setYCont (l .core .y) (l .core .cont) (w .memory))) (w .exchanges) R)
-        (le (double 0x3ff0_0000_0000_0000) err && (r .control .first || r .control .reject)) _ _ (next err′ (c .run) x) (next err r w)
+        (le «1·0» err && (r .control .first || r .control .reject)) _ _ (next err′ (c .run) x) (next err r w)
         (λ _. ask-on host d c u (next err′ (c .run) x) (refl {a = false}) (goes err′ (c .run) x sound))
         (λ _. goes err r w sound)
 

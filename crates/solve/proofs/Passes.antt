@@ -11,7 +11,8 @@ use Rattle.state.specs.Memory.{Memory}
 use Rattle.blocks.specs.declared.step.Step.{Step}
 use Rattle.blocks.specs.declared.step.Step.the-variants as step
 use Rattle.blocks.specs.Matrices.{Tried, tried, triedOf, passesOn, runOf, passesOf}
-use Rattle.blocks.specs.Advance.{stepped, setFactors, calledOf}
+use Rattle.blocks.specs.MemorySetters.{setFactors}
+use Rattle.blocks.specs.Advance.{stepped, calledOf}
 use Rattle.blocks.proofs.PassLaws.{passed, passes-core}
 use Rattle.solve.proofs.Sound.{Sound, Out, Past, tried-past}
 use Rattle.solve.proofs.Goes.{finish}

@@ -6,7 +6,8 @@ use native.Mathlib.Omega.{arith}
 use lib.Dec.{leb, ltb}
 use borrow.Author.Tests.{leb-true, leb-false}
 use lib.Ieee.{le}
-use Rattle.words.specs.Words.{double, _⊕_, _⊗_}
+use Rattle.words.specs.Words.{_⊕_, _⊗_}
+use Rattle.words.specs.Constants.{«0·1»}
 use Rattle.words.specs.Loop.{loop, pick}
 use Rattle.words.proofs.Branch.{pick-yes, pick-no}
 use Rattle.scalar.specs.Coefficients.{C1, C2}
@@ -24,7 +25,8 @@ use Rattle.blocks.specs.Setters.{_▸_}
 use Rattle.blocks.specs.Matrices.{failedOf, passesOf, passAt}
 use Rattle.blocks.specs.Attempt.{Begun, askStageOf, askFirstOf, beganOf, attemptOf}
 use Rattle.blocks.specs.Newton.{Resumed, againOf, roundOf}
-use Rattle.blocks.specs.Advance.{stepped, setCont, setNewton, repliedOf, concludeOf, calledOf}
+use Rattle.blocks.specs.MemorySetters.{setCont, setNewton}
+use Rattle.blocks.specs.Advance.{stepped, repliedOf, concludeOf, calledOf}
 use Rattle.history.specs.Host.{isEnd}
 use Rattle.solve.specs.Talk.{Host, World, world, onMemory, ask}
 use Rattle.solve.specs.Solve.{Result, Next, onward, rounded, newton, attempt}
@@ -112,6 +114,7 @@ pub attempt-goes : (host : Host) (d : ℕ) (next : Next) →
 unfolding passesOf passAt loop pick calledOf attemptOf beganOf attempt
 attempt-goes host d next goes r w sound =
     both (FromBegun host d w) (ltb (r .settings .«max_steps») (r .counts .total + 1)) _ _ _ _ (λ _. ended-on host d _ w (ends status.NeedLargerNMax refl refl))
-    (λ _. both (FromBegun host d w) (le (double 0x3fb9_9999_9999_999a ⊗ absOf (r .numbers .h)) (absOf (r .numbers .x) ⊗ r .settings .uround)) _ _ _ _
+    (λ _. both (FromBegun host d w)
+    (le («0·1» ⊗ absOf (r .numbers .h)) (absOf (r .numbers .x) ⊗ r .settings .uround)) _ _ _ _
     (λ _. ended-on host d _ w (ends status.StepSizeTooSmall refl refl))
     (λ _. goes _ _ sound refl))

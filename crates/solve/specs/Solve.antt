@@ -1,7 +1,6 @@
 -- `solve` past its checks, in direct style, to be held beside radau.rs:330-798: the pieces stand in the order of the text, and mainOf and solveOf put them together.
 -- A piece is given the run, the world, and what follows: `next` is the text below it, `main` is `continue 'main`; `break 'main` is `finished`.
 -- Rust's calls of `derivative`, `jac` and `solout` are `ask`; what is computed between two of them are the definitions of `blocks`, which hold the floating-point text.
--- Doubles by their patterns: 0x3ff0_0000_0000_0000 is 1.0, 0x3fb9_9999_9999_999a is 0.1.
 use Prim.Native.Nat.{ℕ, zero, suc, _+_, _<_}
 use mathlib.Core.Bool.{_&&_, _||_}
 use mathlib.Core.Path.{_≡_}
@@ -9,7 +8,8 @@ use mathlib.Core.List.{List, []}
 use lib.Dec.{ltb}
 use lib.ListN.{length, set}
 use lib.Ieee.{Float, le}
-use Rattle.words.specs.Words.{double, _⊕_, _⊗_, _⊘_, _!_}
+use Rattle.words.specs.Words.{_⊕_, _⊗_, _⊘_, _!_}
+use Rattle.words.specs.Constants.{«1·0», «0·1»}
 use Rattle.words.specs.Loop.{loop, pick}
 use Rattle.scalar.specs.Order.{absOf}
 use Rattle.scalar.specs.Coefficients.{C1, C2}
@@ -42,7 +42,9 @@ use Rattle.blocks.specs.Newton.{roundOf}
 use Rattle.blocks.specs.Estimate.{defectOf, sides, sidesOf, solvedFirst, errorOf, plusAt, sumAt}
 use Rattle.blocks.specs.Judge.{moved, movedOf, quotOf, acceptedOf, rejectedOf}
 use Rattle.blocks.specs.Report.{askFirstReport, askReport, arrivedOf}
-use Rattle.blocks.specs.Advance.{setScal, setCont, setYCont, setF12, setNewton, setFactors, setDifferences, setColumn, rescaled}
+use Rattle.blocks.specs.MemorySetters.{setScal, setCont, setYCont, setF12, setNewton, setFactors, setDifferences}
+use Rattle.blocks.specs.MemorySetters.{setColumn}
+use Rattle.blocks.specs.Advance.{rescaled}
 use Rattle.solve.specs.Talk.{Host, World, world, onMemory, ask, replyOf}
 
 -- `solve` has returned (radau.rs:342-347, 798): the run, with its status, step and counts, and the world; or 'main was begun as often as was allowed
@@ -135,7 +137,8 @@ module _ (host : Host) where
       let scal = weightedOf (s .shape) (s .numbers .hhfac) (m .amounts .scal) in
       let guess = guessOf (s .control .first) (s .shape .n) (s .numbers .h) (s .numbers .hold) (m .amounts .cont) (m .newton) in
       pick (ltb (r .settings .«max_steps») (r .counts .total + 1)) (broken status.NeedLargerNMax s w)
-      (pick (le (double 0x3fb9_9999_9999_999a ⊗ absOf (r .numbers .h)) (absOf (r .numbers .x) ⊗ r .settings .uround)) (broken status.StepSizeTooSmall s w)
+      (pick (le («0·1» ⊗ absOf (r .numbers .h)) (absOf (r .numbers .x) ⊗ r .settings .uround))
+      (broken status.StepSizeTooSmall s w)
       (next (started s) (w ▸ onMemory (setScal scal) ▸ onMemory (setNewton guess))))
 
   -- ---- the Newton iteration
@@ -177,7 +180,7 @@ module _ (host : Host) where
       let v = ask host c (w ▸ onMemory (setCont (loop (plusAt (w .memory .amounts .y)) 0 n (w .memory .amounts .cont)))) in
       let m = v .memory in
       let cont = solvedFirst n (m .factors .e1) (m .factors .ip1) (loop (sumAt (m .newton .f1) (m .newton .f2)) 0 n (m .amounts .cont)) in
-      pick (le (double 0x3ff0_0000_0000_0000) err && (r .control .first || r .control .reject))
+      pick (le «1·0» err && (r .control .first || r .control .reject))
       (next (errorOf n (m .amounts .scal) cont) (c .run) (v ▸ onMemory (setCont cont)))
       (next err r w)
 
@@ -190,7 +193,7 @@ module _ (host : Host) where
       let quot = quotOf (r .settings) (r .control .«newt_iter») err in
       let v = movedOf (r .shape .n) (three (m .newton .z1) (m .newton .z2) (m .newton .z3)) (moved (m .amounts .y) (m .amounts .cont)) in
       let hnew = r .numbers .h ⊘ quot in
-      pick (le err (double 0x3ff0_0000_0000_0000))
+      pick (le err «1·0»)
       (next (acceptedOf r err quot) (w ▸ onMemory (setYCont (v .y) (v .cont))))
       (main (rejectedOf (r ▸ inNumbers (setHnew hnew)) hnew) w)
 

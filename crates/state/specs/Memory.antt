@@ -5,7 +5,7 @@ use mathlib.Core.List.{List}
 use lib.Dec.{eqb}
 use lib.ListN.{length, replicate}
 use lib.Ieee.{Float}
-use Rattle.words.specs.Words.{double}
+use Rattle.words.specs.Constants.{«0·0»}
 
 pub record Amounts : Type 0 where
   pub y : List Float
@@ -92,7 +92,7 @@ lengthsFit n m =
 -- ---- parts that are set to +0
 
 unfoldable pub zeros : ℕ → List Float
-zeros n = replicate n (double 0)
+zeros n = replicate n «0·0»
 
 unfoldable pub noughts : ℕ → List ℕ
 noughts n = replicate n 0

@@ -3,7 +3,7 @@ use Prim.Native.Nat.{ℕ, _+_, _*_, _/_, _%_, _^_, _≤_, _<_}
 use mathlib.Core.Path.{_≡_, sym, ap, subst, _∙_}
 use native.Mathlib.Omega.{arith}
 use borrow.Author.Needs.{needs}
-use Rattle.scalar.specs.Patterns.{units, unitsInOne, infinityPattern}
+use Rattle.words.specs.Patterns.{units, unitsInOne, infinityPattern}
 use Rattle.scalar.specs.Steps.{FullWidth}
 use Rattle.scalar.proofs.PatternLaws.{units-low, units-high}
 use Rattle.scalar.proofs.DigitLaws.{field-place}

@@ -2,7 +2,7 @@
 use Prim.Native.Nat.{_^_, _<_}
 use native.Mathlib.Omega.{arith}
 use borrow.Author.Needs.{needs}
-use Rattle.scalar.specs.Patterns.{units}
+use Rattle.words.specs.Patterns.{units}
 use Rattle.scalar.specs.Steps.{EvenPlace}
 use Rattle.scalar.proofs.RoundingLaws.{near-fits, near-two, near-one, near-none}
 use Rattle.scalar.proofs.square_root.root_pattern.Statement.{statement}

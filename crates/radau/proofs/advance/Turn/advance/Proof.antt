@@ -20,7 +20,8 @@ use Rattle.blocks.specs.declared.step.Call.{Call}
 use Rattle.blocks.specs.declared.step.Step.{Step}
 use Rattle.blocks.specs.declared.step.Step.the-variants as step
 use Rattle.blocks.specs.Matrices.{tried, passesOf}
-use Rattle.blocks.specs.Advance.{Outcome, outcome, stepped, setFactors, repliedOf, called, calledOf, advanceOf}
+use Rattle.blocks.specs.MemorySetters.{setFactors}
+use Rattle.blocks.specs.Advance.{Outcome, outcome, stepped, repliedOf, called, calledOf, advanceOf}
 use Rattle.blocks.specs.Needs.{StepFit}
 use Rattle.blocks.proofs.AdmittedLaws.{Admitted, admitted}
 use Rattle.blocks.proofs.AdvanceLaws.{advance-refused, advance-passed}
