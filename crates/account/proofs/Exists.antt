@@ -50,7 +50,7 @@ use Rattle.blocks.specs.Matrices.{failedOf, buildAt, buildRow, builtOf, complex
 use Rattle.blocks.specs.Newton.{transformAt, massSumAt, massSums, addSums, massAddAt, rightSides, solvedOf, normAt, dynoOf, updatedOf, concludedOf, slowRound, slowedOf, predictedOf, rateOf, pacedOf, judgedRound, roundOf, againOf}
 use Rattle.blocks.specs.Report.{isDue, askReport, reportedOf, isInterrupt, hnewOf, grownOf, renewedOf, arrivedOf}
 use Rattle.blocks.specs.Scale.{scaleAt, scaledOf, divideAt, weightedOf}
-use Rattle.history.specs.History.{nextPoint, Allowed, Follows, FollowsOpened}
+use Rattle.history.specs.History.{nextPoint}
 use Rattle.history.specs.Host.{isEnd, partAt, filled, modified, wrote}
 use Rattle.scalar.specs.SquareRoot.{squareOf}
 use Rattle.words.specs.Words.{double}
@@ -113,7 +113,7 @@ chosen =
 abbrev tolerance : Float
 tolerance = double 0x3f50_624d_d2f1_a9fc
 
-abbrev sample : Opening
+abbrev pub sample : Opening
 sample = opening chosen 1 (double 0) (double 0x3ff0_0000_0000_0000) (Scalars tolerance tolerance) lent
 
 -- where its first request leaves the talk
@@ -139,16 +139,16 @@ abbrev pub end : Journal
 end = after start (actions host 14 start)
 
 starts : Starts (openOf sample) start
-unfolding Starts at put loop pick entryOf halve absOf maxOf minOf clampOf signumOf units unitsInOne timesAt powerOf product keeps halvedRoot rootOfForm rootOf border reaches nearestRoot sqrtOf Remains atComplex putComplex entryComplex setComplex sizeComplex negatedComplex plusComplex timesComplex squareComplex reciprocalComplex overComplex betterAt pivotRow swapped scaledAt matrixElimination.columnAt blocksJacobian.columnAt eliminated passWith passed matrixElimination.passAt blocksMatrices.passAt lastTested single worked answered divided matrixLinear.addAt blocksNewton.addAt forward takeAt back linSolveOf dividedComplex addComplexAt forwardComplex backComplex linSolveComplexOf updateAt updated reciprocal multiplier isZero luDecompOf addedComplex realAt imaginaryAt generalAt updatedComplex multiplierComplex isZeroComplex luDecompComplexOf exchanged forwardAt matrixSubstitution.backAt blocksNewton.backAt substituted solved amountsFit newtonFit givenFit factorsFit differencesFit zeros noughts strayAt stray resultAt orElse orNone askingAt answersReport unfitOf nind1Of shapeOf wishedStep firstStepOf fixedOf firstRun massKept clearedOf openingOpening.acceptedOf blocksJudge.acceptedOf byVerdict openOf verdictOf badNumber placeOf massGiven rtolGiven atolGiven partitionFails givenZero givenBelow nextOf turnAt listTurnAt scalarTurns convertedOf newtonTolOf startedOf returnedOf concludeOf repliedOf calledOf advanceBy stageSumAt askStageOf guessed guessAt guessOf beganOf attemptOf massAt jacAt rtolAt atolAt combined defectAt defectOf rowAt rowSum sideAt sidesOf solvedFirst errorAt errorOf plusAt sumAt askJacobianBy perturbation askColumnOf columnOf facOf between quotOf predictiveQuot moveAt movedOf rejectedOf judgedOf testedOf estimateOf refinedOf failedOf buildAt buildRow builtOf complexTriedOf realTriedOf triedOf passesOf transformAt massSumAt massSums addSums massAddAt rightSides solvedOf normAt dynoOf updatedOf concludedOf slowRound slowedOf predictedOf rateOf pacedOf judgedRound roundOf againOf isDue askReport reportedOf isInterrupt hnewOf grownOf renewedOf arrivedOf scaleAt scaledOf divideAt weightedOf nextPoint Allowed Follows FollowsOpened isEnd partAt filled modified wrote ieee.span ieee.climb ieee.size ieee.odd ieee.units ieee.round ieee.neg ieee.sum ieee.add ieee.sub ieee.mul ieee.div ieee.lt ieee.eq ieee.le ieee.ne ieee.ofInt ieee.isNan ieee.ofFields ieee.ofBits ieee.nanBits ieee.toBits ieee.toUnsigned ieee.fits squareOf
+unfolding Starts at put loop pick entryOf halve absOf maxOf minOf clampOf signumOf units unitsInOne timesAt powerOf product keeps halvedRoot rootOfForm rootOf border reaches nearestRoot sqrtOf Remains atComplex putComplex entryComplex setComplex sizeComplex negatedComplex plusComplex timesComplex squareComplex reciprocalComplex overComplex betterAt pivotRow swapped scaledAt matrixElimination.columnAt blocksJacobian.columnAt eliminated passWith passed matrixElimination.passAt blocksMatrices.passAt lastTested single worked answered divided matrixLinear.addAt blocksNewton.addAt forward takeAt back linSolveOf dividedComplex addComplexAt forwardComplex backComplex linSolveComplexOf updateAt updated reciprocal multiplier isZero luDecompOf addedComplex realAt imaginaryAt generalAt updatedComplex multiplierComplex isZeroComplex luDecompComplexOf exchanged forwardAt matrixSubstitution.backAt blocksNewton.backAt substituted solved amountsFit newtonFit givenFit factorsFit differencesFit zeros noughts strayAt stray resultAt orElse orNone askingAt answersReport unfitOf nind1Of shapeOf wishedStep firstStepOf fixedOf firstRun massKept clearedOf openingOpening.acceptedOf blocksJudge.acceptedOf byVerdict openOf verdictOf badNumber placeOf massGiven rtolGiven atolGiven partitionFails givenZero givenBelow nextOf turnAt listTurnAt scalarTurns convertedOf newtonTolOf startedOf returnedOf concludeOf repliedOf calledOf advanceBy stageSumAt askStageOf guessed guessAt guessOf beganOf attemptOf massAt jacAt rtolAt atolAt combined defectAt defectOf rowAt rowSum sideAt sidesOf solvedFirst errorAt errorOf plusAt sumAt askJacobianBy perturbation askColumnOf columnOf facOf between quotOf predictiveQuot moveAt movedOf rejectedOf judgedOf testedOf estimateOf refinedOf failedOf buildAt buildRow builtOf complexTriedOf realTriedOf triedOf passesOf transformAt massSumAt massSums addSums massAddAt rightSides solvedOf normAt dynoOf updatedOf concludedOf slowRound slowedOf predictedOf rateOf pacedOf judgedRound roundOf againOf isDue askReport reportedOf isInterrupt hnewOf grownOf renewedOf arrivedOf scaleAt scaledOf divideAt weightedOf nextPoint isEnd partAt filled modified wrote ieee.span ieee.climb ieee.size ieee.odd ieee.units ieee.round ieee.neg ieee.sum ieee.add ieee.sub ieee.mul ieee.div ieee.lt ieee.eq ieee.le ieee.ne ieee.ofInt ieee.isNan ieee.ofFields ieee.ofBits ieee.nanBits ieee.toBits ieee.toUnsigned ieee.fits squareOf
 starts = (refl, refl, refl)
 
 fair : plays host 14 start ≡ true
-unfolding plays sameLength ofKind next at put loop pick entryOf halve absOf maxOf minOf clampOf signumOf units unitsInOne timesAt powerOf product keeps halvedRoot rootOfForm rootOf border reaches nearestRoot sqrtOf Remains atComplex putComplex entryComplex setComplex sizeComplex negatedComplex plusComplex timesComplex squareComplex reciprocalComplex overComplex betterAt pivotRow swapped scaledAt matrixElimination.columnAt blocksJacobian.columnAt eliminated passWith passed matrixElimination.passAt blocksMatrices.passAt lastTested single worked answered divided matrixLinear.addAt blocksNewton.addAt forward takeAt back linSolveOf dividedComplex addComplexAt forwardComplex backComplex linSolveComplexOf updateAt updated reciprocal multiplier isZero luDecompOf addedComplex realAt imaginaryAt generalAt updatedComplex multiplierComplex isZeroComplex luDecompComplexOf exchanged forwardAt matrixSubstitution.backAt blocksNewton.backAt substituted solved amountsFit newtonFit givenFit factorsFit differencesFit zeros noughts strayAt stray resultAt orElse orNone askingAt answersReport unfitOf nind1Of shapeOf wishedStep firstStepOf fixedOf firstRun massKept clearedOf openingOpening.acceptedOf blocksJudge.acceptedOf byVerdict openOf verdictOf badNumber placeOf massGiven rtolGiven atolGiven partitionFails givenZero givenBelow nextOf turnAt listTurnAt scalarTurns convertedOf newtonTolOf startedOf returnedOf concludeOf repliedOf calledOf advanceBy stageSumAt askStageOf guessed guessAt guessOf beganOf attemptOf massAt jacAt rtolAt atolAt combined defectAt defectOf rowAt rowSum sideAt sidesOf solvedFirst errorAt errorOf plusAt sumAt askJacobianBy perturbation askColumnOf columnOf facOf between quotOf predictiveQuot moveAt movedOf rejectedOf judgedOf testedOf estimateOf refinedOf failedOf buildAt buildRow builtOf complexTriedOf realTriedOf triedOf passesOf transformAt massSumAt massSums addSums massAddAt rightSides solvedOf normAt dynoOf updatedOf concludedOf slowRound slowedOf predictedOf rateOf pacedOf judgedRound roundOf againOf isDue askReport reportedOf isInterrupt hnewOf grownOf renewedOf arrivedOf scaleAt scaledOf divideAt weightedOf nextPoint Allowed Follows FollowsOpened isEnd partAt filled modified wrote ieee.span ieee.climb ieee.size ieee.odd ieee.units ieee.round ieee.neg ieee.sum ieee.add ieee.sub ieee.mul ieee.div ieee.lt ieee.eq ieee.le ieee.ne ieee.ofInt ieee.isNan ieee.ofFields ieee.ofBits ieee.nanBits ieee.toBits ieee.toUnsigned ieee.fits squareOf
+unfolding plays sameLength ofKind next at put loop pick entryOf halve absOf maxOf minOf clampOf signumOf units unitsInOne timesAt powerOf product keeps halvedRoot rootOfForm rootOf border reaches nearestRoot sqrtOf Remains atComplex putComplex entryComplex setComplex sizeComplex negatedComplex plusComplex timesComplex squareComplex reciprocalComplex overComplex betterAt pivotRow swapped scaledAt matrixElimination.columnAt blocksJacobian.columnAt eliminated passWith passed matrixElimination.passAt blocksMatrices.passAt lastTested single worked answered divided matrixLinear.addAt blocksNewton.addAt forward takeAt back linSolveOf dividedComplex addComplexAt forwardComplex backComplex linSolveComplexOf updateAt updated reciprocal multiplier isZero luDecompOf addedComplex realAt imaginaryAt generalAt updatedComplex multiplierComplex isZeroComplex luDecompComplexOf exchanged forwardAt matrixSubstitution.backAt blocksNewton.backAt substituted solved amountsFit newtonFit givenFit factorsFit differencesFit zeros noughts strayAt stray resultAt orElse orNone askingAt answersReport unfitOf nind1Of shapeOf wishedStep firstStepOf fixedOf firstRun massKept clearedOf openingOpening.acceptedOf blocksJudge.acceptedOf byVerdict openOf verdictOf badNumber placeOf massGiven rtolGiven atolGiven partitionFails givenZero givenBelow nextOf turnAt listTurnAt scalarTurns convertedOf newtonTolOf startedOf returnedOf concludeOf repliedOf calledOf advanceBy stageSumAt askStageOf guessed guessAt guessOf beganOf attemptOf massAt jacAt rtolAt atolAt combined defectAt defectOf rowAt rowSum sideAt sidesOf solvedFirst errorAt errorOf plusAt sumAt askJacobianBy perturbation askColumnOf columnOf facOf between quotOf predictiveQuot moveAt movedOf rejectedOf judgedOf testedOf estimateOf refinedOf failedOf buildAt buildRow builtOf complexTriedOf realTriedOf triedOf passesOf transformAt massSumAt massSums addSums massAddAt rightSides solvedOf normAt dynoOf updatedOf concludedOf slowRound slowedOf predictedOf rateOf pacedOf judgedRound roundOf againOf isDue askReport reportedOf isInterrupt hnewOf grownOf renewedOf arrivedOf scaleAt scaledOf divideAt weightedOf nextPoint isEnd partAt filled modified wrote ieee.span ieee.climb ieee.size ieee.odd ieee.units ieee.round ieee.neg ieee.sum ieee.add ieee.sub ieee.mul ieee.div ieee.lt ieee.eq ieee.le ieee.ne ieee.ofInt ieee.isNan ieee.ofFields ieee.ofBits ieee.nanBits ieee.toBits ieee.toUnsigned ieee.fits squareOf
 fair = refl
 
 pub success-journal : JournalOf sample end
 success-journal = computed sample start host 14 starts fair
 
-pub success-exists : end .point .request ≡ request.Ended Success
-unfolding actions after next at put loop pick entryOf halve absOf maxOf minOf clampOf signumOf units unitsInOne timesAt powerOf product keeps halvedRoot rootOfForm rootOf border reaches nearestRoot sqrtOf Remains atComplex putComplex entryComplex setComplex sizeComplex negatedComplex plusComplex timesComplex squareComplex reciprocalComplex overComplex betterAt pivotRow swapped scaledAt matrixElimination.columnAt blocksJacobian.columnAt eliminated passWith passed matrixElimination.passAt blocksMatrices.passAt lastTested single worked answered divided matrixLinear.addAt blocksNewton.addAt forward takeAt back linSolveOf dividedComplex addComplexAt forwardComplex backComplex linSolveComplexOf updateAt updated reciprocal multiplier isZero luDecompOf addedComplex realAt imaginaryAt generalAt updatedComplex multiplierComplex isZeroComplex luDecompComplexOf exchanged forwardAt matrixSubstitution.backAt blocksNewton.backAt substituted solved amountsFit newtonFit givenFit factorsFit differencesFit zeros noughts strayAt stray resultAt orElse orNone askingAt answersReport unfitOf nind1Of shapeOf wishedStep firstStepOf fixedOf firstRun massKept clearedOf openingOpening.acceptedOf blocksJudge.acceptedOf byVerdict openOf verdictOf badNumber placeOf massGiven rtolGiven atolGiven partitionFails givenZero givenBelow nextOf turnAt listTurnAt scalarTurns convertedOf newtonTolOf startedOf returnedOf concludeOf repliedOf calledOf advanceBy stageSumAt askStageOf guessed guessAt guessOf beganOf attemptOf massAt jacAt rtolAt atolAt combined defectAt defectOf rowAt rowSum sideAt sidesOf solvedFirst errorAt errorOf plusAt sumAt askJacobianBy perturbation askColumnOf columnOf facOf between quotOf predictiveQuot moveAt movedOf rejectedOf judgedOf testedOf estimateOf refinedOf failedOf buildAt buildRow builtOf complexTriedOf realTriedOf triedOf passesOf transformAt massSumAt massSums addSums massAddAt rightSides solvedOf normAt dynoOf updatedOf concludedOf slowRound slowedOf predictedOf rateOf pacedOf judgedRound roundOf againOf isDue askReport reportedOf isInterrupt hnewOf grownOf renewedOf arrivedOf scaleAt scaledOf divideAt weightedOf nextPoint Allowed Follows FollowsOpened isEnd partAt filled modified wrote ieee.span ieee.climb ieee.size ieee.odd ieee.units ieee.round ieee.neg ieee.sum ieee.add ieee.sub ieee.mul ieee.div ieee.lt ieee.eq ieee.le ieee.ne ieee.ofInt ieee.isNan ieee.ofFields ieee.ofBits ieee.nanBits ieee.toBits ieee.toUnsigned ieee.fits squareOf
-success-exists = refl
+pub success-reached : end .point .request ≡ request.Ended Success
+unfolding actions after next at put loop pick entryOf halve absOf maxOf minOf clampOf signumOf units unitsInOne timesAt powerOf product keeps halvedRoot rootOfForm rootOf border reaches nearestRoot sqrtOf Remains atComplex putComplex entryComplex setComplex sizeComplex negatedComplex plusComplex timesComplex squareComplex reciprocalComplex overComplex betterAt pivotRow swapped scaledAt matrixElimination.columnAt blocksJacobian.columnAt eliminated passWith passed matrixElimination.passAt blocksMatrices.passAt lastTested single worked answered divided matrixLinear.addAt blocksNewton.addAt forward takeAt back linSolveOf dividedComplex addComplexAt forwardComplex backComplex linSolveComplexOf updateAt updated reciprocal multiplier isZero luDecompOf addedComplex realAt imaginaryAt generalAt updatedComplex multiplierComplex isZeroComplex luDecompComplexOf exchanged forwardAt matrixSubstitution.backAt blocksNewton.backAt substituted solved amountsFit newtonFit givenFit factorsFit differencesFit zeros noughts strayAt stray resultAt orElse orNone askingAt answersReport unfitOf nind1Of shapeOf wishedStep firstStepOf fixedOf firstRun massKept clearedOf openingOpening.acceptedOf blocksJudge.acceptedOf byVerdict openOf verdictOf badNumber placeOf massGiven rtolGiven atolGiven partitionFails givenZero givenBelow nextOf turnAt listTurnAt scalarTurns convertedOf newtonTolOf startedOf returnedOf concludeOf repliedOf calledOf advanceBy stageSumAt askStageOf guessed guessAt guessOf beganOf attemptOf massAt jacAt rtolAt atolAt combined defectAt defectOf rowAt rowSum sideAt sidesOf solvedFirst errorAt errorOf plusAt sumAt askJacobianBy perturbation askColumnOf columnOf facOf between quotOf predictiveQuot moveAt movedOf rejectedOf judgedOf testedOf estimateOf refinedOf failedOf buildAt buildRow builtOf complexTriedOf realTriedOf triedOf passesOf transformAt massSumAt massSums addSums massAddAt rightSides solvedOf normAt dynoOf updatedOf concludedOf slowRound slowedOf predictedOf rateOf pacedOf judgedRound roundOf againOf isDue askReport reportedOf isInterrupt hnewOf grownOf renewedOf arrivedOf scaleAt scaledOf divideAt weightedOf nextPoint isEnd partAt filled modified wrote ieee.span ieee.climb ieee.size ieee.odd ieee.units ieee.round ieee.neg ieee.sum ieee.add ieee.sub ieee.mul ieee.div ieee.lt ieee.eq ieee.le ieee.ne ieee.ofInt ieee.isNan ieee.ofFields ieee.ofBits ieee.nanBits ieee.toBits ieee.toUnsigned ieee.fits squareOf
+success-reached = refl
