@@ -242,9 +242,10 @@ pub success-exactly-proof : (o : Opening) (j : Journal) → JournalOf o j
     → (j .point .request ≡ request.Ended status.Success)
     ↔ ((isEnd (j .point .request) ≡ true) × (standingAt (j .turns) .landed ≡ true))
 unfolding says isEnd
-success-exactly-proof o j w =
-    (λ e. (ap isEnd e, statuses-proof o j w status.Success status.Success e),
-    λ h. by-request (j .point .request) refl (h .0) (h .1))
+success-exactly-proof o j w = (
+  λ e. (ap isEnd e, statuses-proof o j w status.Success status.Success e),
+  λ h. by-request (j .point .request) refl (h .0) (h .1),
+)
   where
     only : (s : Status) → sameStatus s status.Success ≡ true → s ≡ status.Success
     only status.Success e = refl

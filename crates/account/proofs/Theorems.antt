@@ -24,8 +24,8 @@ use Rattle.account.proofs.Journals.{not-yet-proof, success-lands-proof,
 use Rattle.account.proofs.Demand.{demand-3-proof}
 use Rattle.account.proofs.Exists.{sample, end, success-journal, success-reached}
 
--- Demand 3 in one record: whatever a fair host does from an accepted opening on, the run ends, its result has the counts
--- of its history, its four bounds hold, and it says Success exactly when it should.
+-- Demand 3 in one record: whatever a fair host does from an accepted opening on, the run ends, its result has the
+-- counts of its history, its four bounds hold, and it says Success exactly when it should.
 pub demand-3 : (o : Opening) (start : Journal) → Starts (openOf o) start → (h : Strategy) → FairHost h start
     → Demand3 o start h
 demand-3 = demand-3-proof

@@ -13,7 +13,7 @@ use Rattle.state.specs.declared.talk.Verdict.the-variants.{Passed, Refused}
 use Rattle.state.specs.Memory.{Memory}
 use Rattle.opening.specs.Rows.{verdictOf}
 use Rattle.opening.specs.Admission.{admissionRows}
-use Rattle.opening.proofs.RowLaws.{verdict-first}
+use Rattle.opening.proofs.Theorems.{verdict-first}
 use Rattle.blocks.specs.Events.{Event}
 use Rattle.blocks.specs.Advance.{advanceBy, advanceOf}
 use Rattle.blocks.proofs.Ways.{Position, replied, reporting, arrived, main, matrices, attempt, failing, newton, estimate, judging, asked, Closed}
@@ -97,5 +97,5 @@ module _ (r : Run) (p : Reply) (m : Memory) (q : Run) (x : Request) (at : Place)
       subst (Kept r) is k
   by (Refused y) e h = absurd (let z : _≡_ {A = ℕ} 0 1 = cc in omega arith)
 
-  pub advance-kept : advanceOf r p m .core .answer ≡ answer.Asked q x at → Kept r q
-  advance-kept h = by (verdictOf (admissionRows r p m)) refl h
+  pub advance-kept-proof : advanceOf r p m .core .answer ≡ answer.Asked q x at → Kept r q
+  advance-kept-proof h = by (verdictOf (admissionRows r p m)) refl h
