@@ -106,7 +106,7 @@ chosen =
 abbrev tolerance : Float
 tolerance = «0·001»
 
-abbrev sample : Opening
+abbrev pub sample : Opening
 sample = opening chosen 1 «0·0» «1·0» (Scalars tolerance tolerance) lent
 
 -- where its first request leaves the talk
@@ -140,5 +140,5 @@ ran = ((refl, refl, refl), refl, refl)
 pub success-journal : JournalOf sample end
 success-journal = computed sample start host 14 (ran .0) (ran .1)
 
-pub success-exists : end .point .request ≡ request.Ended Success
-success-exists = ran .2
+pub success-reached : end .point .request ≡ request.Ended Success
+success-reached = ran .2

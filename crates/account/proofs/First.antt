@@ -33,7 +33,8 @@ use Rattle.state.proofs.Pivots.{noughts-no-stray}
 use Rattle.opening.specs.Rows.{Opening, openingRows, rangeRows, verdictOf, partitionFails}
 use Rattle.opening.specs.Tolerances.{Columns, columns, Converted, convertedOf, listTurnAt}
 use Rattle.opening.specs.Opening.{firstCounts, firstControl, firstRun, fixedOf, shapeOf, nind1Of, massKept, clearedOf, acceptedOf, byVerdict, openOf}
-use Rattle.opening.proofs.RowLaws.{NoneHolds, verdict-first}
+use Rattle.opening.proofs.RowLaws.{NoneHolds}
+use Rattle.opening.proofs.Theorems.{verdict-first}
 use Rattle.opening.proofs.OpeningLaws.{within}
 use Rattle.blocks.specs.Needs.{MemoryLong}
 use Rattle.blocks.proofs.AdmittedLaws.{long-of}

@@ -1,4 +1,4 @@
--- In order of reading.
+-- In order of reading; Theorems, the last, is what users cite.
 pub mod Lengths
 pub mod PivotsKept
 pub mod Matches
@@ -14,9 +14,10 @@ pub mod First
 pub mod Advance
 pub mod Sound
 pub mod Tally
-pub mod Theorems
+pub mod Journals
 pub mod Played
 pub mod Demand
 pub mod Computed
 pub mod Exists
 pub mod Wrong
+pub mod Theorems

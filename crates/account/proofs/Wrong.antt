@@ -17,7 +17,7 @@ use Rattle.history.specs.History.{nextPoint}
 use Rattle.account.specs.Journal.{Fair, turn, Journal, journal, next, Starts}
 use Rattle.account.specs.Reading.{countsOf}
 use Rattle.account.proofs.Sound.{passes}
-use Rattle.account.proofs.Theorems.{Sound, sound-first, sound-next, sound-counts}
+use Rattle.account.proofs.Journals.{Sound, sound-first, sound-next, sound-counts}
 
 -- what a solver does at an advance, and the journal that it leads to
 abbrev pub Solver : Type 0

@@ -13,7 +13,8 @@ use Rattle.state.specs.declared.talk.Verdict.the-variants.{Passed}
 use Rattle.state.specs.Memory.{Memory, lengthsFit}
 use Rattle.opening.specs.Rows.{verdictOf}
 use Rattle.opening.specs.Admission.{admissionRows, askingAt}
-use Rattle.opening.proofs.RowLaws.{verdict-first, NoneHolds}
+use Rattle.opening.proofs.RowLaws.{NoneHolds}
+use Rattle.opening.proofs.Theorems.{verdict-first}
 use Rattle.opening.proofs.OpeningLaws.{within, Groups, groups-of, amounts-long, newton-long, given-long, factors-long, differences-long}
 use Rattle.opening.proofs.AdmissionLaws.{product-small}
 use Rattle.blocks.specs.Needs.{Fit, StageFit, NewtonLong, FactorsLong, MemoryLong}

@@ -22,7 +22,7 @@ use Rattle.opening.specs.Rows.{openingRows, verdictOf}
 use Rattle.opening.specs.Tolerances.{convertedOf}
 use Rattle.opening.specs.Opening.{acceptedOf, byVerdict, clearedOf, massKept, openOf}
 use Rattle.opening.proofs.OpeningLaws.{in-order}
-use Rattle.opening.proofs.RowLaws.{verdict-first}
+use Rattle.opening.proofs.Theorems.{verdict-first}
 use Rattle.budget.specs.declared.run.Task.{Task}
 use Rattle.budget.specs.Budget.{lentOf, roomOf, memoryOf, openingOf}
 

@@ -12,7 +12,7 @@ use Rattle.state.specs.declared.talk.Refusal.{Refusal}
 use Rattle.state.specs.declared.talk.Request.{Request}
 use Rattle.state.specs.Memory.{Memory}
 use Rattle.opening.specs.Opening.{openOf}
-use Rattle.opening.proofs.OpeningTheorems.{refused-kept}
+use Rattle.opening.proofs.Theorems.{refused-kept}
 use Rattle.budget.specs.declared.run.Finish.the-variants as finish
 use Rattle.budget.specs.declared.run.Outcome.{Outcome}
 use Rattle.budget.specs.declared.run.Task.{Task}

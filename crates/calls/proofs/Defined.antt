@@ -23,6 +23,6 @@ pub advance-defined : (run : Run) (reply : Reply) (m : Memory) (x : advanced.Out
 advance-defined run reply m = gives-defined _ _ _ _ _ core (λ κs a o allowed. allowed) (run, reply, m)
 
 -- so the wrong solvers of `history`, none of which meets the definition, are shut out by the contract of an advance
-pub contract-meets : (s : Solver)
+pub contract-meets-proof : (s : Solver)
     → ((run : Run) (reply : Reply) (m : Memory) → Advances (run, reply, m) (s run reply m)) → Meets s
-contract-meets s allowed run reply m = advance-defined run reply m (s run reply m) (allowed run reply m)
+contract-meets-proof s allowed run reply m = advance-defined run reply m (s run reply m) (allowed run reply m)

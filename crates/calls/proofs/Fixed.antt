@@ -39,9 +39,9 @@ abbrev startOf : Opened → Memory → Point → Point
 startOf (opened.Asked run request place) m otherwise = point run request place m
 startOf (opened.Refused x) m otherwise = otherwise
 
-pub history-fixed : (o : Opening) (acts : List Action) (first second : Point) (xs ys : List Outcome)
+pub history-fixed-proof : (o : Opening) (acts : List Action) (first second : Point) (xs ys : List Outcome)
     → History o first acts xs → History o second acts ys → (first ≡ second) × (xs ≡ ys)
-history-fixed o acts first second xs ys h g =
+history-fixed-proof o acts first second xs ys h g =
     let e = one-outcome (open-defined o _ (h .opens)) (open-defined o _ (g .opens)) in
     let same : first ≡ second = ap (λ (x : opening.Outcome). startOf (x .answer) (x .memory) first) e in
     let f = subst (λ (here : Point). Follows here acts xs) same (h .follows) in

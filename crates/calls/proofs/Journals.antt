@@ -26,11 +26,11 @@ follows-journal j (a ∷ acts) (x ∷ xs) f fair =
     let more = follows-journal (next j a) acts xs f' fair' in
     ((fair .0, more .0), more .1 ∙ ap (λ (y : Outcome). behind (nextPoint here (y .answer) (y .memory)) xs) (sym e))
 
-pub calls-journal : (o : Opening) (first : Point) (acts : List Action) (xs : List Outcome)
+pub calls-journal-proof : (o : Opening) (first : Point) (acts : List Action) (xs : List Outcome)
     → History o first acts xs → FairAlong first acts xs
     → (let j = after (journal first []) acts in JournalOf o j × (j .point ≡ behind first xs))
 unfolding Starts
-calls-journal o first acts xs h fair =
+calls-journal-proof o first acts xs h fair =
     let e = sym (open-defined o _ (h .opens)) in
     let goes = follows-journal (journal first []) acts xs (h .follows) fair in (
       record {

@@ -25,5 +25,5 @@ module _ (r : Run) (p : Reply) (m : Memory) (q : Run) (x : Request) (at : Place)
       subst (Kept r) is k
   by (Refused y) e h = absurd (let z : _≡_ {A = ℕ} 0 1 = cc in omega arith)
 
-  pub advance-kept : advanceOf r p m .core .answer ≡ answer.Asked q x at → Kept r q
-  advance-kept h = by (verdictOf (admissionRows r p m)) refl h
+  pub advance-kept-proof : advanceOf r p m .core .answer ≡ answer.Asked q x at → Kept r q
+  advance-kept-proof h = by (verdictOf (admissionRows r p m)) refl h

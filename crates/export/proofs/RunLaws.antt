@@ -21,9 +21,9 @@ use Rattle.export.specs.declared.unpack.Unpacked.{Unpacked}
 use Rattle.export.specs.declared.unpack.Unpacked.the-variants as unpacked
 use Rattle.export.specs.State.{settingsWords, shapeWords, fixedWords, movingWords, packOf, movedTo, unpackOf}
 use Rattle.export.specs.Talk.{toldOf, atOf, replyOf, Crossed, crossed, ofOpened, ofAnswer, writtenOf, left, openLeft, advanceBy, advanceLeft, Ended, ended, ofResult, resultBy, resultLeft}
-use Rattle.export.proofs.StateTheorems.{unpacked-exactly}
 use Rattle.blocks.proofs.Everyway.{Kept}
-use Rattle.export.proofs.Kept.{advance-kept}
+use Rattle.export.proofs.Packed.{unpacked-exactly-proof}
+use Rattle.export.proofs.Kept.{advance-kept-proof}
 
 -- ---- an advance writes no more than what it moves
 
@@ -34,7 +34,7 @@ kept-moves r q k = sym (λ i. settingsWords (k .0 i) ++ (shapeWords (k .1 .0 i) 
 -- words that are taken for a run are what it packs to
 module _ (state : List ℕ) (r : Run) (u : Unpacked) (is : u ≡ unpackOf state) (h : u ≡ unpacked.Run r) where
   are-packed : state ≡ packOf r
-  are-packed = unpacked-exactly state r .0 (sym is ∙ h) .0
+  are-packed = unpacked-exactly-proof state r .0 (sym is ∙ h) .0
 
   pub are-many : length state ≡ 67
   unfolding packOf
@@ -44,7 +44,7 @@ module _ (state : List ℕ) (r : Run) (u : Unpacked) (is : u ≡ unpackOf state)
   written-is : (p : Reply) (m : Memory) (a : Answer) (told : List ℕ) (at : List Float) → a ≡ advanced.advanceOf r p m .core .answer → writtenOf a state told at ≡ ofAnswer a state told at
   unfolding writtenOf ofAnswer
   written-is p m (answer.Asked q x place) told at e =
-      let whole = ap (movedTo q) are-packed ∙ kept-moves r q (advance-kept r p m q x place (sym e)) in
+      let whole = ap (movedTo q) are-packed ∙ kept-moves r q (advance-kept-proof r p m q x place (sym e)) in
       λ i. crossed 0 (whole i) (toldOf x place) (atOf x)
   written-is p m (answer.Refused q x) told at e = refl
 

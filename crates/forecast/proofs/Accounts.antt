@@ -23,8 +23,8 @@ use Rattle.account.specs.Journal.{Journal, journal, JournalOf}
 use Rattle.account.specs.Account.{played, Limits}
 use Rattle.account.proofs.Theorems.{counts-told, limits, statuses}
 use Rattle.solve.specs.Talk.{World, Talk, offered}
-use Rattle.solve.proofs.Theorem.{one-end}
-use Rattle.solve.proofs.Offered.{solve-offered}
+use Rattle.solve.proofs.Talks.{one-end}
+use Rattle.solve.proofs.Theorems.{solve-offered}
 use Rattle.sheet.specs.Sheet.{Model, Valid}
 use Rattle.sheet.specs.Reader.{Read, accepted, malformed, tooLong, readOf}
 use Rattle.sheet.proofs.Accepted.{accepted-sound}
@@ -129,5 +129,6 @@ accounts-by bytes (accepted m) is e y f =
 accounts-by bytes (malformed k) is e y f = no-end e y (ending.Malformed k) refl f
 accounts-by bytes tooLong is e y f = no-end e y ending.TooLong refl f
 
-pub forecast-accounts : (bytes : List ℕ) (e : Reached) (y : List Float) → Forecasts (readOf bytes) (tells e y) → Accounts bytes e y
-forecast-accounts bytes e y f = accounts-by bytes (readOf bytes) refl e y f
+pub forecast-accounts-proof : (bytes : List ℕ) (e : Reached) (y : List Float)
+    → Forecasts (readOf bytes) (tells e y) → Accounts bytes e y
+forecast-accounts-proof bytes e y f = accounts-by bytes (readOf bytes) refl e y f

@@ -2,7 +2,7 @@
 use mathlib.Core.Path.{refl}
 use Rattle.words.specs.Contract.{Settles}
 use Rattle.words.proofs.Outcome.{one-result}
-use Rattle.forecast.proofs.Theorem.{one-forecast}
+use Rattle.forecast.proofs.Theorems.{one-forecast}
 use Rattle.forecast.proofs.bytes.forecast as forecast
 
 pub forecast-once : Settles forecast.Kinds.ps forecast.Kinds.r forecast.Reads.Asked forecast.Reads.Post

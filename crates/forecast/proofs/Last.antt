@@ -24,7 +24,7 @@ use Rattle.account.specs.Journal.{journal, Starts}
 use Rattle.account.specs.Reading.{width, mostRequests}
 use Rattle.account.proofs.First.{opens, order-within, limit-within, rounds-within}
 use Rattle.solve.specs.Talk.{World, Talk, talk, offered, talkBy, FairTalk, TalksTo}
-use Rattle.solve.proofs.Offered.{solve-offered, solve-returns}
+use Rattle.solve.proofs.Theorems.{solve-offered, solve-returns}
 use Rattle.budget.specs.Host.{answeredBy}
 use Rattle.budget.specs.Budget.{Answering, lastOf, budget, fromOpened, wholeOf, runOf}
 use Rattle.budget.specs.declared.run.Task.{Task}
@@ -107,6 +107,6 @@ module _ (reactions : ℕ) (rates : List Float) (species : List ℕ) (o : Openin
   unfolding wholeOf
   whole-ends = ended-by (openOf o .answer) (openOf o .memory) refl
 
-pub run-ends : (t : Task) (rates : List Float) (species : List ℕ) → Ends (runOf t rates species .finish)
+pub run-ends-proof : (t : Task) (rates : List Float) (species : List ℕ) → Ends (runOf t rates species .finish)
 unfolding runOf
-run-ends t rates species = whole-ends (t .reactions) rates species _
+run-ends-proof t rates species = whole-ends (t .reactions) rates species _

@@ -22,7 +22,7 @@ use Rattle.history.specs.History.{Point, point}
 use Rattle.account.specs.Journal.{Fair}
 use Rattle.account.proofs.Sound.{Held}
 use Rattle.solve.specs.Talk.{Talk, talk, actionAt, offered, talkBy, FairTalk, TalksTo}
-use Rattle.solve.proofs.Theorem.{talks-alike}
+use Rattle.solve.proofs.Talks.{talks-alike}
 use Rattle.solve.proofs.Alike.{hosts-alike, still-ended}
 use Rattle.model.specs.Model as model
 use Rattle.model.specs.Model.{derivativeOf}

@@ -162,9 +162,9 @@ talks =
       before = λ j l. before j (omega (arith, course .asked));
     }
 
-pub still-forecast : Forecasts (readOf (written still)) stillForecast
+pub still-forecast-proof : Forecasts (readOf (written still)) stillForecast
 unfolding Forecasts FromOpened talks
-still-forecast =
+still-forecast-proof =
     subst (λ (x : Read). Forecasts x stillForecast) (sym (accepted-complete still valid))
     (subst (λ (x : Outcome). FromOpened still (x .answer) (x .memory) stillForecast) (sym opens)
     (record { run = end; world = left; talks = talks; told = course .told }))

@@ -12,7 +12,7 @@ use Rattle.history.specs.History.{Point}
 use Rattle.account.specs.Journal.{Fair, Turn, Journal, journal, next, Starts, JournalOf}
 use Rattle.account.specs.Account.{Strategy, played}
 use Rattle.account.proofs.Sound.{Held}
-use Rattle.account.proofs.Theorems.{sound}
+use Rattle.account.proofs.Journals.{sound}
 use Rattle.account.proofs.Played.{first-played, played-of}
 use Rattle.solve.specs.Talk.{Exchange, Host, Talk, talk, offered, advancedBy, talkBy}
 use Rattle.budget.specs.Budget.{Answering, turnOf, lastOf}

@@ -12,9 +12,9 @@ use Rattle.answer.specs.declared.ending.Ending.the-variants as ending
 use Rattle.answer.specs.declared.ending.Reached.{Reached}
 use Rattle.answer.specs.declared.ending.Forecast.{Forecast}
 use Rattle.forecast.specs.Forecast.{Forecasts}
-use Rattle.forecast.proofs.Theorem.{one-forecast}
 use Rattle.forecast.proofs.Accounts.{refuses}
-use Rattle.forecast.proofs.Samples.{still, stillForecast, still-forecast}
+use Rattle.forecast.proofs.Samples.{still, stillForecast}
+use Rattle.forecast.proofs.Theorems.{one-forecast, still-forecast}
 
 -- what a forecaster is, and what the contract asks of it
 abbrev pub Forecaster : Type 0

@@ -1,5 +1,6 @@
--- A refusal writes nothing (01, 'Numbers that refuse'): where a routine answers neither that it is done nor that the matrix is singular, all that was lent is as it was.
--- So a program that has written can't meet its contract with the answer 1, 16 or 18.
+-- A refusal writes nothing (01, 'Numbers that refuse'): where a routine answers neither that it is done nor that the
+-- matrix is singular, all that was lent is as it was. So a program that has written can't meet its contract with the
+-- answer 1, 16 or 18.
 use Prim.Native.Nat.{ℕ}
 use mathlib.Core.Bool.{Bool, true, false}
 use mathlib.Core.Path.{_≡_, refl}
@@ -46,18 +47,18 @@ module _ {B : Type 0} (b : B) where
   solution-kept false fits strays x p = refl
 
 module _ (n : ℕ) (ip : List ℕ) where
-  pub lu-decomp-kept : (a : List Float) → Kept a ip (luDecompOf n a ip)
+  pub lu-decomp-kept-proof : (a : List Float) → Kept a ip (luDecompOf n a ip)
   unfolding luDecompOf answered
-  lu-decomp-kept a = decomposition-kept a ip _ _ (worked real n a ip)
+  lu-decomp-kept-proof a = decomposition-kept a ip _ _ (worked real n a ip)
 
-  pub lu-decomp-complex-kept : (a : Parts) → Kept a ip (luDecompComplexOf n a ip)
+  pub lu-decomp-complex-kept-proof : (a : Parts) → Kept a ip (luDecompComplexOf n a ip)
   unfolding luDecompComplexOf answered
-  lu-decomp-complex-kept a = decomposition-kept a ip _ _ (worked complexKind n a ip)
+  lu-decomp-complex-kept-proof a = decomposition-kept a ip _ _ (worked complexKind n a ip)
 
-  pub lin-solve-kept : (a b : List Float) → KeptSide b (linSolveOf n a b ip)
+  pub lin-solve-kept-proof : (a b : List Float) → KeptSide b (linSolveOf n a b ip)
   unfolding linSolveOf
-  lin-solve-kept a b = solution-kept b _ _ _ (solved realSide a n ip b)
+  lin-solve-kept-proof a b = solution-kept b _ _ _ (solved realSide a n ip b)
 
-  pub lin-solve-complex-kept : (a b : Parts) → KeptSide b (linSolveComplexOf n a b ip)
+  pub lin-solve-complex-kept-proof : (a b : Parts) → KeptSide b (linSolveComplexOf n a b ip)
   unfolding linSolveComplexOf
-  lin-solve-complex-kept a b = solution-kept b _ _ _ (solved complexSide a n ip b)
+  lin-solve-complex-kept-proof a b = solution-kept b _ _ _ (solved complexSide a n ip b)

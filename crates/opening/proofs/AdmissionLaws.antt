@@ -17,7 +17,7 @@ use Rattle.state.specs.declared.talk.Reply.{Reply}
 use Rattle.state.specs.Memory.{Memory, lengthsFit}
 use Rattle.opening.specs.Rows.{Test, verdictOf, nextOf, outside, rangeRows}
 use Rattle.opening.specs.Admission.{allUnfit, unfitOf, stateRows, countRows, replyRows, admissionRows}
-use Rattle.opening.proofs.RowLaws.{joined, verdict-append, verdict-first}
+use Rattle.opening.proofs.RowLaws.{joined, verdict-append, verdict-first-proof}
 use Rattle.opening.proofs.OpeningLaws.{within}
 
 unfit-row : (b : Bool) (r : Refusal) (v : Verdict) → unfitOf (pick b (Refused r) v) ≡ pick b (Refused Unfit) (unfitOf v)
@@ -37,7 +37,7 @@ product-small k m h g = mul-le-mul (let e : 3 * (k + 1) ≤ 51 = omega arith in 
 -- settings that pass are in range
 pub settings-bounded : (s : Settings) → verdictOf (allUnfit (rangeRows s)) ≡ Passed → (s .«max_steps» ≤ 1_000_000) × (s .«newton_maxiter» ≤ 16)
 settings-bounded s e =
-    let none = verdict-first (allUnfit (rangeRows s)) .1 .0 e in
+    let none = verdict-first-proof (allUnfit (rangeRows s)) .1 .0 e in
     (within 1 1_000_000 (s .«max_steps») (none 0 (omega arith)) .1, within 1 16 (s .«newton_maxiter») (none 4 (omega arith)) .1)
 
 -- ---- the four ways out of an admission

@@ -1,4 +1,5 @@
--- Theorems of specs/Rows.antt: the verdict of one table after another, the verdict as the first test that holds, and placeOf as the first place
+-- Laws of specs/Rows.antt: the verdict of one table after another, the verdict as the first test that holds, and
+-- placeOf as the first place
 -- with a property.
 use Prim.Native.Nat.{ℕ, zero, suc, _≤_, _<_, suc-le-suc}
 use mathlib.Core.Path.{_≡_, refl, sym, ap, _∙_}
@@ -122,10 +123,10 @@ none-passed (t ∷ ts) none =
     pick-no (Refused (t .refusal)) (verdictOf ts) (none 0 (omega arith)) ∙ none-passed ts (λ i l. none (suc i) (suc-le-suc l))
 
 -- a verdict is the refusal of the first test that holds, and passes exactly where none does
-pub verdict-first : (ts : List Test)
+pub verdict-first-proof : (ts : List Test)
     → ((r : Refusal) → (verdictOf ts ≡ Refused r) ↔ FirstHolds ts r)
     × ((verdictOf ts ≡ Passed) ↔ NoneHolds ts)
-verdict-first ts =
+verdict-first-proof ts =
     (λ r. (refused-first ts r, λ f. first-refused ts r (f .place) (f .inside) (f .holds) (f .refuses) (f .earlier)), (passed-none ts, none-passed ts))
 
 -- ---- the first place with a property
@@ -137,13 +138,14 @@ pub record FirstPlace (bad : Float → Bool) (xs : List Float) (place : ℕ) : T
   pub there : place < length xs → bad (xs ! place) ≡ true
 
 module _ (bad : Float → Bool) where
-  pub place-first : (xs : List Float) → FirstPlace bad xs (placeOf bad xs)
+  pub place-first-proof : (xs : List Float) → FirstPlace bad xs (placeOf bad xs)
   unfolding placeOf
-  place-first [] = record { within = omega arith; earlier = λ k l. absurd (omega arith); there = λ l. absurd (omega arith) }
-  place-first (x ∷ xs) =
+  place-first-proof [] =
+      record { within = omega arith; earlier = λ k l. absurd (omega arith); there = λ l. absurd (omega arith) }
+  place-first-proof (x ∷ xs) =
       pick-all (FirstPlace bad (x ∷ xs)) (bad x) 0 (suc (placeOf bad xs))
       (λ h. record { within = omega arith; earlier = λ k l. absurd (omega arith); there = λ l. h })
-      (λ h. later h (placeOf bad xs) (place-first xs))
+      (λ h. later h (placeOf bad xs) (place-first-proof xs))
     where
       later : bad x ≡ false → (p : ℕ) → FirstPlace bad xs p → FirstPlace bad (x ∷ xs) (suc p)
       later h p f =
@@ -159,7 +161,8 @@ module _ (bad : Float → Bool) where
 
   pub place-only : (xs : List Float) (p : ℕ) → FirstPlace bad xs p → p ≡ placeOf bad xs
   place-only xs p f =
-      le-antisymm (no-later xs (placeOf bad xs) p (place-first xs) f) (no-later xs p (placeOf bad xs) f (place-first xs))
+      le-antisymm (no-later xs (placeOf bad xs) p (place-first-proof xs) f)
+      (no-later xs p (placeOf bad xs) f (place-first-proof xs))
 
 -- ---- rows 3 to 12, group by group
 

@@ -5,7 +5,7 @@ use mathlib.Core.Path.{refl}
 use mathlib.Core.List.{List}
 use Rattle.words.specs.Contract.{Settles}
 use Rattle.words.proofs.Outcome.{_▹_, two-parts}
-use Rattle.printout.proofs.Theorem.{one-printout}
+use Rattle.printout.proofs.Theorems.{one-printout}
 use Rattle.printout.proofs.sheets.elchepur_forecast as forecast
 
 pub elchepur-forecast-once : Settles forecast.Kinds.ps forecast.Kinds.r forecast.Reads.Asked forecast.Reads.Post

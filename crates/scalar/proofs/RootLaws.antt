@@ -1,6 +1,7 @@
--- The root of order m, once over m. A product grows with its factor, so the patterns that `keeps` passes are those up to one of them, and that one is the root:
---     root-kept, root-next    its product doesn't exceed v, and that of the next double does
---     root-only               a pattern with both properties is the root's, however it was found
+-- The root of order m, once over m. A product grows with its factor, so the patterns that `keeps` passes are those up
+-- to one of them, and that one is the root:
+--     root-kept-proof, root-next-proof    its product doesn't exceed v, and that of the next double does
+--     root-only-proof                     a pattern with both properties is the root's, however it was found
 use Prim.Native.Nat.{ℕ, zero, suc, _+_, _-_, _*_, _≤_, _<_}
 use mathlib.Core.Path.{_≡_, refl, sym, ap, subst, _∙_}
 use mathlib.Core.Bool.{Bool, true, false}
@@ -163,17 +164,18 @@ pub rootPattern : ℕ → Float → ℕ
 rootPattern m v = halve 63 (keeps m v) 0 infinityPattern
 
 module _ (m : ℕ) (v : Float) (o : Ordered m v) where
-  pub root-is : rootOf m v ≡ double (rootPattern m v)
+  pub root-is-proof : rootOf m v ≡ double (rootPattern m v)
   unfolding rootPattern halvedRoot
-  root-is = of-positive m v (o .low) (o .high) (o .above)
+  root-is-proof = of-positive m v (o .low) (o .high) (o .above)
 
-  pub root-kept : keeps m v (rootPattern m v) ≡ true
+  pub root-kept-proof : keeps m v (rootPattern m v) ≡ true
   unfolding rootPattern
-  root-kept = root-edge m v (o .above) .here
+  root-kept-proof = root-edge m v (o .above) .here
 
-  pub root-next : keeps m v (rootPattern m v + 1) ≡ false
+  pub root-next-proof : keeps m v (rootPattern m v + 1) ≡ false
   unfolding rootPattern
-  root-next = root-edge m v (o .above) .next
+  root-next-proof = root-edge m v (o .above) .next
 
-  pub root-only : (b : ℕ) → b < infinityPattern → keeps m v b ≡ true → (b + 1 < infinityPattern → keeps m v (b + 1) ≡ false) → double b ≡ rootOf m v
-  root-only b u t f = sym (of-positive m v (o .low) (o .high) (o .above) ∙ halved-only m v (o .above) b u t f)
+  pub root-only-proof : (b : ℕ) → b < infinityPattern → keeps m v b ≡ true
+      → (b + 1 < infinityPattern → keeps m v (b + 1) ≡ false) → double b ≡ rootOf m v
+  root-only-proof b u t f = sym (of-positive m v (o .low) (o .high) (o .above) ∙ halved-only m v (o .above) b u t f)

@@ -1,6 +1,6 @@
 -- What the square root of a double is, by IEEE 754 (5.4.1, 6.3, 7.2): the double nearest to the exact root, of two equally near the one whose last digit is even.
 -- Stated by whole numbers, for every double, and of no way to compute it. That there is such a result, and only one,
--- are theorems (proofs/SquareRootTheorems.antt); that `sqrt` returns it is its contract.
+-- are theorems (proofs/Theorems.antt); that `sqrt` returns it is its contract.
 use Prim.Native.Nat.{ℕ, suc, _+_, _*_, _%_, _≤_, _<_}
 use mathlib.Core.Path.{_≡_}
 use mathlib.Core.Bool.{Bool, true, false}

@@ -227,8 +227,8 @@ lines-short : (species : ℕ) (rs : List Reaction) → species ≤ 32 → Every 
 lines-short species [] h k = omega arith
 lines-short species (r ∷ rs) h k = omega (arith, length-append (reactionLine r) (reactionLines rs), line-short species r h (k .0), lines-short species rs h (k .1))
 
-pub written-short : (m : Model) → Valid m → length (written m) ≤ 4096
-written-short m v =
+pub written-short-proof : (m : Model) → Valid m → length (written m) ≤ 4096
+written-short-proof m v =
     let t3 : List ℕ = reactionLines (m .reactions) in
     let t2 : List ℕ = writes (kindOf phase.Count 0) 0 (length (m .reactions) ∷ []) ++ t3 in
     let t1 : List ℕ = writes (kindOf phase.Amounts 0) 0 (m .amounts) ++ t2 in
@@ -250,7 +250,9 @@ written-short m v =
 
 pub accepted-complete : (m : Model) → Valid m → readOf (written m) ≡ accepted m
 accepted-complete m v =
-    read-whole (written m) (settingsOf m) (m .amounts) (length (m .reactions) ∷ []) (listedOf (m .reactions)) (written-short m v) (sheet-complete m v) ∙ ap accepted (model-back m)
+    read-whole (written m) (settingsOf m) (m .amounts) (length (m .reactions) ∷ []) (listedOf (m .reactions))
+    (written-short-proof m v) (sheet-complete m v)
+    ∙ ap accepted (model-back m)
 
-pub accepted-exactly : (s : List ℕ) (m : Model) → (readOf s ≡ accepted m) ↔ ((s ≡ written m) × Valid m)
-accepted-exactly s m = (accepted-sound s m, λ p. ap readOf (p .0) ∙ accepted-complete m (p .1))
+pub accepted-exactly-proof : (s : List ℕ) (m : Model) → (readOf s ≡ accepted m) ↔ ((s ≡ written m) × Valid m)
+accepted-exactly-proof s m = (accepted-sound s m, λ p. ap readOf (p .0) ∙ accepted-complete m (p .1))

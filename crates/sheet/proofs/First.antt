@@ -252,9 +252,9 @@ malformed-broken s k =
     (λ t e. absurd (let z : _≡_ {A = ℕ} 0 1 = cc in let y : ⊥ = omega arith in y)) (λ t e. broken-of k (sheetOf s) e)
 
 -- no valid sheet begins with the lines of s up to the line that is told
-pub malformed-first : (s : List ℕ) (k : ℕ) → readOf s ≡ malformed k → (p rest : List ℕ) → s ≡ p ++ rest → linesIn p ≡ k → (m : Model) → Valid m → (r : List ℕ)
-    → written m ≡ p ++ r → ⊥
-malformed-first s k e p rest es ep m v r ew =
+pub malformed-first-proof : (s : List ℕ) (k : ℕ) → readOf s ≡ malformed k → (p rest : List ℕ) → s ≡ p ++ rest
+    → linesIn p ≡ k → (m : Model) → Valid m → (r : List ℕ) → written m ≡ p ++ r → ⊥
+malformed-first-proof s k e p rest es ep m v r ew =
     let b = malformed-broken s k e in
     let d : sheetOf (written m) ≡ broken (b .0) =
     ap sheetOf ew ∙ sheet-kept p rest (b .0) (ap sheetOf (sym es) ∙ b .1) (let z : b .0 < linesIn p = omega (arith, b .2) in z) r in

@@ -1,4 +1,5 @@
--- In order of reading: digits and numbers read and written, then lines, then that a sheet is read exactly as it is written.
+-- In order of reading: digits and numbers read and written, then lines, then that a sheet is read exactly as it is
+-- written. Theorems is what users cite.
 pub mod DigitsLaws
 pub mod NumbersLaws
 pub mod Inverse
@@ -11,7 +12,8 @@ pub mod Sheets
 pub mod Accepted
 pub mod First
 pub mod Reached
-pub mod SheetTheorems
+pub mod Refused
+pub mod Theorems
 pub mod Determinism
 pub mod Samples
 pub mod Wrong

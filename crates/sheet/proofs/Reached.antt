@@ -296,8 +296,8 @@ lines-split [] (suc j) h = absurd (let z : ⊥ = omega arith in z)
 lines-split (x ∷ p) zero h = record { front = []; back = x ∷ p; is = refl; lines = refl }
 lines-split (x ∷ p) (suc j) h = split-by x p j (endsOf x) refl (ends-few x) h (lines-split p j) (lines-split p (suc j))
 
-pub malformed-reached : (s : List ℕ) (k : ℕ) → readOf s ≡ malformed k → (j : ℕ) → j < k → Begun s j
-malformed-reached s k e j h =
+pub malformed-reached-proof : (s : List ℕ) (k : ℕ) → readOf s ≡ malformed k → (j : ℕ) → j < k → Begun s j
+malformed-reached-proof s k e j h =
     let b = malformed-broken s k e in
     let B = broken-begun s (b .0) (b .1) in
     let t = lines-split (B .first) j (let z : j ≤ linesIn (B .first) = omega (arith, B .counted, b .2) in z) in

@@ -1,4 +1,4 @@
--- In order of reading.
+-- In order of reading; Theorems, the last, is what users cite.
 pub mod Sound
 pub mod Goes
 pub mod Passes
@@ -7,6 +7,7 @@ pub mod Judged
 pub mod Rounds
 pub mod Begins
 pub mod Whole
-pub mod Theorem
+pub mod Talks
 pub mod Offered
 pub mod Alike
+pub mod Theorems

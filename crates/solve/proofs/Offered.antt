@@ -1,6 +1,7 @@
--- `solve` and the advances as they are offered, for every accepted opening and every host that is fair: the theorem of Theorem.antt and the account's in one.
---     solve-offered    `solve` returns with e and w exactly where the advances as they are offered talk to them
---     solve-returns    and it does return, with fewer calls of the host than the account allows
+-- `solve` and the advances as they are offered, for every accepted opening and every host that is fair: the theorem of
+-- Talks.antt and the account's in one.
+--     solve-offered-proof   `solve` returns with e and w exactly where the advances as they are offered talk to them
+--     solve-returns-proof   and it does return, with fewer calls of the host than the account allows
 -- A journal goes beside the talk: what the host does after k exchanges is done by a strategy at k turns, so the account holds of the talk.
 use Prim.Native.Nat.{ℕ, zero, suc, _+_, _*_, _≤_, _<_}
 use mathlib.Core.Bool.{true, false}
@@ -27,10 +28,12 @@ use Rattle.history.specs.History.{Point, point, nextPoint}
 use Rattle.account.specs.Journal.{Fair, Journal, journal, next, Starts}
 use Rattle.account.specs.Reading.{mostRequests}
 use Rattle.account.specs.Account.{Strategy, played, FairHost, EndsWithin}
-use Rattle.account.proofs.Theorems.{turns-played, ends}
+use Rattle.account.proofs.Journals.{turns-played}
+use Rattle.account.proofs.Theorems.{ends}
 use Rattle.solve.specs.Talk.{Host, World, Talk, talk, actionAt, Advance, admitted, offered, advancedBy, talkBy, talkOf, Admits, FairTalk, TalksTo}
 use Rattle.solve.specs.Solve.{Returns, ReturnsWithin}
-use Rattle.solve.proofs.Theorem.{offered-same, EndedAt, first-end, talks-alike, talk-solves, solve-exactly, solve-advances}
+use Rattle.solve.proofs.Talks.{offered-same, EndedAt, first-end, talks-alike, talk-solves, solve-exactly-proof}
+use Rattle.solve.proofs.Talks.{solve-advances}
 
 -- an advance that is answered by a request was admitted
 answered-passed : (v : Verdict) (r : Run) (a : Reply) (m : Memory) (e : Run) (q : Request) (p : Place)
@@ -111,21 +114,24 @@ module _ (host : Host) (o : Opening) (r : Run) (q : Request) (p : Place) (m : Me
   ended-admitted : EndedAt admitted host start (account .advances) true
   ended-admitted = subst (λ (t : Talk). isEnd (t .point .request) ≡ true) (same (account .advances) (omega arith)) ended
 
-  pub solve-offered : (e : Run) (w : World) → Returns host r m e w ↔ TalksTo offered host start e w
-  solve-offered e w = (to, from)
+  pub solve-offered-proof : (e : Run) (w : World) → Returns host r m e w ↔ TalksTo offered host start e w
+  solve-offered-proof e w = (to, from)
     where
       to : Returns host r m e w → TalksTo offered host start e w
       to s =
-          let few = first-end admitted host start (account .advances) (length (w .exchanges)) ended-admitted (solve-exactly host o r q p m accepted e w .0 s .before) in
+          let few =
+          first-end admitted host start (account .advances) (length (w .exchanges)) ended-admitted
+          (solve-exactly-proof host o r q p m accepted e w .0 s .before) in
           solve-advances host o r q p m accepted e w s (λ j l. admits j (omega (arith, few, l)))
 
       from : TalksTo offered host start e w → Returns host r m e w
       from a =
           let few = first-end offered host start (account .advances) (length (w .exchanges)) ended (a .before) in
-          solve-exactly host o r q p m accepted e w .1 (talks-alike offered admitted host host start e w (λ k l. same k (omega (arith, few, l))) a)
+          solve-exactly-proof host o r q p m accepted e w .1
+          (talks-alike offered admitted host host start e w (λ k l. same k (omega (arith, few, l))) a)
 
-  pub solve-returns : ReturnsWithin (mostRequests (o .settings .source) (o .n) (o .settings .«max_steps») (o .settings .«newton_maxiter»)) host r m
-  solve-returns =
+  pub solve-returns-proof : ReturnsWithin most host r m
+  solve-returns-proof =
       let k = account .advances in
       let f = talk-solves host o r q p m accepted k (6 * (k + 1)) ended-admitted (omega arith) in
       record { run = f .run; world = f .world; returns = record { passes = 6 * (k + 1); is = f .is }; few = omega (arith, f .calls, account .few) }

@@ -1,7 +1,7 @@
 -- `print` meets its contract, ending by ending.
 use borrow.Author.Needs.{needs}
 use Rattle.answer.specs.Printed.{text, endingText}
-use Rattle.answer.proofs.PrintedTheorems.{answered}
+use Rattle.answer.proofs.Lengths.{answered}
 use Rattle.answer.proofs.printed.print.Statement.{statement}
 use Rattle.answer.proofs.printed.print.Tie as tie
 

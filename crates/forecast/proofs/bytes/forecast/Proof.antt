@@ -10,7 +10,7 @@ use Rattle.sheet.specs.declared.sheet.Reading.the-variants as reading
 use Rattle.answer.specs.declared.ending.Ending.the-variants as ending
 use Rattle.answer.specs.declared.ending.Forecast.{Forecast}
 use Rattle.forecast.specs.Forecast.{refusedBy, Forecasts}
-use Rattle.forecast.proofs.Theorem.{forecast-solves, read-malformed, read-too-long}
+use Rattle.forecast.proofs.Solves.{forecast-solves, read-malformed, read-too-long}
 use Rattle.forecast.proofs.bytes.forecast.Statement.{statement}
 use Rattle.forecast.proofs.bytes.forecast.Tie as tie
 

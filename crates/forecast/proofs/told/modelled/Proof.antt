@@ -10,7 +10,7 @@ use Rattle.budget.specs.declared.run.Task.{Task}
 use Rattle.budget.specs.declared.run.Outcome.{Outcome}
 use Rattle.budget.specs.Budget.{runOf}
 use Rattle.forecast.specs.Told.{taskFrom, outcomeFrom, Ends, Told}
-use Rattle.forecast.proofs.Last.{run-ends}
+use Rattle.forecast.proofs.Last.{run-ends-proof}
 use Rattle.forecast.proofs.told.modelled.Statement.{statement}
 use Rattle.forecast.proofs.told.modelled.Tie as tie
 
@@ -43,7 +43,7 @@ run-requires : tie.Need-run-requires
 run-requires c κs = search needs
 
 told-requires : tie.Need-told-requires
-told-requires c κs = subst (λ (o : Outcome). Ends (o .finish)) (sym (c .run .ensures)) (run-ends _ _ _)
+told-requires c κs = subst (λ (o : Outcome). Ends (o .finish)) (sym (c .run .ensures)) (run-ends-proof _ _ _)
 
 returns : tie.Need-returns
 returns c =

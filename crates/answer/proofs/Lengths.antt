@@ -56,8 +56,8 @@ ending-few (ending.Malformed k) ys h = simp length-append (omega (arith, numeral
 ending-few ending.TooLong ys h = omega arith
 
 -- an array of amounts has 32 of them
-pub printed-few : (f : Forecast) → length (f .amounts) ≡ 32 → length (printedOf f) ≤ 735
-printed-few f h = ending-few (f .ending) (f .amounts) h
+pub printed-few-proof : (f : Forecast) → length (f .amounts) ≡ 32 → length (printedOf f) ≤ 735
+printed-few-proof f h = ending-few (f .ending) (f .amounts) h
 
 -- what `print` is to ensure, where the bytes of the ending were put from the start
 pub answered : (f : Forecast) (e : Ending) {m₀ m₁ : List ℕ} {r : ℕ} → f .ending ≡ e → length (f .amounts) ≡ 32 → Put 0 (endingText e (f .amounts)) m₀ m₁ r

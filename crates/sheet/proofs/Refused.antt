@@ -1,5 +1,5 @@
--- What the reader answers, for all bytes: too long where there are more than 4,096; a model where the bytes are its sheet and it's valid (`accepted-exactly`, in
--- Accepted); and else the line after the most lines with which the bytes and some valid sheet begin.
+-- What the reader refuses, for all bytes: too long where there are more than 4,096; and malformed, where the bytes are
+-- no sheet of a valid model (Accepted), at the line after the most lines with which they and some valid sheet begin.
 use Prim.Native.Nat.{ℕ, _≤_, _<_}
 use mathlib.Core.Path.{_≡_, refl, sym, ap, _∙_}
 use mathlib.Core.Bool.{Bool, true, false}
@@ -15,8 +15,8 @@ use Rattle.sheet.specs.Malformed.{Begun, Malformed}
 use Rattle.sheet.specs.Reader.{Judged, whole, broken, sheetOf, Read, accepted, malformed, tooLong, toldOf, readOf}
 use Rattle.sheet.proofs.AnswerLaws.{read-long}
 use Rattle.sheet.proofs.Accepted.{accepted-sound, accepted-complete}
-use Rattle.sheet.proofs.First.{malformed-first}
-use Rattle.sheet.proofs.Reached.{lines-split, malformed-reached}
+use Rattle.sheet.proofs.First.{malformed-first-proof}
+use Rattle.sheet.proofs.Reached.{lines-split, malformed-reached-proof}
 
 told-short : (j : Judged) → toldOf j ≡ tooLong → ⊥
 unfolding toldOf
@@ -28,8 +28,8 @@ unfolding readOf
 too-long s =
     pick-all (λ x. x ≡ tooLong → 4096 < length s) (ltb 4096 (length s)) tooLong (toldOf (sheetOf s)) (λ t e. ltb-true _ _ t) (λ t e. absurd (told-short (sheetOf s) e))
 
-pub too-long-exactly : (s : List ℕ) → (readOf s ≡ tooLong) ↔ (4096 < length s)
-too-long-exactly s = (too-long s, read-long s)
+pub too-long-exactly-proof : (s : List ℕ) → (readOf s ≡ tooLong) ↔ (4096 < length s)
+too-long-exactly-proof s = (too-long s, read-long s)
 
 -- ---- the line that is told
 
@@ -39,7 +39,8 @@ module _ (s : List ℕ) (k : ℕ) where
   first-by e j b false t =
       let d = lines-split (b .first) k (let z : k ≤ linesIn (b .first) = omega (arith, b .counted, ltb-false j k t) in z) in
       absurd
-      (malformed-first s k e (d .front) (d .back ++ b .rest) (b .here ∙ ap (λ y. y ++ b .rest) (d .is) ∙ append-assoc (d .front) (d .back) (b .rest)) (d .lines) (b .model)
+      (malformed-first-proof s k e (d .front) (d .back ++ b .rest)
+      (b .here ∙ ap (λ y. y ++ b .rest) (d .is) ∙ append-assoc (d .front) (d .back) (b .rest)) (d .lines) (b .model)
       (b .valid)
       (d .back ++ b .other) (b .there ∙ ap (λ y. y ++ b .other) (d .is) ∙ append-assoc (d .front) (d .back) (b .other)))
 
@@ -52,7 +53,7 @@ module _ (s : List ℕ) (k : ℕ) where
       record {
         short = short-by e (ltb 4096 (length s)) refl;
         none = λ m v w. let q : accepted m ≡ malformed k = sym (ap readOf w ∙ accepted-complete m v) ∙ e in let z : _≡_ {A = ℕ} 0 1 = cc in omega arith;
-        reached = malformed-reached s k e;
+        reached = malformed-reached-proof s k e;
         first = λ j b. first-by e j b (ltb j k) refl;
       }
 
@@ -61,13 +62,13 @@ lower : (s : List ℕ) (k k' : ℕ) → Malformed s k → Malformed s k' → (t 
 lower s k k' a b true t = absurd (let z : k < k = a .first k (b .reached k (ltb-true _ _ t)) in let y : ⊥ = omega arith in y)
 lower s k k' a b false t = ltb-false _ _ t
 
-pub one-line : (s : List ℕ) (k k' : ℕ) → Malformed s k → Malformed s k' → k ≡ k'
-one-line s k k' a b = omega (arith, lower s k k' a b (ltb k k') refl, lower s k' k b a (ltb k' k) refl)
+pub one-line-proof : (s : List ℕ) (k k' : ℕ) → Malformed s k → Malformed s k' → k ≡ k'
+one-line-proof s k k' a b = omega (arith, lower s k k' a b (ltb k k') refl, lower s k' k b a (ltb k' k) refl)
 
 malformed-by : (s : List ℕ) (k : ℕ) → Malformed s k → (x : Read) → readOf s ≡ x → readOf s ≡ malformed k
 malformed-by s k d (accepted m) e = let p = accepted-sound s m e in absurd (d .none m (p .1) (p .0))
-malformed-by s k d (malformed k') e = e ∙ ap malformed (one-line s k' k (malformed-so s k' e) d)
+malformed-by s k d (malformed k') e = e ∙ ap malformed (one-line-proof s k' k (malformed-so s k' e) d)
 malformed-by s k d tooLong e = absurd (let l : 4096 < length s = too-long s e in let y : ⊥ = omega (arith, d .short) in y)
 
-pub malformed-exactly : (s : List ℕ) (k : ℕ) → (readOf s ≡ malformed k) ↔ Malformed s k
-malformed-exactly s k = (malformed-so s k, λ d. malformed-by s k d (readOf s) refl)
+pub malformed-exactly-proof : (s : List ℕ) (k : ℕ) → (readOf s ≡ malformed k) ↔ Malformed s k
+malformed-exactly-proof s k = (malformed-so s k, λ d. malformed-by s k d (readOf s) refl)

@@ -1,7 +1,5 @@
--- What an opening promises, from its definition:
---     refused-exactly    it is refused with r exactly when a row of 01's table holds, refuses with r, and no earlier row holds
---     accepted-exactly   it is accepted exactly when no row holds
---     refused-kept       a refusal leaves all lent memory as it was
+-- When an opening is refused, when accepted, and what a refusal leaves, from its definition and the law of the first
+-- test that holds: the proofs behind Theorems.antt.
 use Prim.Native.Nat.{ℕ}
 use mathlib.Core.Path.{_≡_, refl, sym, ap, _∙_}
 use mathlib.Core.Logic.{_↔_}
@@ -13,7 +11,7 @@ use Rattle.state.specs.declared.talk.Verdict.{Verdict}
 use Rattle.state.specs.declared.talk.Verdict.the-variants.{Passed, Refused}
 use Rattle.opening.specs.Rows.{Opening, openingRows, verdictOf}
 use Rattle.opening.specs.Opening.{Outcome, acceptedOf, byVerdict, openOf}
-use Rattle.opening.proofs.RowLaws.{FirstHolds, NoneHolds, verdict-first}
+use Rattle.opening.proofs.RowLaws.{FirstHolds, NoneHolds, verdict-first-proof}
 
 -- an accepted opening's answer is no refusal
 not-refused : (o : Opening) (r : Refusal) → acceptedOf o .answer ≡ opened.Refused r → ⊥
@@ -34,18 +32,18 @@ by-passing Passed o = (λ e. refl, λ e. refl)
 by-passing (Refused x) o = (λ e. absurd (not-refused o x (ap (λ (w : Outcome). w .answer) (sym e))), λ e. absurd (not-passed x (sym e)))
 
 module _ (o : Opening) where
-  pub refused-exactly : (r : Refusal) → (openOf o .answer ≡ opened.Refused r) ↔ FirstHolds (openingRows o) r
+  pub refused-exactly-proof : (r : Refusal) → (openOf o .answer ≡ opened.Refused r) ↔ FirstHolds (openingRows o) r
   unfolding openOf
-  refused-exactly r =
+  refused-exactly-proof r =
       let a = by-refusal (verdictOf (openingRows o)) o r in
-      let b = verdict-first (openingRows o) .0 r in
+      let b = verdict-first-proof (openingRows o) .0 r in
       (λ e. b .0 (a .0 e), λ f. a .1 (b .1 f))
 
-  pub accepted-exactly : (openOf o ≡ acceptedOf o) ↔ NoneHolds (openingRows o)
+  pub accepted-exactly-proof : (openOf o ≡ acceptedOf o) ↔ NoneHolds (openingRows o)
   unfolding openOf
-  accepted-exactly =
+  accepted-exactly-proof =
       let a = by-passing (verdictOf (openingRows o)) o in
-      let b = verdict-first (openingRows o) .1 in
+      let b = verdict-first-proof (openingRows o) .1 in
       (λ e. b .0 (a .0 e), λ f. a .1 (b .1 f))
 
   kept : (v : Verdict) (r : Refusal) → v ≡ Refused r → byVerdict v o .memory ≡ o .memory
@@ -53,6 +51,6 @@ module _ (o : Opening) where
   kept Passed r e = absurd (not-passed r e)
   kept (Refused x) r e = refl
 
-  pub refused-kept : (r : Refusal) → openOf o .answer ≡ opened.Refused r → openOf o .memory ≡ o .memory
+  pub refused-kept-proof : (r : Refusal) → openOf o .answer ≡ opened.Refused r → openOf o .memory ≡ o .memory
   unfolding openOf
-  refused-kept r e = kept (verdictOf (openingRows o)) r (by-refusal (verdictOf (openingRows o)) o r .0 e)
+  refused-kept-proof r e = kept (verdictOf (openingRows o)) r (by-refusal (verdictOf (openingRows o)) o r .0 e)

@@ -1,4 +1,5 @@
--- What a user learns of `interpolate`, stated of its definition: when it refuses, what it leaves as it was, and what each amount is.
+-- When `interpolate` refuses, what it leaves as it was, and what each amount is, by its definition: the proofs of
+-- Theorems.antt.
 use Prim.Native.Nat.{ℕ, _/_, _≤_, _<_}
 use mathlib.Core.Path.{_≡_, refl, ap, _∙_}
 use mathlib.Core.List.{List}
@@ -39,11 +40,11 @@ module _ (xi : Float) (yi cont : List Float) (xold h : Float) where
   unfolding interpolateOf
   work p = pick-no _ _ (le-ltb _ _ p)
 
-  -- ---- the theorems
+  -- ---- what is promised
 
-  -- The number is 19 exactly when the target is shorter than the amounts are many.
-  pub refused-exactly : (interpolatedNumber (outcome .answer) ≡ 19) ↔ (length yi < count)
-  refused-exactly = (λ e. by e (decLt (length yi) count), λ p. ap (λ (o : Interpolation). interpolatedNumber (o .answer)) (refusal p))
+  pub refused-exactly-proof : (interpolatedNumber (outcome .answer) ≡ 19) ↔ (length yi < count)
+  refused-exactly-proof =
+      (λ e. by e (decLt (length yi) count), λ p. ap (λ (o : Interpolation). interpolatedNumber (o .answer)) (refusal p))
     where
       by : interpolatedNumber (outcome .answer) ≡ 19 → Dec (length yi < count) → length yi < count
       by e (yes p) = p
@@ -51,23 +52,20 @@ module _ (xi : Float) (yi cont : List Float) (xold h : Float) where
           let zero : interpolatedNumber (outcome .answer) ≡ 0 = ap (λ (o : Interpolation). interpolatedNumber (o .answer)) (work (omega arith)) in
           absurd (omega arith)
 
-  -- A refused target is left as it was.
-  pub refused-kept : length yi < count → outcome .yi ≡ yi
-  refused-kept p = ap (λ (o : Interpolation). o .yi) (refusal p)
+  pub refused-kept-proof : length yi < count → outcome .yi ≡ yi
+  refused-kept-proof p = ap (λ (o : Interpolation). o .yi) (refusal p)
 
-  -- A target keeps its length.
-  pub length-kept : length (outcome .yi) ≡ length yi
+  pub length-kept-proof : length (outcome .yi) ≡ length yi
   unfolding interpolateOf interpolateAt
-  length-kept =
+  length-kept-proof =
       pick-all (λ (o : Interpolation). length (o .yi) ≡ length yi) (ltb (length yi) count) _ _ (λ _. refl) (λ _. filled-length amount yi count)
 
-  -- Entries from the number of amounts on stay as they were.
-  pub rest-kept : (k : ℕ) → count ≤ k → outcome .yi ! k ≡ yi ! k
+  pub rest-kept-proof : (k : ℕ) → count ≤ k → outcome .yi ! k ≡ yi ! k
   unfolding interpolateOf interpolateAt
-  rest-kept k p =
+  rest-kept-proof k p =
       pick-all (λ (o : Interpolation). o .yi ! k ≡ yi ! k) (ltb (length yi) count) _ _ (λ _. refl) (λ _. filled-rest amount yi nan count k p)
 
-  -- Where nothing is refused, each entry below that is its amount.
-  pub amounts-written : (k : ℕ) → k < count → count ≤ length yi → outcome .yi ! k ≡ amount k
+  pub amounts-written-proof : (k : ℕ) → k < count → count ≤ length yi → outcome .yi ! k ≡ amount k
   unfolding interpolateAt
-  amounts-written k p q = ap (λ (o : Interpolation). o .yi ! k) (work q) ∙ filled-place amount yi nan count k p q
+  amounts-written-proof k p q =
+      ap (λ (o : Interpolation). o .yi ! k) (work q) ∙ filled-place amount yi nan count k p q

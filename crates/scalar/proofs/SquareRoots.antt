@@ -1,7 +1,7 @@
 -- The square root exists, is one, and is what `sqrtOf` computes:
---     sqrt-is        for every double x, `sqrtOf x` is a square root of x in the sense of specs/SquareRoot.antt
---     sqrt-exists    so there is one
---     sqrt-only      and there is no other
+--     sqrt-is-proof        for every double x, `sqrtOf x` is a square root of x in the sense of specs/SquareRoot.antt
+--     sqrt-exists-proof    so there is one
+--     sqrt-only-proof      and there is no other
 -- The contract of `sqrt` says both: that the code returns `sqrtOf x`, and that this is a square root of x.
 use Prim.Native.Nat.{ℕ, zero, suc, _+_, _-_, _*_, _%_, _≤_, _<_}
 use mathlib.Core.Path.{_≡_, refl, sym, ap, subst, _∙_}
@@ -167,31 +167,32 @@ sqrt-of-positive (fin true m e) p = absurd p
 sqrt-of-positive (fin false zero e) p = absurd p
 sqrt-of-positive (fin false (suc m) e) p = refl
 
--- ---- the theorems
+-- ---- what is promised
 
-pub sqrt-is : (x : Float) → T (fits binary64 x) → IsSquareRoot x (sqrtOf x)
+pub sqrt-is-proof : (x : Float) → T (fits binary64 x) → IsSquareRoot x (sqrtOf x)
 unfolding sqrtOf
-sqrt-is nan f = of-nan
-sqrt-is (inf true) f = of-minus-infinity
-sqrt-is (inf false) f = of-infinity
-sqrt-is (fin s zero e) f = of-zero s e
-sqrt-is (fin true (suc m) e) f = of-negative m e
-sqrt-is (fin false (suc m) e) f =
+sqrt-is-proof nan f = of-nan
+sqrt-is-proof (inf true) f = of-minus-infinity
+sqrt-is-proof (inf false) f = of-infinity
+sqrt-is-proof (fin s zero e) f = of-zero s e
+sqrt-is-proof (fin true (suc m) e) f = of-negative m e
+sqrt-is-proof (fin false (suc m) e) f =
     let x = fin false (suc m) e in
     let d = root-edge x f (lt→ltb 0 (suc m) (zero-lt-suc m)) in
     of-positive m e (nearestRoot (squareOf x)) (d .under) (edge-nearest (squareOf x) (nearestRoot (squareOf x)) d)
 
 -- what equals `sqrtOf x` is one: the contract of `sqrt`, from its equation
 pub sqrt-both : (x : Float) → T (fits binary64 x) → {r : Float} → r ≡ sqrtOf x → (r ≡ sqrtOf x) × IsSquareRoot x r
-sqrt-both x f e = (e, subst (λ (r : Float). IsSquareRoot x r) (sym e) (sqrt-is x f))
+sqrt-both x f e = (e, subst (λ (r : Float). IsSquareRoot x r) (sym e) (sqrt-is-proof x f))
 
-pub sqrt-exists : (x : Float) → T (fits binary64 x) → (r : Float) × IsSquareRoot x r
-sqrt-exists x f = (sqrtOf x, sqrt-is x f)
+pub sqrt-exists-proof : (x : Float) → T (fits binary64 x) → (r : Float) × IsSquareRoot x r
+sqrt-exists-proof x f = (sqrtOf x, sqrt-is-proof x f)
 
-pub sqrt-only : (x r r' : Float) → IsSquareRoot x r → IsSquareRoot x r' → r ≡ r'
-sqrt-only x r r' of-nan of-nan = refl
-sqrt-only x r r' of-infinity of-infinity = refl
-sqrt-only x r r' of-minus-infinity of-minus-infinity = refl
-sqrt-only x r r' (of-zero s e) (of-zero t d) = refl
-sqrt-only x r r' (of-negative m e) (of-negative n d) = refl
-sqrt-only x r r' (of-positive m e b u p) (of-positive n d c w q) = ap (λ (k : ℕ). double k) (nearest-only (squareOf (fin false (suc m) e)) b c u w p q)
+pub sqrt-only-proof : (x r r' : Float) → IsSquareRoot x r → IsSquareRoot x r' → r ≡ r'
+sqrt-only-proof x r r' of-nan of-nan = refl
+sqrt-only-proof x r r' of-infinity of-infinity = refl
+sqrt-only-proof x r r' of-minus-infinity of-minus-infinity = refl
+sqrt-only-proof x r r' (of-zero s e) (of-zero t d) = refl
+sqrt-only-proof x r r' (of-negative m e) (of-negative n d) = refl
+sqrt-only-proof x r r' (of-positive m e b u p) (of-positive n d c w q) =
+    ap (λ (k : ℕ). double k) (nearest-only (squareOf (fin false (suc m) e)) b c u w p q)

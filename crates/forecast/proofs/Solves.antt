@@ -1,7 +1,8 @@
 -- The forecast of a sheet is the end of its model's run:
---     forecast-solves   what is told of the outcome of a run with a budget, over the memory that the reader leaves, is the forecast
---     one-forecast      of what was read there is one forecast only
--- That every such run ends, so that there is something to tell, is `run-ends` of Last.antt.
+--     forecast-solves      what is told of the outcome of a run with a budget, over the memory that the reader leaves,
+--                          is the forecast
+--     one-forecast-proof   of what was read there is one forecast only
+-- That every such run ends, so that there is something to tell, is `run-ends-proof` of Last.antt.
 use Prim.Native.Nat.{ℕ, _-_}
 use mathlib.Core.Path.{_≡_, refl, sym, ap, _∙_, subst}
 use mathlib.Core.List.{List, _++_, map}
@@ -25,7 +26,7 @@ use Rattle.opening.specs.Rows.{Opening, opening}
 use Rattle.opening.specs.Opening.{outcome, openOf}
 use Rattle.history.specs.History.{Point, point}
 use Rattle.solve.specs.Talk.{World, offered}
-use Rattle.solve.proofs.Theorem.{one-end}
+use Rattle.solve.proofs.Talks.{one-end}
 use Rattle.sheet.specs.Sheet as sheet
 use Rattle.sheet.specs.Sheet.{Valid}
 use Rattle.sheet.specs.Reader.{Read, accepted, malformed, tooLong, headingOf, answerOf, amountsLeft, ratesLeft, speciesLeft, readOf}
@@ -160,8 +161,9 @@ unfolding FromOpened
 one-by m (opened.Refused x) memory f g a b = a ∙ sym b
 one-by m (opened.Asked r q p) memory f g a b = one-end-told m (point r q p memory) f g a b
 
-pub one-forecast : (x : Read) (f g : Forecast) → Forecasts x f → Forecasts x g → f ≡ g
+pub one-forecast-proof : (x : Read) (f g : Forecast) → Forecasts x f → Forecasts x g → f ≡ g
 unfolding Forecasts
-one-forecast (accepted m) f g a b = one-by m (openOf (openingFor m) .answer) (openOf (openingFor m) .memory) f g a b
-one-forecast (malformed k) f g a b = a ∙ sym b
-one-forecast tooLong f g a b = a ∙ sym b
+one-forecast-proof (accepted m) f g a b =
+    one-by m (openOf (openingFor m) .answer) (openOf (openingFor m) .memory) f g a b
+one-forecast-proof (malformed k) f g a b = a ∙ sym b
+one-forecast-proof tooLong f g a b = a ∙ sym b

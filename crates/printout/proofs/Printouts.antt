@@ -1,5 +1,5 @@
 -- What is put of a sheet is settled:
---     one-printout   two outcomes that the contract allows for the same bytes in the same memory coincide
+--     one-printout-proof   two outcomes that the contract allows for the same bytes in the same memory coincide
 use Prim.Native.Nat.{ℕ}
 use mathlib.Core.Path.{_≡_, sym, ap, _∙_}
 use mathlib.Core.List.{List}
@@ -7,11 +7,12 @@ use lib.ListN.{length}
 use Rattle.sheet.specs.Reader.{Read, over}
 use Rattle.answer.specs.declared.ending.Forecast.{Forecast}
 use Rattle.answer.specs.Printed.{printedOf}
-use Rattle.forecast.proofs.Theorem.{one-forecast}
+use Rattle.forecast.proofs.Theorems.{one-forecast}
 use Rattle.printout.specs.Printout.{Prints}
 
-pub one-printout : (x : Read) (before : List ℕ) {left right : List ℕ} {k m : ℕ} → Prints x before left k → Prints x before right m → (left ≡ right) × (k ≡ m)
-one-printout x before a b =
+pub one-printout-proof : (x : Read) (before : List ℕ) {left right : List ℕ} {k m : ℕ}
+    → Prints x before left k → Prints x before right m → (left ≡ right) × (k ≡ m)
+one-printout-proof x before a b =
     let same = one-forecast x (a .forecast) (b .forecast) (a .is) (b .is) in (
       a .bytes ∙ ap (λ (f : Forecast). over (printedOf f) before) same ∙ sym (b .bytes),
       a .counted ∙ ap (λ (f : Forecast). length (printedOf f)) same ∙ sym (b .counted),

@@ -1,5 +1,6 @@
--- The coefficients are right. One whole-number test runs over the table (`tested`), and one law turns it into the rule at each entry:
--- of C1, C2, C1M1, C2M1, C1MC2, DD1, DD2 and DD3 the exact number lies strictly between the neighbours of the double, and within two doubles either way of U1 the cubic changes its sign.
+-- The coefficients are right. One whole-number test runs over the table (`tested`), and one law turns it into the rule
+-- at each entry: of C1, C2, C1M1, C2M1, C1MC2, DD1, DD2 and DD3 the exact number lies strictly between the neighbours
+-- of the double, and within two doubles either way of U1 the cubic changes its sign.
 use Prim.Native.Nat.{ℕ, _<_}
 use mathlib.Core.Bool.{Bool, true, false, _&&_}
 use lib.Dec.{T}
@@ -27,6 +28,6 @@ split x e t =
     let upper = more (signedUnits (up (reach e) (toBits binary64 x))) e in
     record { lower = and-l lower upper t; upper = and-r lower upper t }
 
-pub coefficient-right : (k : ℕ) → k < 27 → Between (coefficients ! k) (exactAt k)
+pub coefficient-right-proof : (k : ℕ) → k < 27 → Between (coefficients ! k) (exactAt k)
 unfolding right
-coefficient-right k h = split _ _ (at-each right nan coefficients tested k h)
+coefficient-right-proof k h = split _ _ (at-each right nan coefficients tested k h)

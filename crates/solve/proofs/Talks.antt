@@ -1,9 +1,10 @@
 -- `solve` and the advances of an accepted opening do the same, whatever the host:
---     solve-exactly     `solve` returns with e and w exactly where the advances, each of a reply that is admitted, talk to them: the same calls, memory and result
---     solve-talks       so for any number of passes with which solveOf finishes
---     talk-solves       and it finishes, where k advances end the run, with six passes for each and six more
---     one-end           a talk has one end, so it always finishes with the same
---     solve-advances    the advances as they are offered, where the host's replies are admitted
+--     solve-exactly-proof   `solve` returns with e and w exactly where the advances, each of a reply that is admitted,
+--                           talk to them: the same calls, memory and result
+--     solve-talks           so for any number of passes with which solveOf finishes
+--     talk-solves           and it finishes, where k advances end the run, with six passes for each and six more
+--     one-end               a talk has one end, so it always finishes with the same
+--     solve-advances        the advances as they are offered, where the host's replies are admitted
 use Prim.Native.Nat.{ℕ, zero, suc, _+_, _*_, _≤_, _<_}
 use mathlib.Core.Bool.{Bool, true, false, true≢false}
 use mathlib.Core.Path.{_≡_, refl, sym, ap, _∙_, subst}
@@ -27,7 +28,7 @@ use Rattle.state.specs.declared.talk.Verdict.the-variants as verdict
 use Rattle.state.specs.Memory.{Memory}
 use Rattle.opening.specs.Rows.{Opening, openingRows, verdictOf}
 use Rattle.opening.specs.Opening.{Outcome, outcome, openOf, byVerdict, acceptedOf, firstRun, shapeOf}
-use Rattle.opening.proofs.RowLaws.{verdict-first}
+use Rattle.opening.proofs.Theorems.{verdict-first}
 use Rattle.opening.proofs.OpeningLaws.{within}
 use Rattle.blocks.specs.Matrices.{passesOf, passAt}
 use Rattle.blocks.specs.Advance as advance
@@ -163,8 +164,8 @@ module _ (host : Host) (o : Opening) (r : Run) (q : Request) (p : Place) (m : Me
       let same = one-end admitted host start (f .run) e (f .world) w (solve-talks (6 * (k + 1)) (f .run) (f .world) (f .is)) a in
       record { passes = 6 * (k + 1); is = f .is ∙ ap (λ (x : Run). finished x (f .world)) (same .0) ∙ ap (finished e) (same .1) }
 
-  pub solve-exactly : (e : Run) (w : World) → Returns host r m e w ↔ TalksTo admitted host start e w
-  solve-exactly e w = (λ s. solve-talks (s .passes) e w (s .is), talk-returns e w)
+  pub solve-exactly-proof : (e : Run) (w : World) → Returns host r m e w ↔ TalksTo admitted host start e w
+  solve-exactly-proof e w = (λ s. solve-talks (s .passes) e w (s .is), talk-returns e w)
 
   pub solve-advances : (e : Run) (w : World) → Returns host r m e w → ((j : ℕ) → j < length (w .exchanges) → Admits host (talkBy offered host j (talk start [])))
       → TalksTo offered host start e w

@@ -1,6 +1,6 @@
 -- Packing and unpacking are inverse: words are unpacked to a run exactly if they are what it packs to.
---     unpacked-exactly     both directions in one, for any words and any run
---     packed-unpacks       the one that a host leans on: what a call packs, the next call unpacks
+--     unpacked-exactly-proof   both directions in one, for any words and any run
+--     packed-unpacks           the one that a host leans on: what a call packs, the next call unpacks
 use mathlib.Core.Path.{_≡_, refl, sym, ap, subst, _∙_}
 use mathlib.Core.Bool.{Bool, true, false}
 use mathlib.Core.List.{List}
@@ -105,6 +105,6 @@ module _ (w : List ℕ) (r : Run) where
       let same : sameWords w (packOf (runRead w)) ≡ true = rw (q, ← e) (is-same w) in
       pick-yes _ _ same ∙ ap unpacked.Run q
 
-  pub unpacked-exactly : (unpackOf w ≡ unpacked.Run r) ↔ ((w ≡ packOf r) × RunHeld r)
+  pub unpacked-exactly-proof : (unpackOf w ≡ unpacked.Run r) ↔ ((w ≡ packOf r) × RunHeld r)
   unfolding Packing
-  unpacked-exactly = (is-packing, λ p. packed-unpacks (p .0) (p .1))
+  unpacked-exactly-proof = (is-packing, λ p. packed-unpacks (p .0) (p .1))

@@ -1,4 +1,5 @@
--- Settings that are written into the two arrays are read back as they were. So who opens with the arrays of `elchepur_default_settings` opens with the default settings.
+-- Settings that are written into the two arrays are read back as they were. So who opens with the arrays of
+-- `elchepur_default_settings` opens with the default settings.
 use mathlib.Core.Path.{_≡_, refl}
 use Rattle.words.specs.Words.{double}
 use Rattle.words.specs.Loop.{pick}
@@ -16,8 +17,8 @@ unfolding pick numberOf orElse
 given-back number.Absent = refl
 given-back (number.Given x) = refl
 
-pub settings-read : (s : Settings) → settingsGiven (numbersOf s) (floatsOf s) ≡ s
-settings-read s =
+pub settings-read-proof : (s : Settings) → settingsGiven (numbersOf s) (floatsOf s) ≡ s
+settings-read-proof s =
     λ i.
     record {
       «max_steps» = s .«max_steps»;
@@ -41,4 +42,4 @@ settings-read s =
     }
 
 pub defaults-read : settingsGiven (numbersOf defaultsOf) (floatsOf defaultsOf) ≡ defaultsOf
-defaults-read = settings-read defaultsOf
+defaults-read = settings-read-proof defaultsOf
