@@ -1,5 +1,5 @@
 /* Elchepur: the stiff solver RADAU (Radau IIA, order 5) and its routines, proved in Rattle, for C99 and C++.
- * Behind every function here stands a contract of crates/export, of the last one of crates/printout, that settles its answer and every slice for all inputs.
+ * Behind every function here stands a contract of crates/export, of the last one of crates/export_forecast, that settles its answer and every slice for all inputs.
  *
  * Rules for all functions:
  * - A slice is a pointer and the count of what it points to. A pointer is never null, not even with a count of 0, and is aligned as its type asks.
@@ -25,14 +25,14 @@ enum {
     ELCHEPUR_DONE = 0,
     ELCHEPUR_REFUSED_ORDER = 1,           /* n is not 1 to 32 */
     ELCHEPUR_REFUSED_PART = 2,            /* a lent part has the wrong length */
-    ELCHEPUR_REFUSED_NOT_FINITE = 3,      /* a given float is not finite: ends, amounts, mass entries, tolerances, settings */
+    ELCHEPUR_REFUSED_NOT_FINITE = 3, /* a given float is not finite: ends, amounts, mass entries, tolerances, settings */
     ELCHEPUR_REFUSED_MAX_STEPS = 4,       /* max_steps is not 1 to 1,000,000 */
     ELCHEPUR_REFUSED_UROUND = 5,          /* uround <= 1e-35 or >= 1 */
     ELCHEPUR_REFUSED_SAFETY_FACTOR = 6,   /* safety_factor <= 1e-4 or >= 1 */
     ELCHEPUR_REFUSED_SCALES = 7,          /* scale_min <= 0 or not below scale_max */
     ELCHEPUR_REFUSED_NEWTON_MAXITER = 8,  /* newton_maxiter is not 1 to 16 */
     ELCHEPUR_REFUSED_TOLERANCE = 9,       /* an rtol <= 0 or an atol < 0 */
-    ELCHEPUR_REFUSED_PARTITION = 10,      /* nind1 is given and the three don't sum to n, or only others are and exceed n */
+    ELCHEPUR_REFUSED_PARTITION = 10, /* nind1 is given and the three don't sum to n, or only others are and exceed n */
     ELCHEPUR_REFUSED_FIRST_STEP = 11,     /* first_step is given as 0 */
     ELCHEPUR_REFUSED_STEP_LIMITS = 12,    /* max_step < 0, or min_step above the step ceiling */
     ELCHEPUR_REFUSED_UNFIT = 13,          /* the state is unfit, or the words are no state's */
@@ -72,7 +72,7 @@ enum {
     ELCHEPUR_NUMBER_MAX_STEPS = 0,
     ELCHEPUR_NUMBER_NEWTON_MAXITER = 1,
     ELCHEPUR_NUMBER_PREDICTIVE = 2,    /* 0: the step control doesn't look back; else it does */
-    ELCHEPUR_NUMBER_DENSE_OUTPUT = 3,  /* 0: coefficients are offered for marks alone; else at every report but the first */
+    ELCHEPUR_NUMBER_DENSE_OUTPUT = 3, /* 0: coefficients are offered for marks alone; else at every report but the first */
     ELCHEPUR_NUMBER_MASS = 4,          /* 0: the mass is the identity; else it is Full and stands in the part `mass` */
     ELCHEPUR_NUMBER_SOURCE = 5,        /* 0: the host makes the Jacobian; else it is made by differences */
     ELCHEPUR_NUMBER_RULE = 6,          /* 0: the Rust rule; else the book rule */

@@ -1,4 +1,4 @@
-"""The numbers, parts and functions of include/elchepur.h. Written by tests/python_module.py, not by hand."""
+"""The numbers, parts and functions of include/elchepur.h. Written by tests/python/python_module.py, not by hand."""
 
 DONE = 0
 REFUSED_ORDER = 1

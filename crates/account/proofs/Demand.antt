@@ -48,7 +48,8 @@ demand-3-proof o start starts h fair =
     let b : Limits (o .settings) (countsOf j) (j .point .request) =
     subst (λ (c : Counts). Limits (o .settings) c (j .point .request)) told (limits-proof o j w) in
     let at : j .point .run .stage ≡ stage.Ended (s .status) =
-    ended-matches (subst (λ (q : Request). Matches (j .point .run .stage) q (j .point .place)) (s .is) (sound o j w .held .matches)) in
+    ended-matches (subst (λ (q : Request). Matches (j .point .run .stage) q (j .point .place)) (s .is)
+    (sound o j w .held .matches)) in
     record {
       advances = e .advances;
       few = e .few;

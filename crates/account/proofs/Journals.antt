@@ -29,23 +29,25 @@ use Rattle.opening.specs.Rows.{Opening, openingRows}
 use Rattle.opening.specs.Opening.{openOf}
 use Rattle.opening.specs.Admission.{askingAt}
 use Rattle.opening.proofs.RowLaws.{NoneHolds}
-use Rattle.blocks.specs.Setters.{counts}
-use Rattle.blocks.specs.Matrices.{call}
-use Rattle.blocks.specs.Advance.{advanceBy}
+use Rattle.solve_blocks.specs.Setters.{counts}
+use Rattle.solve_blocks.specs.Matrices.{call}
+use Rattle.solve_blocks.specs.Advance.{advanceBy}
 use Rattle.history.specs.Host.{isEnd, Action}
 use Rattle.history.specs.History.{nextPoint}
 use Rattle.account.specs.Journal.{Fair, Turn, Journal, next, FairFrom, after, Starts, JournalOf}
-use Rattle.account.specs.Reading.{one, many, Question, questions, askedIn, isReport, firstStage, says, sameStatus, standingAt, interruptedIn, countsOf, happened, Means, width, mostRequests}
+use Rattle.account.specs.Reading.{one, many, Question, questions, askedIn, isReport, firstStage, says, sameStatus}
+use Rattle.account.specs.Reading.{standingAt, interruptedIn, countsOf, happened, Means, width, mostRequests}
 use Rattle.account.specs.Truth.{EventsTrue}
-use Rattle.account.specs.Account.{Strategy, played, FairHost, Answered, EndsWithin, Over, Limits, Ends, Lands, Ledger}
+use Rattle.account.specs.Account.{Strategy, played, FairHost, Answered}
+use Rattle.account.specs.Account.{EndsWithin, Over, Limits, Ends, Lands, Ledger}
 use Rattle.account.proofs.Matches.{Matches, by-stage, matches-report, matches-end, matches-ended, ended-matches}
 use Rattle.account.proofs.Flow.{owed, endsWith}
-use Rattle.account.proofs.Stands.{Stands, marksOf, endMarks}
+use Rattle.account.proofs.StandingKept.{Stands, marksOf, endMarks}
 use Rattle.account.proofs.Bounds.{WithinAt, Ceilings, bounds-fit, bounds-ended}
-use Rattle.account.proofs.Lands.{lands-report}
-use Rattle.account.proofs.Lands as landed
+use Rattle.account.proofs.SuccessLands.{lands-report}
+use Rattle.account.proofs.SuccessLands as landed
 use Rattle.account.proofs.Admits.{ended-refuses}
-use Rattle.account.proofs.First.{opens}
+use Rattle.account.proofs.FirstPoint.{opens}
 use Rattle.account.proofs.Advance.{advanced, next-is}
 use Rattle.account.proofs.Sound.{Held, bounded, passes, held-next, held-first}
 use Rattle.account.proofs.Tally.{Tallied, open-ends, tallied-next, tallied-first}
@@ -70,7 +72,11 @@ module _ (o : Opening) (j : Journal) (a : Action) (s : Sound o j) (fair : Fair (
   pub sound-next : Sound o (next j a)
   sound-next =
       subst (Sound o) (sym next-same)
-      (record { none = s .none; held = held-next o (s .none) j a (s .held) fair; tallied = tallied-next o (s .none) j a (s .held) (s .tallied) fair })
+      (record {
+        none = s .none;
+        held = held-next o (s .none) j a (s .held) fair;
+        tallied = tallied-next o (s .none) j a (s .held) (s .tallied) fair;
+      })
 
   -- the advance is answered
   pub answered : Answered j a
@@ -83,7 +89,8 @@ sound-after o j [] s f = s
 sound-after o j (a ∷ acts) s f = sound-after o (next j a) acts (sound-next o j a s (f .0)) (f .1)
 
 pub sound : (o : Opening) (j : Journal) → JournalOf o j → Sound o j
-sound o j w = subst (Sound o) (sym (w .is)) (sound-after o (w .first) (w .acts) (sound-first o (w .first) (w .starts)) (w .fair))
+sound o j w =
+    subst (Sound o) (sym (w .is)) (sound-after o (w .first) (w .acts) (sound-first o (w .first) (w .starts)) (w .fair))
 
 -- ---- 2. counts
 
@@ -103,7 +110,8 @@ none-owed stage.Report e = refl
 none-owed stage.DerivativeAgain e = refl
 none-owed (stage.Ended t) e = refl
 
-counts-are : (c d : Counts) → c .ode ≡ d .ode → c .jac ≡ d .jac → c .lu ≡ d .lu → c .total ≡ d .total → c .accepted ≡ d .accepted → c .rejected ≡ d .rejected → c ≡ d
+counts-are : (c d : Counts) → c .ode ≡ d .ode → c .jac ≡ d .jac → c .lu ≡ d .lu → c .total ≡ d .total
+    → c .accepted ≡ d .accepted → c .rejected ≡ d .rejected → c ≡ d
 counts-are c d a b e f g h =
     ap (λ (k : ℕ). counts k (c .jac) (c .lu) (c .total) (c .accepted) (c .rejected)) a
     ∙ ap (λ (k : ℕ). counts (d .ode) k (c .lu) (c .total) (c .accepted) (c .rejected)) b
@@ -134,7 +142,12 @@ module _ (o : Opening) (j : Journal) (w : JournalOf o j) where
       let s = sound o j w in
       let t = s .tallied in
       let m = s .held .matches in
-      omega (arith, t .reports-asked, t .accepted, none-owed (j .point .run .stage) (sym (ap₂ _||_ (matches-report m) (matches-end m)) ∙ e))
+      omega (
+        arith,
+        t .reports-asked,
+        t .accepted,
+        none-owed (j .point .run .stage) (sym (ap₂ _||_ (matches-report m) (matches-end m)) ∙ e),
+      )
 
 -- ---- 3. limits
 
@@ -144,30 +157,50 @@ module _ (r : Run) (q : Request) (p : Place) where
       → r .counts .total ≤ r .settings .«max_steps» + 1
       → (q ≡ request.Ended status.NeedLargerNMax) ↔ (r .counts .total ≡ r .settings .«max_steps» + 1)
       → Limits (r .settings) (r .counts) q
-  limits-by c total limit = record { ode = c .ode; jac = c .jac; lu = c .lu; total = total; accepted = c .accepted; rejected = c .rejected; limit = limit; book = c .judged }
+  limits-by c total limit = record {
+    ode = c .ode;
+    jac = c .jac;
+    lu = c .lu;
+    total = total;
+    accepted = c .accepted;
+    rejected = c .rejected;
+    limit = limit;
+    book = c .judged;
+  }
 
-  running-limits : (s : Stage) → askingAt s .ended ≡ false → WithinAt s r → Matches s q p → Limits (r .settings) (r .counts) q
+  running-limits : (s : Stage) → askingAt s .ended ≡ false → WithinAt s r → Matches s q p
+      → Limits (r .settings) (r .counts) q
   unfolding isEnd
   running-limits s e w m =
       let f = bounds-fit s r e w in
-      limits-by (f .ceilings) (omega (arith, f .total)) (λ is. absurd (true≢false (not-ended is)), λ over. absurd (omega (arith, f .total, over)))
+      limits-by (f .ceilings) (omega (arith, f .total)) (
+        λ is. absurd (true≢false (not-ended is)),
+        λ over. absurd (omega (arith, f .total, over)),
+      )
     where
       not-ended : q ≡ request.Ended status.NeedLargerNMax → true ≡ false
       not-ended is = sym (ap isEnd is) ∙ matches-end m ∙ e
 
-  ended-limits : (t : Status) → WithinAt (stage.Ended t) r → Matches (stage.Ended t) q p → Limits (r .settings) (r .counts) q
+  ended-limits : (t : Status) → WithinAt (stage.Ended t) r → Matches (stage.Ended t) q p
+      → Limits (r .settings) (r .counts) q
   ended-limits t w m =
       let f = bounds-ended t r w in
-      limits-by (f .ceilings) (f .total)
-      (λ is. f .limited (let same : request.Ended t ≡ request.Ended status.NeedLargerNMax = sym (matches-ended m) ∙ is in cc), λ over. matches-ended m ∙ ap request.Ended (f .only over))
+      limits-by (f .ceilings) (f .total) (
+        λ is. f .limited
+            (let same : request.Ended t ≡ request.Ended status.NeedLargerNMax = sym (matches-ended m) ∙ is in cc),
+        λ over. matches-ended m ∙ ap request.Ended (f .only over),
+      )
 
-sound-limits : (o : Opening) (j : Journal) → Sound o j → Limits (o .settings) (j .point .run .counts) (j .point .request)
+sound-limits : (o : Opening) (j : Journal) → Sound o j
+    → Limits (o .settings) (j .point .run .counts) (j .point .request)
 sound-limits o j s =
     let h = s .held in
     let r = j .point .run in
     subst (λ (s : Settings). Limits s (r .counts) (j .point .request)) (h .settings)
-    (by-stage (λ (s : Stage). WithinAt s r → Matches s (j .point .request) (j .point .place) → Limits (r .settings) (r .counts) (j .point .request))
-    (running-limits r (j .point .request) (j .point .place)) (ended-limits r (j .point .request) (j .point .place)) (r .stage) (h .within) (h .matches))
+    (by-stage (λ (s : Stage). WithinAt s r → Matches s (j .point .request) (j .point .place)
+    → Limits (r .settings) (r .counts) (j .point .request))
+    (running-limits r (j .point .request) (j .point .place)) (ended-limits r (j .point .request) (j .point .place))
+    (r .stage) (h .within) (h .matches))
 
 pub limits-proof : (o : Opening) (j : Journal) → JournalOf o j
     → Limits (o .settings) (j .point .run .counts) (j .point .request)
@@ -185,7 +218,8 @@ module _ (s : Status) (ts : List Turn) where
     singular : eqb (standingAt ts .failures) 6 ≡ endMarks s .singular
 
 -- the marks that stand for a status
-marks-are : (s : Status) → (endMarks s .well ≡ sameStatus s status.Success) × (endMarks s .singular ≡ sameStatus s status.SingularMatrix)
+marks-are : (s : Status)
+    → (endMarks s .well ≡ sameStatus s status.Success) × (endMarks s .singular ≡ sameStatus s status.SingularMatrix)
 unfolding endMarks
 marks-are status.Success = (refl, refl)
 marks-are status.UserInterrupt = (refl, refl)
@@ -209,8 +243,10 @@ says-so : (s t : Status) (ts : List Turn) → Told s ts → says t ts ≡ sameSt
 unfolding says
 says-so s status.Success ts e = e .landed ∙ marks-are s .0
 says-so s status.UserInterrupt ts e = e .interrupt ∙ same-back status.UserInterrupt s
-says-so s status.NeedLargerNMax ts e = ap (ltb 0) (e .over) ∙ counted-once (sameStatus status.NeedLargerNMax s) ∙ same-back status.NeedLargerNMax s
-says-so s status.StepSizeTooSmall ts e = ap (ltb 0) (e .small) ∙ counted-once (sameStatus status.StepSizeTooSmall s) ∙ same-back status.StepSizeTooSmall s
+says-so s status.NeedLargerNMax ts e =
+    ap (ltb 0) (e .over) ∙ counted-once (sameStatus status.NeedLargerNMax s) ∙ same-back status.NeedLargerNMax s
+says-so s status.StepSizeTooSmall ts e =
+    ap (ltb 0) (e .small) ∙ counted-once (sameStatus status.StepSizeTooSmall s) ∙ same-back status.StepSizeTooSmall s
 says-so s status.SingularMatrix ts e = e .singular ∙ marks-are s .1
 
 none-again : (s : Status) (last : Bool) → (endMarks s .again && last || endMarks s .well) ≡ endMarks s .well
@@ -226,7 +262,9 @@ unfolding endsWith marksOf
 statuses-proof o j w s t e =
     let k = sound o j w in
     let y = k .tallied in
-    let at : j .point .run .stage ≡ stage.Ended s = ended-matches (subst (λ (q : Request). Matches (j .point .run .stage) q (j .point .place)) e (k .held .matches)) in
+    let at : j .point .run .stage
+    ≡ stage.Ended s =
+    ended-matches (subst (λ (q : Request). Matches (j .point .run .stage) q (j .point .place)) e (k .held .matches)) in
     let st = subst (λ (g : Stage). Stands g (j .point .run) (standingAt (j .turns))) at (y .stands) in
     says-so s t (j .turns)
     (record {
@@ -254,7 +292,8 @@ success-exactly-proof o j w = (
     only status.StepSizeTooSmall e = absurd (true≢false (sym e))
     only status.SingularMatrix e = absurd (true≢false (sym e))
 
-    by-request : (q : Request) → j .point .request ≡ q → isEnd q ≡ true → standingAt (j .turns) .landed ≡ true → q ≡ request.Ended status.Success
+    by-request : (q : Request) → j .point .request ≡ q → isEnd q ≡ true → standingAt (j .turns) .landed ≡ true
+        → q ≡ request.Ended status.Success
     by-request (request.Derivative x) e h l = absurd (true≢false (sym h))
     by-request (request.Jacobian x) e h l = absurd (true≢false (sym h))
     by-request (request.Report xold x offered) e h l = absurd (true≢false (sym h))
@@ -294,7 +333,8 @@ not-yet-proof o j w running status.SingularMatrix e =
 
 -- ---- 5. landing
 
-report-stage : (s : Stage) (last : Bool) → askingAt s .report ≡ true → (marksOf s .awaits && last) ≡ true → (s ≡ stage.Report) × (last ≡ true)
+report-stage : (s : Stage) (last : Bool) → askingAt s .report ≡ true → (marksOf s .awaits && last) ≡ true
+    → (s ≡ stage.Report) × (last ≡ true)
 unfolding askingAt marksOf
 report-stage stage.FirstDerivative last e a = absurd (true≢false (sym e))
 report-stage stage.FirstReport last e a = absurd (true≢false (sym a))
@@ -316,8 +356,10 @@ success-lands-proof o j w xold x offered e awaited =
     let k = sound o j w in
     let h = k .held in
     let r = j .point .run in
-    let at = report-stage (r .stage) (r .control .last) (sym (matches-report (h .matches)) ∙ ap isReport e) (sym (k .tallied .stands .awaited) ∙ awaited) in
-    lands-report [] (call r (j .point .request) (j .point .place)) xold x offered (h .lands, h .reports) (at .0) (at .1) e
+    let at = report-stage (r .stage) (r .control .last) (sym (matches-report (h .matches)) ∙ ap isReport e)
+    (sym (k .tallied .stands .awaited) ∙ awaited) in
+    lands-report [] (call r (j .point .request) (j .point .place)) xold x offered
+    (h .lands, h .reports) (at .0) (at .1) e
     ∙ ap (λ (v : Float). xold ⊕ (v ⊖ xold)) (h .xend)
 
 -- ---- events
@@ -332,7 +374,8 @@ ledger-proof o j w = sound o j w .tallied .ledger
 
 -- ---- after the end
 
-ended-ceilings : (r : Run) (t : Status) → askingAt (stage.Ended t) .ended ≡ true → WithinAt (stage.Ended t) r → Ceilings r × (askingAt (stage.Ended t) .column ≡ 0)
+ended-ceilings : (r : Run) (t : Status) → askingAt (stage.Ended t) .ended ≡ true → WithinAt (stage.Ended t) r
+    → Ceilings r × (askingAt (stage.Ended t) .column ≡ 0)
 unfolding askingAt
 ended-ceilings r t e w = (bounds-ended t r w .ceilings, refl)
 
@@ -343,8 +386,12 @@ over-proof o j w e p =
     let h = k .held in
     let r = j .point .run in
     let ended : askingAt (r .stage) .ended ≡ true = sym (matches-end (h .matches)) ∙ e in
-    let b = by-stage (λ (s : Stage). askingAt s .ended ≡ true → WithinAt s r → Ceilings r × (askingAt s .column ≡ 0)) (λ s on off. absurd (true≢false (sym off ∙ on))) (ended-ceilings r) (r .stage) ended (h .within) in
-    rw (ended-refuses r (j .point .memory) (bounded o (k .none) (j .point) (j .point .memory) h (h .long) refl (b .0) (omega (arith, b .1)) (λ on. absurd (true≢false (sym ended ∙ on)))) p ended) refl
+    let b = by-stage (λ (s : Stage). askingAt s .ended ≡ true → WithinAt s r → Ceilings r × (askingAt s .column ≡ 0))
+    (λ s on off. absurd (true≢false (sym off ∙ on))) (ended-ceilings r) (r .stage) ended (h .within) in
+    rw (ended-refuses r (j .point .memory) (bounded o (k .none) (j .point) (j .point .memory) h (h .long) refl (b .0)
+    (omega (arith, b .1)) (λ on. absurd (true≢false (sym ended ∙ on))))
+    p ended)
+    refl
 
 -- ---- 1. it ends
 
@@ -375,9 +422,22 @@ unfolding most
 few-requests o j s =
     let t = s .tallied in
     let b = sound-limits o j s in
-    let columns : width (o .settings .source) (o .n) * countsOf j .jac ≤ width (o .settings .source) (o .n) * (6 * (o .settings .«max_steps» + 1)) =
+    let columns : width (o .settings .source) (o .n) * countsOf j .jac
+    ≤ width (o .settings .source) (o .n) * (6 * (o .settings .«max_steps» + 1)) =
     mul-le-mul-left (width (o .settings .source) (o .n)) (omega (arith, b .jac, t .jac)) in
-    omega (arith, t .requests-asked, asked-length (j .turns), t .ode, b .ode, t .columns-asked, columns, t .reports-asked, t .accepted, b .accepted, one-few (isEnd (j .point .request)))
+    omega (
+      arith,
+      t .requests-asked,
+      asked-length (j .turns),
+      t .ode,
+      b .ode,
+      t .columns-asked,
+      columns,
+      t .reports-asked,
+      t .accepted,
+      b .accepted,
+      one-few (isEnd (j .point .request)),
+    )
 
 pub turns-played : (h : Strategy) (j : Journal) (k : ℕ) → length (played h j k .turns) ≡ k + length (j .turns)
 unfolding played next
@@ -390,29 +450,38 @@ module _ (o : Opening) (j : Journal) (starts : Starts (openOf o) j) (h : Strateg
   unfolding played
   sound-played zero going = sound-first o j starts
   sound-played (suc k) going =
-      sound-next o (played h j k) (h (played h j k)) (sound-played k (λ i l. going i (omega arith))) (fair k (going k (omega arith)))
+      sound-next o (played h j k) (h (played h j k)) (sound-played k (λ i l. going i (omega arith)))
+      (fair k (going k (omega arith)))
 
   abbrev Going : ℕ → Type 0
   Going k = (i : ℕ) → i < k → isEnd (played h j i .point .request) ≡ false
 
   -- the end is met here, or the search goes on
-  meet : (k : ℕ) → k < most o → Going k → (Going (suc k) → EndsWithin (most o) h j) → (b : Bool) → isEnd (played h j k .point .request) ≡ b → EndsWithin (most o) h j
+  meet : (k : ℕ) → k < most o → Going k → (Going (suc k) → EndsWithin (most o) h j) → (b : Bool)
+      → isEnd (played h j k .point .request) ≡ b → EndsWithin (most o) h j
   meet k few going later true ended =
       record {
         advances = k;
         few = few;
         going = going;
-        answered = λ i l. answered o (played h j i) (h (played h j i)) (sound-played i (λ m n. going m (omega (arith, l, n)))) (fair i (going i l));
+        answered =
+            λ i l. answered o (played h j i) (h (played h j i))
+            (sound-played i (λ m n. going m (omega (arith, l, n)))) (fair i (going i l));
         ended = ended;
       }
-  meet k few going later false on = later (below-suc-last (λ (m : ℕ). isEnd (played h j m .point .request) ≡ false) k going on)
+  meet k few going later false on =
+      later (below-suc-last (λ (m : ℕ). isEnd (played h j m .point .request) ≡ false) k going on)
 
   search : (fuel k : ℕ) → fuel + k ≡ most o → Going k → EndsWithin (most o) h j
-  search zero k e going = absurd (omega (arith, e, few-requests o (played h j k) (sound-played k going), turns-played h j k))
-  search (suc fuel) k e going = meet k (omega (arith, e)) going (search fuel (suc k) (omega (arith, e))) (isEnd (played h j k .point .request)) refl
+  search zero k e going =
+      absurd (omega (arith, e, few-requests o (played h j k) (sound-played k going), turns-played h j k))
+  search (suc fuel) k e going =
+      meet k (omega (arith, e)) going (search fuel (suc k) (omega (arith, e)))
+      (isEnd (played h j k .point .request)) refl
 
 pub ends-proof : (o : Opening) (j : Journal) → Starts (openOf o) j → (h : Strategy) → FairHost h j
-    → EndsWithin (mostRequests (o .settings .source) (o .n) (o .settings .«max_steps») (o .settings .«newton_maxiter»)) h j
+    → EndsWithin
+    (mostRequests (o .settings .source) (o .n) (o .settings .«max_steps») (o .settings .«newton_maxiter»)) h j
 unfolding most
 ends-proof o j starts h fair =
     search o j starts h fair (most o) 0 (omega arith) (λ i l. absurd (omega (arith, l)))

@@ -5,12 +5,12 @@ pub mod Matches
 pub mod Counted
 pub mod Bounds
 pub mod Flow
-pub mod Stands
-pub mod Lands
-pub mod Truths
+pub mod StandingKept
+pub mod SuccessLands
+pub mod EventsTrue
 pub mod Ledgers
 pub mod Admits
-pub mod First
+pub mod FirstPoint
 pub mod Advance
 pub mod Sound
 pub mod Tally
@@ -19,5 +19,5 @@ pub mod Played
 pub mod Demand
 pub mod Computed
 pub mod Exists
-pub mod Wrong
+pub mod Refuted
 pub mod Theorems

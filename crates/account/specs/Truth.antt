@@ -1,8 +1,7 @@
--- What makes an event of a run true. An event carries the numbers that decided it, and its truth is the Rust's own test on
--- those numbers, spelled out here: no definition of `blocks` makes it so. The numbers that an event doesn't carry are
--- those of the opening o, of the memory m in which its advance worked, and of the history before it: how far the run
--- had come (g) and where its attempts stood (st).
--- A NaN meets no test: neither `le` nor `lt` holds of it.
+-- What makes an event of a run true. An event carries the numbers that decided it, and its truth is the Rust's own test
+-- on those numbers, spelled out here: no definition of `solve_blocks` makes it so. The numbers that an event doesn't
+-- carry are those of the opening o, of the memory m in which its advance worked, and of the history before it: how far
+-- the run had come (g) and where its attempts stood (st). A NaN meets no test: neither `le` nor `lt` holds of it.
 use Prim.Native.Nat.{ℕ, _*_, _≤_, _<_}
 use mathlib.Core.Path.{_≡_}
 use mathlib.Core.Bool.{Bool, true, false}
@@ -18,10 +17,10 @@ use Rattle.matrix.specs.Lu.{real}
 use Rattle.matrix.specs.LuComplex.{complexKind}
 use Rattle.state.specs.Memory.{Memory, zeros, noughts}
 use Rattle.opening.specs.Rows.{Opening}
-use Rattle.blocks.specs.Entries.{Three, three}
-use Rattle.blocks.specs.Matrices.{builtOf}
-use Rattle.blocks.specs.Events.{Event, real-singular, complex-singular, factored, over-limit, too-small, begun}
-use Rattle.blocks.specs.Events.{rounds-used, diverged, slow, error-solve, failed, accepted, aimed, not-aimed}
+use Rattle.solve_blocks.specs.Entries.{Three, three}
+use Rattle.solve_blocks.specs.Matrices.{builtOf}
+use Rattle.solve_blocks.specs.Events.{Event, real-singular, complex-singular, factored, over-limit, too-small, begun}
+use Rattle.solve_blocks.specs.Events.{rounds-used, diverged, slow, error-solve, failed, accepted, aimed, not-aimed}
 use Rattle.account.specs.Journal.{Turn, Journal}
 use Rattle.account.specs.Reading.{Progress, progressEvent, progressReply, progressAt}
 use Rattle.account.specs.Reading.{Standing, pastEvent, pastReply, standingAt}

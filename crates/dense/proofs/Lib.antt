@@ -5,4 +5,4 @@ pub mod Determinism
 pub mod Outcomes
 pub mod Theorems
 pub mod Examples
-pub mod Wrong
+pub mod Refuted

@@ -36,7 +36,8 @@ module _ (xi : Float) (yi cont : List Float) (xold h : Float) where
   unfolding interpolateOf
   refusal p = pick-yes _ _ (lt-ltb _ _ p)
 
-  work : count ≤ length yi → outcome ≡ interpolation Done (loop (interpolateAt (placeOf xi xold h) count cont) 0 count yi)
+  work : count ≤ length yi
+      → outcome ≡ interpolation Done (loop (interpolateAt (placeOf xi xold h) count cont) 0 count yi)
   unfolding interpolateOf
   work p = pick-no _ _ (le-ltb _ _ p)
 
@@ -49,7 +50,8 @@ module _ (xi : Float) (yi cont : List Float) (xold h : Float) where
       by : interpolatedNumber (outcome .answer) ≡ 19 → Dec (length yi < count) → length yi < count
       by e (yes p) = p
       by e (no p) =
-          let zero : interpolatedNumber (outcome .answer) ≡ 0 = ap (λ (o : Interpolation). interpolatedNumber (o .answer)) (work (omega arith)) in
+          let zero : interpolatedNumber (outcome .answer)
+          ≡ 0 = ap (λ (o : Interpolation). interpolatedNumber (o .answer)) (work (omega arith)) in
           absurd (omega arith)
 
   pub refused-kept-proof : length yi < count → outcome .yi ≡ yi
@@ -58,12 +60,14 @@ module _ (xi : Float) (yi cont : List Float) (xold h : Float) where
   pub length-kept-proof : length (outcome .yi) ≡ length yi
   unfolding interpolateOf interpolateAt
   length-kept-proof =
-      pick-all (λ (o : Interpolation). length (o .yi) ≡ length yi) (ltb (length yi) count) _ _ (λ _. refl) (λ _. filled-length amount yi count)
+      pick-all (λ (o : Interpolation). length (o .yi) ≡ length yi) (ltb (length yi) count) _ _ (λ _. refl)
+      (λ _. filled-length amount yi count)
 
   pub rest-kept-proof : (k : ℕ) → count ≤ k → outcome .yi ! k ≡ yi ! k
   unfolding interpolateOf interpolateAt
   rest-kept-proof k p =
-      pick-all (λ (o : Interpolation). o .yi ! k ≡ yi ! k) (ltb (length yi) count) _ _ (λ _. refl) (λ _. filled-rest amount yi nan count k p)
+      pick-all (λ (o : Interpolation). o .yi ! k ≡ yi ! k) (ltb (length yi) count) _ _ (λ _. refl)
+      (λ _. filled-rest amount yi nan count k p)
 
   pub amounts-written-proof : (k : ℕ) → k < count → count ≤ length yi → outcome .yi ! k ≡ amount k
   unfolding interpolateAt

@@ -4,7 +4,7 @@ pub mod StateLaws
 pub mod Packed
 pub mod CanonicalLaws
 pub mod PackLaws
-pub mod Kept
+pub mod AdvanceKept
 pub mod RunLaws
 pub mod SettingsLaws
 pub mod Theorems

@@ -18,7 +18,8 @@ use Rattle.state.specs.declared.run.Run.{Run}
 use Rattle.export.specs.declared.unpack.Unpacked.{Unpacked}
 use Rattle.export.specs.declared.unpack.Unpacked.the-variants as unpacked
 use Rattle.export.specs.Choices.{numberOf, tolerancesOf}
-use Rattle.export.specs.State.{packOf, wordAt, runRead, sameWords, unpackOf, Held, NumberHeld, TolerancesHeld, RunHeld}
+use Rattle.export.specs.State.{packOf, wordAt, runRead, sameWords, unpackOf}
+use Rattle.export.specs.State.{Held, NumberHeld, TolerancesHeld, RunHeld}
 use Rattle.export.proofs.Words.{same-is, is-same}
 use Rattle.export.proofs.StateLaws.{run-back}
 
@@ -33,7 +34,9 @@ number-held given k = pick-all NumberHeld (eqb given 0) number.Absent (number.Gi
 
 tolerances-held : (lists k l : ℕ) → TolerancesHeld (tolerancesOf lists (double k) (double l))
 unfolding tolerancesOf
-tolerances-held lists k l = pick-all TolerancesHeld (eqb lists 0) (tolerances.Scalars (double k) (double l)) tolerances.Lists (λ e. (held k, held l)) (λ e. tt)
+tolerances-held lists k l =
+    pick-all TolerancesHeld (eqb lists 0) (tolerances.Scalars (double k) (double l)) tolerances.Lists
+    (λ e. (held k, held l)) (λ e. tt)
 
 read-held : (w : List ℕ) → RunHeld (runRead w)
 read-held w =

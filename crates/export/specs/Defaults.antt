@@ -1,4 +1,5 @@
--- Settings in the two arrays that an opening takes: 17 whole numbers and 8 doubles. The value of what is absent is 0. Reading them gives the settings back (`settings-read`).
+-- Settings in the two arrays that an opening takes: 17 whole numbers and 8 doubles. The value of what is absent is 0.
+-- Reading them gives the settings back (`settings-read`).
 use Prim.Native.Nat.{ℕ}
 use mathlib.Core.List.{List, [], _∷_}
 use lib.Ieee.{Float}

@@ -1,7 +1,7 @@
 -- Each contract settles its call: it asks nothing, and two outcomes that it allows for one input are the same.
 use mathlib.Core.Path.{refl}
 use Rattle.words.specs.Contract.{Settles}
-use Rattle.words.proofs.Outcome.{one-result}
+use Rattle.words.proofs.OneOutcome.{one-result}
 use Rattle.forecast.proofs.Theorems.{one-forecast}
 use Rattle.forecast.proofs.bytes.forecast as forecast
 

@@ -6,14 +6,14 @@ use mathlib.Core.List.{List}
 use lib.Ieee.{Float}
 use Rattle.sheet.specs.Sheet.{written}
 use Rattle.sheet.specs.Reader.{Read, readOf}
-use Rattle.answer.specs.declared.ending.Reached.{Reached}
-use Rattle.answer.specs.declared.ending.Forecast.{Forecast}
-use Rattle.budget.specs.Budget.{runOf}
-use Rattle.budget.specs.declared.run.Task.{Task}
+use Rattle.forecast_text.specs.declared.ending.Reached.{Reached}
+use Rattle.forecast_text.specs.declared.ending.Forecast.{Forecast}
+use Rattle.model_run.specs.Budget.{runOf}
+use Rattle.model_run.specs.declared.run.Task.{Task}
 use Rattle.forecast.specs.Forecast.{Forecasts}
 use Rattle.forecast.specs.Told.{Ends}
 use Rattle.forecast.specs.Account.{Accounts}
-use Rattle.forecast.proofs.Last.{run-ends-proof}
+use Rattle.forecast.proofs.BudgetLasts.{run-ends-proof}
 use Rattle.forecast.proofs.Solves.{one-forecast-proof}
 use Rattle.forecast.proofs.Accounts.{tells, forecast-accounts-proof}
 use Rattle.forecast.proofs.Samples.{still, stillForecast, still-forecast-proof}

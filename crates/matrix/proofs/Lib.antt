@@ -2,7 +2,7 @@
 -- then the laws that the proofs cite.
 pub mod Theorems
 pub mod Examples
-pub mod Wrong
+pub mod Refuted
 pub mod Determinism
 pub mod Refusals
 pub mod Sizes

@@ -9,7 +9,8 @@ use lib.Ieee.{Float}
 use Rattle.words.specs.Loop.{pick}
 use Rattle.matrix.specs.declared.answers.Decomposed.the-variants as decomposed
 use Rattle.matrix.specs.declared.answers.Solved.the-variants as solves
-use Rattle.matrix.specs.Answers.{Stop, nowhere, column, Decomposition, decomposition, stopAnswer, Solution, solution}
+use Rattle.matrix.specs.Answers.{Stop, nowhere, column, Decomposition}
+use Rattle.matrix.specs.Answers.{decomposition, stopAnswer, Solution, solution}
 use Rattle.matrix.specs.Complex.{Parts}
 use Rattle.matrix.specs.Elimination.{Work, worked, answered}
 use Rattle.matrix.specs.Substitution.{solved}
@@ -28,7 +29,9 @@ module _ {A : Type 0} (a : A) (ip : List ℕ) where
   work-kept x jp (column k) p q = absurd (q refl)
 
   decomposition-kept : (ranged fits : Bool) (w : Work A)
-      → Kept (pick ranged (pick fits (decomposition (stopAnswer (w .stop)) (w .a) (w .ip)) (decomposition decomposed.RefusedLength a ip)) (decomposition decomposed.RefusedOrder a ip))
+      → Kept (pick ranged
+      (pick fits (decomposition (stopAnswer (w .stop)) (w .a) (w .ip)) (decomposition decomposed.RefusedLength a ip))
+      (decomposition decomposed.RefusedOrder a ip))
   unfolding pick
   decomposition-kept true true w p q = work-kept (w .a) (w .ip) (w .stop) p q
   decomposition-kept true false w p q = (refl, refl)
@@ -39,7 +42,9 @@ module _ {B : Type 0} (b : B) where
   KeptSide s = (s .answer ≡ solves.Done → ⊥) → s .b ≡ b
 
   solution-kept : (ranged fits strays : Bool) (x : B)
-      → KeptSide (pick ranged (pick fits (pick strays (solution solves.RefusedPivot b) (solution solves.Done x)) (solution solves.RefusedLength b)) (solution solves.RefusedOrder b))
+      → KeptSide (pick ranged (pick fits (pick strays (solution solves.RefusedPivot b) (solution solves.Done x))
+      (solution solves.RefusedLength b))
+      (solution solves.RefusedOrder b))
   unfolding pick
   solution-kept true true true x p = refl
   solution-kept true true false x p = absurd (p refl)

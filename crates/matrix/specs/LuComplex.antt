@@ -11,7 +11,8 @@ use Rattle.words.specs.Loop.{loop, pick}
 use Rattle.matrix.specs.declared.complex.Complex.{Complex}
 use Rattle.matrix.specs.declared.answers.Decomposed.the-variants.{RefusedOrder, RefusedLength}
 use Rattle.matrix.specs.Answers.{Decomposition, decomposition}
-use Rattle.matrix.specs.Complex.{complex, Parts, parts, atComplex, putComplex, sizeComplex, negatedComplex, plusComplex, timesComplex, reciprocalComplex}
+use Rattle.matrix.specs.Complex.{complex, Parts, parts, atComplex, putComplex, sizeComplex}
+use Rattle.matrix.specs.Complex.{negatedComplex, plusComplex, timesComplex, reciprocalComplex}
 use Rattle.matrix.specs.Elimination.{Kind, worked, answered}
 
 -- p is added in row i, column j [lu.rs:276-277] [again lu.rs:284-285] [again lu.rs:292-293]
@@ -24,7 +25,8 @@ realAt n k j mr i a = addedComplex n i j a (complex (atComplex a n i k .re ⊗ m
 
 -- imaginary-only multiplier [lu.rs:279-283]
 unfoldable pub imaginaryAt : ℕ → ℕ → ℕ → Float → ℕ → Parts → Parts
-imaginaryAt n k j mi i a = addedComplex n i j a (complex (neg (atComplex a n i k .im) ⊗ mi) (atComplex a n i k .re ⊗ mi))
+imaginaryAt n k j mi i a =
+    addedComplex n i j a (complex (neg (atComplex a n i k .im) ⊗ mi) (atComplex a n i k .re ⊗ mi))
 
 -- general complex multiplier [lu.rs:287-289]
 unfoldable pub generalAt : ℕ → ℕ → ℕ → Complex → ℕ → Parts → Parts

@@ -7,6 +7,6 @@ pub mod AdmissionLaws
 pub mod Verdicts
 pub mod Theorems
 pub mod Determinism
-pub mod Traps
+pub mod Refuted
 pub mod FromRust
 pub mod Samples

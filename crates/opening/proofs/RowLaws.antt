@@ -20,7 +20,8 @@ use Rattle.state.specs.declared.talk.Refusal.the-variants as refusal
 use Rattle.state.specs.declared.talk.Verdict.{Verdict}
 use Rattle.state.specs.declared.talk.Verdict.the-variants.{Passed, Refused}
 use Rattle.state.specs.declared.settings.Settings.{Settings}
-use Rattle.opening.specs.Rows.{Test, test, verdictOf, nextOf, placeOf, endRows, listRows, numberRows, rangeRows, toleranceRows, stepRows, valueRows}
+use Rattle.opening.specs.Rows.{Test, test, verdictOf, nextOf, placeOf, endRows, listRows}
+use Rattle.opening.specs.Rows.{numberRows, rangeRows, toleranceRows, stepRows, valueRows}
 
 -- ---- small things
 
@@ -55,7 +56,8 @@ pub joined : (ts us : List Test) → verdictOf (ts ++ us) ≡ nextOf (verdictOf 
 unfolding verdictOf nextOf
 joined [] us = refl
 joined (t ∷ ts) us =
-    ap (pick (t .holds) (Refused (t .refusal))) (joined ts us) ∙ next-row (t .holds) (t .refusal) (verdictOf ts) (verdictOf us)
+    ap (pick (t .holds) (Refused (t .refusal))) (joined ts us)
+    ∙ next-row (t .holds) (t .refusal) (verdictOf ts) (verdictOf us)
 
 -- the second table decides where the first passes, and a refusal of the first stands
 pub verdict-append : (ts us : List Test)
@@ -98,7 +100,8 @@ refused-first (t ∷ ts) r =
           earlier = below-suc (λ (k : ℕ). testAt (t ∷ ts) k .holds ≡ false) (f .place) h (f .earlier);
         }
 
-first-refused : (ts : List Test) (r : Refusal) (i : ℕ) → i < length ts → testAt ts i .holds ≡ true → testAt ts i .refusal ≡ r
+first-refused : (ts : List Test) (r : Refusal) (i : ℕ) → i < length ts
+    → testAt ts i .holds ≡ true → testAt ts i .refusal ≡ r
     → ((k : ℕ) → k < i → testAt ts k .holds ≡ false)
     → verdictOf ts ≡ Refused r
 unfolding verdictOf
@@ -120,14 +123,17 @@ none-passed : (ts : List Test) → NoneHolds ts → verdictOf ts ≡ Passed
 unfolding verdictOf
 none-passed [] none = refl
 none-passed (t ∷ ts) none =
-    pick-no (Refused (t .refusal)) (verdictOf ts) (none 0 (omega arith)) ∙ none-passed ts (λ i l. none (suc i) (suc-le-suc l))
+    pick-no (Refused (t .refusal)) (verdictOf ts) (none 0 (omega arith))
+    ∙ none-passed ts (λ i l. none (suc i) (suc-le-suc l))
 
 -- a verdict is the refusal of the first test that holds, and passes exactly where none does
 pub verdict-first-proof : (ts : List Test)
     → ((r : Refusal) → (verdictOf ts ≡ Refused r) ↔ FirstHolds ts r)
     × ((verdictOf ts ≡ Passed) ↔ NoneHolds ts)
-verdict-first-proof ts =
-    (λ r. (refused-first ts r, λ f. first-refused ts r (f .place) (f .inside) (f .holds) (f .refuses) (f .earlier)), (passed-none ts, none-passed ts))
+verdict-first-proof ts = (
+  λ r. (refused-first ts r, λ f. first-refused ts r (f .place) (f .inside) (f .holds) (f .refuses) (f .earlier)),
+  (passed-none ts, none-passed ts),
+)
 
 -- ---- the first place with a property
 
@@ -167,11 +173,19 @@ module _ (bad : Float → Bool) where
 -- ---- rows 3 to 12, group by group
 
 pub values-joined : (s : Settings) (n : ℕ) (x0 xend : Float) (y m rtol atol : List Float)
-    → nextOf (verdictOf (endRows x0 xend)) (nextOf (verdictOf (listRows y m rtol atol)) (nextOf (verdictOf (numberRows s)) (nextOf (verdictOf (rangeRows s)) (nextOf (verdictOf (toleranceRows rtol atol)) (verdictOf (stepRows s n x0 xend))))))
+    → nextOf (verdictOf (endRows x0 xend)) (nextOf (verdictOf (listRows y m rtol atol))
+    (nextOf (verdictOf (numberRows s)) (nextOf (verdictOf (rangeRows s))
+    (nextOf (verdictOf (toleranceRows rtol atol)) (verdictOf (stepRows s n x0 xend))))))
     ≡ verdictOf (valueRows s n x0 xend y m rtol atol)
 values-joined s n x0 xend y m rtol atol =
-    ap (λ (v : Verdict). nextOf (verdictOf (endRows x0 xend)) (nextOf (verdictOf (listRows y m rtol atol)) (nextOf (verdictOf (numberRows s)) (nextOf (verdictOf (rangeRows s)) v)))) (sym (joined (toleranceRows rtol atol) (stepRows s n x0 xend)))
-    ∙ ap (λ (v : Verdict). nextOf (verdictOf (endRows x0 xend)) (nextOf (verdictOf (listRows y m rtol atol)) (nextOf (verdictOf (numberRows s)) v))) (sym (joined (rangeRows s) _))
-    ∙ ap (λ (v : Verdict). nextOf (verdictOf (endRows x0 xend)) (nextOf (verdictOf (listRows y m rtol atol)) v)) (sym (joined (numberRows s) _))
+    ap (λ (v : Verdict). nextOf (verdictOf (endRows x0 xend))
+    (nextOf (verdictOf (listRows y m rtol atol))
+    (nextOf (verdictOf (numberRows s)) (nextOf (verdictOf (rangeRows s)) v))))
+    (sym (joined (toleranceRows rtol atol) (stepRows s n x0 xend)))
+    ∙ ap (λ (v : Verdict). nextOf (verdictOf (endRows x0 xend))
+    (nextOf (verdictOf (listRows y m rtol atol)) (nextOf (verdictOf (numberRows s)) v)))
+    (sym (joined (rangeRows s) _))
+    ∙ ap (λ (v : Verdict). nextOf (verdictOf (endRows x0 xend)) (nextOf (verdictOf (listRows y m rtol atol)) v))
+    (sym (joined (numberRows s) _))
     ∙ ap (λ (v : Verdict). nextOf (verdictOf (endRows x0 xend)) v) (sym (joined (listRows y m rtol atol) _))
     ∙ sym (joined (endRows x0 xend) _)

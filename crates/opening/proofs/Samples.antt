@@ -14,7 +14,7 @@ use Rattle.words.specs.Patterns.{units, unitsInOne}
 use Rattle.scalar.specs.Halving.{halve}
 use Rattle.scalar.specs.Root.{keeps, halvedRoot, rootOfForm, rootOf}
 use Rattle.scalar.specs.SquareRoot.{squareOf}
-use Rattle.scalar.specs.Sqrt.{border, reaches, nearestRoot, sqrtOf}
+use Rattle.scalar.specs.SquareRootComputed.{border, reaches, nearestRoot, sqrtOf}
 use Rattle.state.specs.declared.settings.Number.the-variants as number
 use Rattle.state.specs.declared.settings.Rule.{Rule}
 use Rattle.state.specs.declared.settings.Rule.the-variants as rule

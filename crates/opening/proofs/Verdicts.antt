@@ -10,7 +10,7 @@ use Rattle.state.specs.declared.talk.Opened.the-variants as opened
 use Rattle.state.specs.declared.talk.Verdict.{Verdict}
 use Rattle.state.specs.declared.talk.Verdict.the-variants.{Passed, Refused}
 use Rattle.opening.specs.Rows.{Opening, openingRows, verdictOf}
-use Rattle.opening.specs.Opening.{Outcome, acceptedOf, byVerdict, openOf}
+use Rattle.opening.specs.Opening.{OpeningOutcome, acceptedOf, byVerdict, openOf}
 use Rattle.opening.proofs.RowLaws.{FirstHolds, NoneHolds, verdict-first-proof}
 
 -- an accepted opening's answer is no refusal
@@ -29,7 +29,10 @@ by-refusal (Refused x) o r = (λ e. let s : x ≡ r = cc in ap Refused s, λ e. 
 by-passing : (v : Verdict) (o : Opening) → (byVerdict v o ≡ acceptedOf o) ↔ (v ≡ Passed)
 unfolding byVerdict
 by-passing Passed o = (λ e. refl, λ e. refl)
-by-passing (Refused x) o = (λ e. absurd (not-refused o x (ap (λ (w : Outcome). w .answer) (sym e))), λ e. absurd (not-passed x (sym e)))
+by-passing (Refused x) o = (
+  λ e. absurd (not-refused o x (ap (λ (w : OpeningOutcome). w .answer) (sym e))),
+  λ e. absurd (not-passed x (sym e)),
+)
 
 module _ (o : Opening) where
   pub refused-exactly-proof : (r : Refusal) → (openOf o .answer ≡ opened.Refused r) ↔ FirstHolds (openingRows o) r

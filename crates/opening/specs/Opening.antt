@@ -1,5 +1,5 @@
--- An opening: refused by the first row that holds, and then nothing is written; else the run stands before its first request.
--- Follows radau.rs:131-329 past its tests, which are specs/Rows.antt.
+-- An opening: refused by the first row that holds, and then nothing is written; else the run stands before its first
+-- request. Follows radau.rs:131-329 past its tests, which are specs/Rows.antt.
 use Prim.Native.Nat.{ℕ, _-_, _*_}
 use mathlib.Core.Bool.{true, false}
 use mathlib.Core.List.{List}
@@ -76,9 +76,18 @@ fixedOf s x0 xend c =
 abbrev pub firstCounts : Counts
 firstCounts = record { ode = 1; jac = 0; lu = 0; total = 0; accepted = 0; rejected = 0 }
 
--- the flags [radau.rs:323-326], with what was set before them (radau.rs:293, 299-300); rounds are counted anew in each attempt (radau.rs:482)
+-- the flags [radau.rs:323-326], with what was set before them (radau.rs:293, 299-300); rounds are counted anew in
+-- each attempt (radau.rs:482)
 abbrev pub firstControl : Control
-firstControl = record { first = true; last = false; reject = false; «call_jac» = true; «call_decomp» = true; «singular_count» = 0; «newt_iter» = 0 }
+firstControl = record {
+  first = true;
+  last = false;
+  reject = false;
+  «call_jac» = true;
+  «call_decomp» = true;
+  «singular_count» = 0;
+  «newt_iter» = 0;
+}
 
 -- what the Rust leaves unset is +0
 abbrev pub firstNumbers : Float → Float → Numbers
@@ -147,24 +156,24 @@ clearedOf s n c m =
 
 -- ---- the whole call
 
-pub record Outcome : Type 0 where
+pub record OpeningOutcome : Type 0 where
   pub answer : Opened
   pub memory : Memory
 
-abbrev pub outcome : Opened → Memory → Outcome
-outcome answer memory = record { answer = answer; memory = memory }
+abbrev pub openingOutcome : Opened → Memory → OpeningOutcome
+openingOutcome answer memory = record { answer = answer; memory = memory }
 
 -- the first derivative is asked [radau.rs:330-332]
-unfoldable pub acceptedOf : Opening → Outcome
+unfoldable pub acceptedOf : Opening → OpeningOutcome
 acceptedOf o =
     let c = convertedOf (o .settings .rule) (o .n) (o .tolerances) (o .memory .given .rtol) (o .memory .given .atol) in
-    outcome
+    openingOutcome
     (opened.Asked (firstRun (o .settings) (o .n) (o .x0) (o .xend) (c .conversion)) (Derivative (o .x0)) YToF0)
     (clearedOf (o .settings .mass) (o .n) c (o .memory))
 
-unfoldable pub byVerdict : Verdict → Opening → Outcome
+unfoldable pub byVerdict : Verdict → Opening → OpeningOutcome
 byVerdict verdict.Passed o = acceptedOf o
-byVerdict (verdict.Refused r) o = outcome (opened.Refused r) (o .memory)
+byVerdict (verdict.Refused r) o = openingOutcome (opened.Refused r) (o .memory)
 
-unfoldable pub openOf : Opening → Outcome
+unfoldable pub openOf : Opening → OpeningOutcome
 openOf o = byVerdict (verdictOf (openingRows o)) o

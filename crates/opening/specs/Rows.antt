@@ -1,5 +1,6 @@
--- The table of opening's refusals (01, 'Numbers that refuse', 1 to 12): one list of tests, row by row in its order. The first that holds is the refusal.
--- Row 3 is spelled out float by float in the order of 01's bracket, row 9 by its two tolerances, row 12 by its two steps, so that a refusal tells which value failed.
+-- The table of opening's refusals (01, 'Numbers that refuse', 1 to 12): one list of tests, row by row in its order. The
+-- first that holds is the refusal. Row 3 is spelled out float by float in the order of 01's bracket, row 9 by its two
+-- tolerances, row 12 by its two steps, so that a refusal tells which value failed.
 use Prim.Native.Nat.{ℕ, zero, suc, _+_, _*_}
 use mathlib.Core.Bool.{Bool, true, false, not, _&&_, _||_}
 use mathlib.Core.List.{List, [], _∷_, _++_}
@@ -191,13 +192,15 @@ stepRows s n x0 xend =
 -- rows 3 to 12, by what is given
 abbrev pub valueRows : Settings → ℕ → Float → Float → List Float → List Float → List Float → List Float → List Test
 valueRows s n x0 xend y m rtol atol =
-    endRows x0 xend ++ (listRows y m rtol atol ++ (numberRows s ++ (rangeRows s ++ (toleranceRows rtol atol ++ stepRows s n x0 xend))))
+    endRows x0 xend
+    ++ (listRows y m rtol atol ++ (numberRows s ++ (rangeRows s ++ (toleranceRows rtol atol ++ stepRows s n x0 xend))))
 
 abbrev pub openingRows : Opening → List Test
 openingRows o =
     sizeRows (o .n) (o .memory)
     ++ valueRows (o .settings) (o .n) (o .x0) (o .xend) (o .memory .amounts .y)
-    (massGiven (o .settings .mass) (o .memory .given .mass)) (rtolGiven (o .tolerances) (o .memory .given .rtol)) (atolGiven (o .tolerances) (o .memory .given .atol))
+    (massGiven (o .settings .mass) (o .memory .given .mass)) (rtolGiven (o .tolerances) (o .memory .given .rtol))
+    (atolGiven (o .tolerances) (o .memory .given .atol))
 
 -- one verdict after another: a refusal stands, and what passes leaves it to the next
 unfoldable pub nextOf : Verdict → Verdict → Verdict

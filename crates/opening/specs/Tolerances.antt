@@ -1,4 +1,5 @@
--- Tolerances at opening: each pair is converted, and the Newton tolerance comes from the first rtol after all turns (radau.rs:189-207).
+-- Tolerances at opening: each pair is converted, and the Newton tolerance comes from the first rtol after all
+-- turns (radau.rs:189-207).
 use Prim.Native.Nat.{ℕ}
 use mathlib.Core.List.{List}
 use lib.ListN.{set}
@@ -8,7 +9,7 @@ use Rattle.words.specs.Constants.{«10·0», «0·1», «0·03»}
 use Rattle.words.specs.Loop.{loop}
 use Rattle.scalar.specs.Order.{maxOf, minOf}
 use Rattle.scalar.specs.Powers.{twoThirdsOf}
-use Rattle.scalar.specs.Sqrt.{sqrtOf}
+use Rattle.scalar.specs.SquareRootComputed.{sqrtOf}
 use Rattle.state.specs.declared.settings.Number.{Number}
 use Rattle.state.specs.declared.settings.Number.the-variants as number
 use Rattle.state.specs.declared.settings.Rule.{Rule}
@@ -41,7 +42,8 @@ listTurnAt i c =
     let p = turnAt i (pair (c .rtols ! i) (c .atols ! i)) in
     columns (set (c .rtols) i (p .rtol)) (set (c .atols) i (p .atol))
 
--- The Rust's index of a scalar tolerance is always the one number, so its n turns act on that number n times; the book converts it once.
+-- The Rust's index of a scalar tolerance is always the one number, so its n turns act on that number n times;
+-- the book converts it once.
 unfoldable pub scalarTurns : Rule → ℕ → ℕ
 scalarTurns rule.Rust n = n
 scalarTurns rule.Book n = 1

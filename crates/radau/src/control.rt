@@ -1,4 +1,5 @@
-// The step that the error asks for, and what an acceptance or a rejection leaves in the run (radau.rs:671-697, 780-795).
+// The step that the error asks for, and what an acceptance or a rejection leaves in the run
+// (radau.rs:671-697, 780-795).
 use crate::entries::as_float;
 use crate::moving::Kept;
 use crate::moving::Moving;
@@ -9,7 +10,7 @@ use scalar::quarter;
 use state::settings::Settings;
 ghost use mathlib.Core.Path.{_≡_};
 ghost use Prim.Native.Nat.{_+_, _≤_, _<_, _^_};
-ghost use Rattle.blocks.specs.Judge.{facOf, between, quotOf, predictiveQuot, remembered, acceptedOf, rejectedOf};
+ghost use Rattle.solve_blocks.specs.Judge.{facOf, between, quotOf, predictiveQuot, remembered, acceptedOf, rejectedOf};
 ghost use Rattle.radau.specs.declared.moving.Kept.{Kept};
 ghost use Rattle.radau.specs.Moving.{whole};
 

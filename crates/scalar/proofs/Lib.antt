@@ -13,5 +13,5 @@ pub mod RoundingLaws
 pub mod SquareRoots
 pub mod TableLaws
 pub mod Theorems
-pub mod Traps
+pub mod Refuted
 pub mod Determinism

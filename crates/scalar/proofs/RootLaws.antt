@@ -23,7 +23,8 @@ use Rattle.scalar.specs.Root.{keeps, halvedRoot, rootOfForm, rootOf}
 use Rattle.scalar.specs.Steps.{Ordered}
 use Rattle.scalar.proofs.Tests.{negative, isZero, infinite, never}
 use Rattle.scalar.proofs.PatternLaws.{pattern-positive, pattern-mono}
-use Rattle.scalar.proofs.ProductLaws.{plain, positive-plain, fin-le, le-trans-plain, product-plain, product-mono, product-same}
+use Rattle.scalar.proofs.ProductLaws.{plain, positive-plain, fin-le, le-trans-plain}
+use Rattle.scalar.proofs.ProductLaws.{product-plain, product-mono, product-same}
 use Rattle.scalar.proofs.HalvingLaws.{Edge, halve-edge, halve-finds}
 
 -- ---- the ends of the halving
@@ -56,7 +57,8 @@ module _ (m : ℕ) (v : Float) (pv : T (positive v)) where
 
   keeps-infinity : keeps m v infinityPattern ≡ false
   unfolding keeps
-  keeps-infinity = ap (λ (x : Float). le x v) (product-same m (double infinityPattern) infinity-squared) ∙ infinity-above v pv
+  keeps-infinity =
+      ap (λ (x : Float). le x v) (product-same m (double infinityPattern) infinity-squared) ∙ infinity-above v pv
 
   -- ---- what a pattern passes, the lower ones do
 
@@ -75,7 +77,8 @@ module _ (m : ℕ) (v : Float) (pv : T (positive v)) where
   keeps-mono zero b h g t = keeps-zero
   keeps-mono (suc c) b h g t = keeps-above (suc c) b (zero-lt-suc c) h g t
 
-  stops : (b : ℕ) → (b + 1 < infinityPattern → keeps m v (b + 1) ≡ false) → (c : ℕ) → b < c → c < infinityPattern → (x : Bool) → keeps m v c ≡ x → keeps m v c ≡ false
+  stops : (b : ℕ) → (b + 1 < infinityPattern → keeps m v (b + 1) ≡ false) → (c : ℕ) → b < c → c < infinityPattern
+      → (x : Bool) → keeps m v c ≡ x → keeps m v c ≡ false
   stops b f c l u true e = never (sym (keeps-mono (b + 1) c (omega arith) u e) ∙ f (omega arith))
   stops b f c l u false e = e
 
@@ -84,11 +87,13 @@ module _ (m : ℕ) (v : Float) (pv : T (positive v)) where
   root-edge : Edge (keeps m v) infinityPattern (halve 63 (keeps m v) 0 infinityPattern)
   root-edge = halve-edge (keeps m v) 63 0 infinityPattern keeps-zero keeps-infinity (omega arith) (omega arith)
 
-  halved-only : (b : ℕ) → b < infinityPattern → keeps m v b ≡ true → (b + 1 < infinityPattern → keeps m v (b + 1) ≡ false) → halvedRoot m v ≡ double b
+  halved-only : (b : ℕ) → b < infinityPattern → keeps m v b ≡ true
+      → (b + 1 < infinityPattern → keeps m v (b + 1) ≡ false) → halvedRoot m v ≡ double b
   unfolding halvedRoot
   halved-only b g t f =
       ap (λ (n : ℕ). double n)
-      (halve-finds (keeps m v) 63 b infinityPattern 0 infinityPattern (λ c l. keeps-mono c b l g t) (λ c l u. stops b f c l u (keeps m v c) refl) (omega arith) g (le-refl infinityPattern) (omega arith))
+      (halve-finds (keeps m v) 63 b infinityPattern 0 infinityPattern (λ c l. keeps-mono c b l g t)
+      (λ c l u. stops b f c l u (keeps m v c) refl) (omega arith) g (le-refl infinityPattern) (omega arith))
 
 -- ---- by the form of v
 

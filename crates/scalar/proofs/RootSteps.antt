@@ -1,4 +1,5 @@
--- The steps of the code of the root: two ends that hold its pattern move together, and a guess is settled by what the test says of it and of its neighbours.
+-- The steps of the code of the root: two ends that hold its pattern move together, and a guess is settled by what the
+-- test says of it and of its neighbours.
 use Prim.Native.Nat.{ℕ, _+_, _-_, _≤_, _<_}
 use mathlib.Core.Path.{_≡_, sym, ap, _∙_}
 use mathlib.Core.Bool.{Bool, true, false}
@@ -17,7 +18,13 @@ module _ (m : ℕ) (v : Float) (low high : ℕ) (e : Ends m v low high) where
   moved-up c u k = record { ordered = e .ordered; order = u; under = e .under; kept = k; not-kept = e .not-kept }
 
   pub moved-down : (c : ℕ) → low < c → c < high → keeps m v c ≡ false → Ends m v low c
-  moved-down c l u k = record { ordered = e .ordered; order = l; under = omega (arith, e .under); kept = e .kept; not-kept = λ h. k }
+  moved-down c l u k = record {
+    ordered = e .ordered;
+    order = l;
+    under = omega (arith, e .under);
+    kept = e .kept;
+    not-kept = λ h. k;
+  }
 
   pub neighbours : high - low ≤ 1 → double low ≡ rootOf m v
   neighbours h =
@@ -27,7 +34,13 @@ module _ (m : ℕ) (v : Float) (low high : ℕ) (e : Ends m v low high) where
 
 pub all-patterns : (m : ℕ) (v : Float) → Ordered m v → Ends m v 0 infinityPattern
 all-patterns m v o =
-    record { ordered = o; order = omega arith; under = le-refl infinityPattern; kept = keeps-zero m v (o .above); not-kept = λ k. absurd (omega arith) }
+    record {
+      ordered = o;
+      order = omega arith;
+      under = le-refl infinityPattern;
+      kept = keeps-zero m v (o .above);
+      not-kept = λ k. absurd (omega arith);
+    }
 
 pub byte-small : (b : Bool) → boolByte b ≤ 1
 byte-small true = omega arith

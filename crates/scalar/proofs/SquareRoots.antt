@@ -7,7 +7,8 @@ use Prim.Native.Nat.{ℕ, zero, suc, _+_, _-_, _*_, _%_, _≤_, _<_}
 use mathlib.Core.Path.{_≡_, refl, sym, ap, subst, _∙_}
 use mathlib.Core.Logic.{_⊎_, inl, inr, ⊎-elim}
 use mathlib.Core.Bool.{Bool, true, false, _&&_, _||_}
-use native.Mathlib.Nat.{le-trans, le-of-lt, le-of-eq, lt-of-lt-of-le, lt-of-le-of-lt, mul-pos, mul-le-mul-left, mul-le-mul-right, zero-lt-suc}
+use native.Mathlib.Nat.{le-trans, le-of-lt, le-of-eq, lt-of-lt-of-le, lt-of-le-of-lt}
+use native.Mathlib.Nat.{mul-pos, mul-le-mul-left, mul-le-mul-right, zero-lt-suc}
 use native.Mathlib.Decide.{decLt}
 use native.Mathlib.Omega.{arith}
 use lib.Dec.{T, ltb, eqb, lit<, lt→ltb}
@@ -18,8 +19,9 @@ use borrow.Author.Tests.{lt-ltb, le-ltb, eq-eqb, ne-eqb, ltb-true, ltb-false, eq
 use Rattle.words.specs.Words.{double}
 use Rattle.words.specs.Loop.{pick}
 use Rattle.words.specs.Patterns.{units, unitsInOne, infinityPattern}
-use Rattle.scalar.specs.SquareRoot.{squareOf, Nearest, IsSquareRoot, of-nan, of-infinity, of-minus-infinity, of-zero, of-negative, of-positive}
-use Rattle.scalar.specs.Sqrt.{border, reaches, nearestRoot, sqrtOf}
+use Rattle.scalar.specs.SquareRoot.{squareOf, Nearest, IsSquareRoot, of-nan, of-infinity}
+use Rattle.scalar.specs.SquareRoot.{of-minus-infinity, of-zero, of-negative, of-positive}
+use Rattle.scalar.specs.SquareRootComputed.{border, reaches, nearestRoot, sqrtOf}
 use Rattle.scalar.proofs.Tests.{never, negative, isZero, infinite}
 use Rattle.scalar.proofs.Squares.{square-mono, square-strict}
 use Rattle.scalar.proofs.PatternLaws.{units-mono, units-strict, units-some, pattern-above, pattern-under}
@@ -47,11 +49,15 @@ module _ (n b : ℕ) where
       (λ e. (le-of-eq (eqb-true _ _ (e .0)), λ k. eqb-true _ _ (e .1)))
       (passed (ltb (border b * border b) (4 * n)) (eqb (border b * border b) (4 * n)) (eqb (b % 2) 0) h)
 
-  from-next : reaches n (b + 1) ≡ false → (4 * n ≤ border (b + 1) * border (b + 1)) × (4 * n ≡ border (b + 1) * border (b + 1) → b % 2 ≡ 0)
+  from-next : reaches n (b + 1) ≡ false
+      → (4 * n ≤ border (b + 1) * border (b + 1)) × (4 * n ≡ border (b + 1) * border (b + 1) → b % 2 ≡ 0)
   unfolding reaches
   from-next h =
-      let f = failed (ltb (border (b + 1) * border (b + 1)) (4 * n)) (eqb (border (b + 1) * border (b + 1)) (4 * n)) (eqb ((b + 1) % 2) 0) h in
-      (ltb-false _ _ (f .0), λ k. let r : (b + 1) % 2 ≡ 0 → ⊥ = eqb-false _ _ (f .1 (eq-eqb _ _ (sym k))) in omega (arith, r))
+      let f = failed (ltb (border (b + 1) * border (b + 1)) (4 * n))
+      (eqb (border (b + 1) * border (b + 1)) (4 * n)) (eqb ((b + 1) % 2) 0) h in (
+        ltb-false _ _ (f .0),
+        λ k. let r : (b + 1) % 2 ≡ 0 → ⊥ = eqb-false _ _ (f .1 (eq-eqb _ _ (sym k))) in omega (arith, r),
+      )
 
   -- the middle with a double further off lies further off
   border-over : (c : ℕ) → c < b → units b + units c ≤ border b
@@ -73,12 +79,14 @@ module _ (n b : ℕ) where
       }
     where
       on-middle : (c : ℕ) → 4 * n ≡ (units b + units c) * (units b + units c) → Dec (b < c) → (b ≡ c → ⊥) → b % 2 ≡ 0
-      on-middle c t (yes h) d = from-next (e .next) .1 (omega (arith, from-next (e .next) .0, square-mono (border-under c h)))
+      on-middle c t (yes h) d =
+          from-next (e .next) .1 (omega (arith, from-next (e .next) .0, square-mono (border-under c h)))
       on-middle c t (no h) d =
           let l : c < b = omega (arith, d) in
           from-here (e .here) .1 (omega (arith, from-here (e .here) .0, square-mono (border-over c l)))
 
--- ---- no two patterns are nearest: both would be on the middle between them and even, and the pattern between them nearer
+-- ---- no two patterns are nearest: both would be on the middle between them and even, and the
+-- pattern between them nearer
 
 not-both : (n a b : ℕ) → a < infinityPattern → b < infinityPattern → Nearest n a → Nearest n b → a < b → ⊥
 not-both n a b ua ub p q h =
@@ -88,7 +96,8 @@ not-both n a b ua ub p q h =
     let mid : 4 * n ≡ (units a + units b) * (units a + units b) = omega (arith, ap (λ (x : ℕ). x * x) swap) in
     let even-a : a % 2 ≡ 0 = p .even b (λ e. omega arith) ub mid in
     let even-b : b % 2 ≡ 0 = q .even a (λ e. omega arith) ua (mid ∙ ap (λ (x : ℕ). x * x) (sym swap)) in
-    let near : 4 * n ≤ (units a + units (a + 1)) * (units a + units (a + 1)) = p .under (a + 1) (omega arith) (omega arith) in
+    let near : 4 * n
+    ≤ (units a + units (a + 1)) * (units a + units (a + 1)) = p .under (a + 1) (omega arith) (omega arith) in
     let less : units a + units (a + 1) < units a + units b = omega (arith, units-strict (a + 1) b (omega arith)) in
     omega (arith, square-strict less)
 
@@ -109,7 +118,10 @@ at-zero n h = rw (lt-ltb 0 (4 * n) (omega arith))
 at-infinity : (n : ℕ) → 4 * n < border infinityPattern * border infinityPattern → reaches n infinityPattern ≡ false
 unfolding reaches
 at-infinity n h =
-    rw (le-ltb (border infinityPattern * border infinityPattern) (4 * n) (le-of-lt h), ne-eqb (border infinityPattern * border infinityPattern) (4 * n) (omega arith))
+    rw (
+      le-ltb (border infinityPattern * border infinityPattern) (4 * n) (le-of-lt h),
+      ne-eqb (border infinityPattern * border infinityPattern) (4 * n) (omega arith),
+    )
 
 infinity-far : 4 * (units infinityPattern * unitsInOne) < border infinityPattern * border infinityPattern
 unfolding units border unitsInOne pick
@@ -119,14 +131,18 @@ one-some : 0 < unitsInOne
 unfolding unitsInOne
 one-some = lit< tt
 
-root-edge : (x : Float) → T (fits binary64 x) → T (positive x) → Edge (reaches (squareOf x)) infinityPattern (nearestRoot (squareOf x))
+root-edge : (x : Float) → T (fits binary64 x) → T (positive x)
+    → Edge (reaches (squareOf x)) infinityPattern (nearestRoot (squareOf x))
 unfolding squareOf nearestRoot
 root-edge x f p =
     let b = toBits binary64 x in
     let n = units b * unitsInOne in
     let far : 4 * n < border infinityPattern * border infinityPattern =
-    lt-of-le-of-lt (mul-le-mul-left 4 (mul-le-mul-right unitsInOne (units-mono b infinityPattern (le-of-lt (pattern-under x f p))))) infinity-far in
-    halve-edge (reaches n) 63 0 infinityPattern (at-zero n (mul-pos (units-some b (pattern-above x f p)) one-some)) (at-infinity n far) (omega arith) (omega arith)
+    lt-of-le-of-lt
+    (mul-le-mul-left 4 (mul-le-mul-right unitsInOne (units-mono b infinityPattern (le-of-lt (pattern-under x f p)))))
+    infinity-far in
+    halve-edge (reaches n) 63 0 infinityPattern (at-zero n (mul-pos (units-some b (pattern-above x f p)) one-some))
+    (at-infinity n far) (omega arith) (omega arith)
 
 -- ---- by the form of x
 
@@ -159,7 +175,8 @@ sqrt-of-infinity (inf true) t = never (sym t)
 sqrt-of-infinity (inf false) t = refl
 sqrt-of-infinity (fin s m e) t = never (sym t)
 
-pub sqrt-of-positive : (x : Float) → T (positive x) → sqrtOf x ≡ double (nearestRoot (units (toBits binary64 x) * unitsInOne))
+pub sqrt-of-positive : (x : Float) → T (positive x)
+    → sqrtOf x ≡ double (nearestRoot (units (toBits binary64 x) * unitsInOne))
 unfolding sqrtOf squareOf
 sqrt-of-positive nan p = absurd p
 sqrt-of-positive (inf s) p = absurd p

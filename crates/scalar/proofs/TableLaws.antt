@@ -11,7 +11,8 @@ use Rattle.words.specs.Words.{_!_}
 use Rattle.words.specs.Loop.{pick}
 use Rattle.words.specs.Patterns.{units, unitsInOne}
 use Rattle.scalar.specs.Coefficients.{coefficients}
-use Rattle.scalar.specs.Exact.{Exact, exactAt, Between, between, reach, less, more, cubicAt, signedUnits, up, down}
+use Rattle.scalar.specs.Exact.{Exact, exactAt, Between, between, reach}
+use Rattle.scalar.specs.Exact.{less, more, cubicAt, signedUnits, up, down}
 use Rattle.words.proofs.Table.{every, at-each}
 
 right : ℕ → Float → Bool

@@ -1,5 +1,5 @@
--- What the code's tests of one double say of it: `x != x`, `x < 0.0`, `0.0 < x`, `x == 0.0` and `x == 1.0 / 0.0`, each as a function of the double's form.
--- Every proof that goes by such tests cites these five laws and then goes by form.
+-- What the code's tests of one double say of it: `x != x`, `x < 0.0`, `0.0 < x`, `x == 0.0` and `x == 1.0 / 0.0`, each
+-- as a function of the double's form. Every proof that goes by such tests cites these five laws and then goes by form.
 use Prim.Native.Nat.{ℕ, zero, suc, _+_, _*_, _<_}
 use mathlib.Core.Path.{_≡_, refl, sym, subst, _∙_}
 use mathlib.Core.Bool.{Bool, true, false, not}
@@ -100,7 +100,8 @@ differs (fin true m e) = rw (eq-eqb (m * up e * down e) (m * up e * down e) refl
 differs (fin false m e) = rw (eq-eqb (m * up e * down e) (m * up e * down e) refl)
 
 -- what passes `x != x`, `x < 0.0`, `x == 0.0` and `x == 1.0 / 0.0` is finite and above zero
-pub past-tests : (x : Float) → isNan x ≡ false → negative x ≡ false → isZero x ≡ false → infinite x ≡ false → T (positive x)
+pub past-tests : (x : Float) → isNan x ≡ false → negative x ≡ false
+    → isZero x ≡ false → infinite x ≡ false → T (positive x)
 unfolding isNan
 past-tests nan a b c d = never a
 past-tests (inf true) a b c d = never b

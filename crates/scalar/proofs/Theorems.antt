@@ -6,9 +6,9 @@ use mathlib.Core.Bool.{true, false}
 use lib.Dec.{T}
 use lib.Ieee.{Float, binary64, fits}
 use Rattle.words.specs.Words.{double, _!_}
-use Rattle.scalar.specs.Patterns.{infinityPattern}
+use Rattle.words.specs.Patterns.{infinityPattern}
 use Rattle.scalar.specs.SquareRoot.{IsSquareRoot}
-use Rattle.scalar.specs.Sqrt.{sqrtOf}
+use Rattle.scalar.specs.SquareRootComputed.{sqrtOf}
 use Rattle.scalar.specs.Root.{keeps, rootOf}
 use Rattle.scalar.specs.Steps.{Ordered}
 use Rattle.scalar.specs.Coefficients.{coefficients}

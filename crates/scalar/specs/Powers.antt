@@ -1,5 +1,5 @@
--- The Rust's power calls, directed to roots and whole powers (01): 'Exponent 2/3 is the third root squared, 0.8 the fifth root's fourth power, 0.25 the fourth root,
--- .. the exponent -1/m is 1 divided by the root of order m.'
+-- The Rust's power calls, directed to roots and whole powers (01): 'Exponent 2/3 is the third root squared, 0.8 the
+-- fifth root's fourth power, 0.25 the fourth root, .. the exponent -1/m is 1 divided by the root of order m.'
 use Prim.Native.Nat.{ℕ}
 use lib.Ieee.{Float}
 use Rattle.words.specs.Words.{_⊘_}

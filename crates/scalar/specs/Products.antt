@@ -1,4 +1,5 @@
--- Repeated products, each rounded: 'whole powers [are] repeated products from 1', and the 'm-fold product, from the left' of a root (01).
+-- Repeated products, each rounded: 'whole powers [are] repeated products from 1', and the 'm-fold product, from
+-- the left' of a root (01).
 use Prim.Native.Nat.{ℕ}
 use lib.Ieee.{Float}
 use Rattle.words.specs.Words.{_⊗_}

@@ -1,4 +1,5 @@
--- What one step of the code hands to the next, in roots.rt, square_root.rt and digits.rt. Contracts of private functions cite these; no promise does.
+-- What one step of the code hands to the next, in roots.rt, square_root.rt and digits.rt. Contracts of private
+-- functions cite these; no promise does.
 use Prim.Native.Nat.{ℕ, _+_, _-_, _*_, _%_, _^_, _≤_, _<_}
 use mathlib.Core.Path.{_≡_}
 use mathlib.Core.Bool.{Bool, true, false}

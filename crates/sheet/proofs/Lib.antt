@@ -10,10 +10,10 @@ pub mod FillLaws
 pub mod AnswerLaws
 pub mod Sheets
 pub mod Accepted
-pub mod First
-pub mod Reached
+pub mod FirstWrong
+pub mod BegunSheet
 pub mod Refused
 pub mod Theorems
 pub mod Determinism
 pub mod Samples
-pub mod Wrong
+pub mod Refuted

@@ -11,8 +11,8 @@ use Rattle.sheet.specs.Lines.{linesIn}
 use Rattle.sheet.specs.Malformed.{Begun, Malformed}
 use Rattle.sheet.specs.Reader.{accepted, malformed, tooLong, readOf}
 use Rattle.sheet.proofs.Accepted.{written-short-proof, accepted-exactly-proof}
-use Rattle.sheet.proofs.First.{malformed-first-proof}
-use Rattle.sheet.proofs.Reached.{malformed-reached-proof}
+use Rattle.sheet.proofs.FirstWrong.{malformed-first-proof}
+use Rattle.sheet.proofs.BegunSheet.{malformed-reached-proof}
 use Rattle.sheet.proofs.Refused.{too-long-exactly-proof, one-line-proof, malformed-exactly-proof}
 
 -- Bytes are accepted with the model m exactly when they are the sheet of m and m is valid.

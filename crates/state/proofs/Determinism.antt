@@ -4,10 +4,10 @@ use Prim.Native.Nat.{ℕ}
 use mathlib.Core.List.{List}
 use lib.Ieee.{Float}
 use Rattle.words.specs.Contract.{Settles}
-use Rattle.words.proofs.Outcome.{_▹_, one-part, one-result}
+use Rattle.words.proofs.OneOutcome.{_▹_, one-part, one-result}
 use Rattle.state.proofs.numbers.status_number as status-number
 use Rattle.state.proofs.numbers.refusal_number as refusal-number
-use Rattle.state.proofs.outcome.result as result
+use Rattle.state.proofs.ended.result as result
 use Rattle.state.proofs.settings.Settings.new as new
 use Rattle.state.proofs.stray.stray_pivot as stray-pivot
 use Rattle.state.proofs.parts.zero as zero

@@ -1,5 +1,5 @@
 -- Laws that every crate cites: of outcomes, branches, loops, grids and tables; and that the constants are right.
-pub mod Outcome
+pub mod OneOutcome
 pub mod Branch
 pub mod Loops
 pub mod Grid

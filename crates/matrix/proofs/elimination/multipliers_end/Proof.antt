@@ -20,7 +20,9 @@ returns : tie.Need-returns Inv-loop μ-loop
 returns c = c .before .before .before .loop .inv
 
 loop-again : tie.Need-loop-again Inv-loop μ-loop
-loop-again c = more-idle _ _ _ _ (c .before .before .before .loop .inv) (omega arith) (rw (← c .before .at .ensures) (c .if1 .left))
+loop-again c =
+    more-idle _ _ _ _ (c .before .before .before .loop .inv) (omega arith)
+    (rw (← c .before .at .ensures) (c .if1 .left))
 
 returns-2 : tie.Need-returns-2 Inv-loop μ-loop
 returns-2 c = c .before .loop .inv

@@ -1,6 +1,6 @@
 -- `returned` meets its contract.
 use borrow.Author.Needs.{needs}
-use Rattle.blocks.specs.Advance.{returnedOf}
+use Rattle.solve_blocks.specs.Advance.{returnedOf}
 use Rattle.radau.proofs.advance.returned.Statement.{statement}
 use Rattle.radau.proofs.advance.returned.Tie as tie
 
@@ -12,7 +12,7 @@ enum-known-told-2 c = search needs
 
 returns : tie.Need-returns
 unfolding returnedOf
-returns c = rw (c .before .told .given .1)
+returns c = rw (c .before .heard .given .1)
 
 returns-2 : tie.Need-returns-2
 unfolding returnedOf

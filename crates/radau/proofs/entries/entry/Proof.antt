@@ -16,7 +16,8 @@ mul-result-2 : tie.Need-mul-result-2
 mul-result-2 c = let x = c .args in omega (arith, cell (x .n) (x .r) (x .c) (omega arith) (omega arith) (omega arith))
 
 shared-slice-read-result : tie.Need-shared-slice-read-result
-shared-slice-read-result c = let x = c .before .args in omega (arith, cell (x .n) (x .r) (x .c) (omega arith) (omega arith) (omega arith))
+shared-slice-read-result c =
+    let x = c .before .args in omega (arith, cell (x .n) (x .r) (x .c) (omega arith) (omega arith) (omega arith))
 
 returns : tie.Need-returns
 unfolding at

@@ -4,7 +4,7 @@ use mathlib.Core.Path.{refl}
 use native.Mathlib.Omega.{arith}
 use borrow.Author.Needs.{needs}
 use Rattle.words.proofs.Loops.{Ran, begun, turned, ended, Any}
-use Rattle.blocks.specs.Estimate.{rowAt, rowSum}
+use Rattle.solve_blocks.specs.Estimate.{rowAt, rowSum}
 use Rattle.radau.proofs.estimate.row_sum.Statement.{statement}
 use Rattle.radau.proofs.estimate.row_sum.Tie as tie
 

@@ -1,6 +1,6 @@
 -- `slow_round` meets its contract.
 use borrow.Author.Needs.{needs}
-use Rattle.blocks.specs.Newton.{slowRound}
+use Rattle.solve_blocks.specs.Newton.{slowRound}
 use Rattle.radau.proofs.round.slow_round.Statement.{statement}
 use Rattle.radau.proofs.round.slow_round.Tie as tie
 

@@ -25,7 +25,8 @@ at-zero : (c : tie.Else3)
     → fin (lt («1·0» ⊘ c .before .before .before .args .x) «0·0») 1 (pos 0)
     ≡ signumOf (c .before .before .before .args .x)
 at-zero c =
-    sign-zero _ (sym (differs _) ∙ c .before .before .if1 .left) (sym (below-zero _) ∙ c .before .if2 .left) (sym (above-zero _) ∙ c .if3 .left)
+    sign-zero _ (sym (differs _) ∙ c .before .before .if1 .left) (sym (below-zero _) ∙ c .before .if2 .left)
+    (sym (above-zero _) ∙ c .if3 .left)
 
 returns-4 : tie.Need-returns-4
 returns-4 c = minus-one-is ∙ ap (λ (s : Bool). fin s 1 (pos 0)) (sym (c .if4 .taken)) ∙ at-zero (c .before)

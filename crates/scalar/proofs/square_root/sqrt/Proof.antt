@@ -59,4 +59,6 @@ returns-5 c =
     (ap (λ (b : ℕ). double b) (c .root-pattern .ensures .0) ∙ sym (sqrt-of-positive _ (above (c .before))))
 
 pub sqrt-spec : {M : Type 1} → statement M
-sqrt-spec = tie.close (tie.spec returns returns-2 returns-3 returns-4 float-to-bits-root-pattern root-pattern-requires float-from-bits-result returns-5)
+sqrt-spec =
+    tie.close (tie.spec returns returns-2 returns-3 returns-4 float-to-bits-root-pattern root-pattern-requires
+    float-from-bits-result returns-5)

@@ -39,7 +39,9 @@ loop-less : tie.Need-loop-less Inv-loop μ-loop
 loop-less c = omega arith
 
 loop-again : tie.Need-loop-again Inv-loop μ-loop
-loop-again c = turned (c .before .before .loop .inv) (c .before .loop-test .taken) (length-set (c .before .before .loop .rates) _ _ ∙ c .before .before .loop .inv .kept) refl
+loop-again c =
+    turned (c .before .before .loop .inv) (c .before .loop-test .taken)
+    (length-set (c .before .before .loop .rates) _ _ ∙ c .before .before .loop .inv .kept) refl
 
 returns : tie.Need-returns Inv-loop μ-loop
 returns c = ended (c .before .loop .inv) (c .loop-test .left)
