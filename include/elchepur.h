@@ -36,7 +36,7 @@ enum {
     ELCHEPUR_REFUSED_SCALES = 7,          /* scale_min <= 0 or not below scale_max */
     ELCHEPUR_REFUSED_NEWTON_MAXITER = 8,  /* newton_maxiter is not 1 to 16 */
     ELCHEPUR_REFUSED_TOLERANCE = 9,       /* an rtol <= 0 or an atol < 0 */
-    ELCHEPUR_REFUSED_PARTITION = 10,      /* nind1 is given and the three don't sum to n, or the others exceed n */
+    ELCHEPUR_REFUSED_PARTITION = 10, /* nind1 is given and the three don't sum to n, or only others are and exceed n */
     ELCHEPUR_REFUSED_FIRST_STEP = 11,     /* first_step is given as 0 */
     ELCHEPUR_REFUSED_STEP_LIMITS = 12,    /* max_step < 0, or min_step above the step ceiling */
     ELCHEPUR_REFUSED_UNFIT = 13,          /* the state is unfit, or the words are no state's */

@@ -39,7 +39,7 @@ const REFUSALS: [(Refused, u64, &str); 12] = [
     (
         Refused::NotFinite,
         REFUSED_NOT_FINITE,
-        "a given float is not finite: ends, amounts, mass entries, tolerances, settings",
+        "an end, amount, mass entry, tolerance or setting is not finite",
     ),
     (Refused::MaxSteps, REFUSED_MAX_STEPS, "max_steps is not 1 to 1,000,000"),
     (Refused::Uround, REFUSED_UROUND, "uround <= 1e-35 or >= 1"),
