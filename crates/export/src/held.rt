@@ -1,7 +1,6 @@
 // The step that a report is about, for a host that holds the state of a run.
 use crate::unpack::Unpacked;
 use crate::unpack::unpack;
-use radau::held_step;
 ghost use mathlib.Core.Path.{_≡_};
 ghost use Rattle.export.specs.Held.{heldNumber, heldStep};
 ghost use Rattle.export.specs.State.{unpackOf};
@@ -16,7 +15,7 @@ pub extern "C" fn elchepur_held_step(state: &[u64; 67], h: &mut f64) -> u64
     match unpack(*state) {
         Unpacked::Not => 13,
         Unpacked::Run(run) => {
-            *h = held_step(run);
+            *h = run.held_step();
             0
         }
     }

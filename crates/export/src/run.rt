@@ -10,7 +10,6 @@ use crate::unpack::Unpacked;
 use crate::unpack::unpack;
 use opening::open;
 use radau::advance::Resumed;
-use state::result;
 ghost use mathlib.Core.Path.{_≡_};
 ghost use Rattle.state.specs.Memory.{memory, amounts, newton, given, factors, differences};
 ghost use Rattle.opening.specs.Rows.{opening};
@@ -200,6 +199,6 @@ pub extern "C" fn elchepur_result(
 {
     match unpack(*state) {
         Unpacked::Not => 13,
-        Unpacked::Run(run) => tell_result(result(run), numbers, floats),
+        Unpacked::Run(run) => tell_result(run.result(), numbers, floats),
     }
 }

@@ -8,7 +8,6 @@ use model_run::run::Task;
 use model_run::run::TaskOutcome;
 use model_run::run::run;
 use sheet::sheet::Heading;
-use state::result;
 use state::run::Run;
 use state::run::Status;
 use state::settings::Mass;
@@ -104,7 +103,7 @@ fn end_of(run: Run) -> IntegrationResult
     requires { ⌜ Over run ⌝ }
     ensures { λ r. ⌜ resultOf run ≡ result.Ended r ⌝ }
 {
-    match result(run) {
+    match run.result() {
         Result::Ended(end) => end,
         Result::NotEnded => never(run),
     }

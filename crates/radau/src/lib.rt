@@ -6,7 +6,6 @@ mod attempt;
 mod control;
 mod entries;
 mod estimate;
-pub mod held;
 mod jacobian;
 mod judge;
 mod matrices;
@@ -18,4 +17,3 @@ mod round;
 mod scale;
 
 pub use advance::Resumed;
-pub use held::held_step;

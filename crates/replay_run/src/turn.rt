@@ -16,7 +16,6 @@ use bits::double;
 use radau::advance::Resumed;
 use replay::found::Found;
 use replay::memory::Memory;
-use state::result;
 use state::run::Counts;
 use state::run::Run;
 use state::status_number;
@@ -75,7 +74,7 @@ fn met_end(found: Found, ended: IntegrationResult, words: [u64; ASKED]) -> Found
 }
 
 fn met_result(found: Found, run: Run, words: [u64; ASKED]) -> Found {
-    match result(run) {
+    match run.result() {
         Result::Ended(ended) => met_end(found, ended, words),
         Result::NotEnded => found.truth(false, true),
     }

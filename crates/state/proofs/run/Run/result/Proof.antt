@@ -1,8 +1,8 @@
 -- `result` meets its contract.
 use borrow.Author.Needs.{needs}
 use Rattle.state.specs.Result.{resultAt}
-use Rattle.state.proofs.ended.result.Statement.{statement}
-use Rattle.state.proofs.ended.result.Tie as tie
+use Rattle.state.proofs.run.Run.result.Statement.{statement}
+use Rattle.state.proofs.run.Run.result.Tie as tie
 
 returns : tie.Need-returns
 unfolding resultAt
