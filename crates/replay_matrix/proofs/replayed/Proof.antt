@@ -56,19 +56,5 @@ pub replayed-spec : {M : Type 1} → statement M
 replayed-spec =
     tie.close
     (tie.spec
-    Inv-loop
-    μ-loop
-    none-requires
-    loop-holds
-    read-head-requires
-    enum-told
-    returns
-    enum-told-2
-    malformed-requires
-    returns-2
-    enum-known-head
-    judged-requires
-    add-counter
-    loop-less
-    loop-again
-    returns-3)
+    Inv-loop μ-loop none-requires loop-holds read-head-requires enum-told returns enum-told-2 malformed-requires
+    returns-2 enum-known-head judged-requires add-counter loop-less loop-again returns-3)

@@ -20,8 +20,7 @@ pub with-requests-spec : {M : Type 1} → statement M
 with-requests-spec =
     tie.close
     (tie.spec
-    Inv-loop
-    μ-loop
+    Inv-loop μ-loop
     (λ c. search needs)
     (λ c κs. search needs)
     (λ c κs. search needs)

@@ -45,15 +45,5 @@ pub replayed-spec : {M : Type 1} → statement M
 replayed-spec =
     tie.close
     (tie.spec
-    Inv-loop
-    μ-loop
-    none-requires
-    loop-holds
-    slice-aggregate-read-full
-    read-full-requires
-    returns
-    judged-requires
-    add-counter
-    loop-less
-    loop-again
-    returns-2)
+    Inv-loop μ-loop none-requires loop-holds slice-aggregate-read-full read-full-requires returns judged-requires
+    add-counter loop-less loop-again returns-2)

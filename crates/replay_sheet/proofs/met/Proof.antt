@@ -15,8 +15,7 @@ pub met-spec : {M : Type 1} → statement M
 met-spec =
     tie.close
     (tie.spec
-    Inv-loop
-    μ-loop
+    Inv-loop μ-loop
     (λ c κs. search needs)
     (λ c κs. search needs)
     (λ c κs. search needs)

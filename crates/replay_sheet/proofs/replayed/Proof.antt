@@ -14,8 +14,7 @@ pub replayed-spec : {M : Type 1} → statement M
 replayed-spec =
     tie.close
     (tie.spec
-    Inv-loop
-    μ-loop
+    Inv-loop μ-loop
     (λ c κs. search needs)
     (λ c. search needs)
     (λ c. search needs)

@@ -70,13 +70,5 @@ pub forecast-spec : {M : Type 1} → statement M
 forecast-spec =
     tie.close
     (tie.spec
-    read-requires
-    enum-known-reading
-    modelled-requires
-    enum-known-reading-2
-    refused-requires
-    enum-told
-    refused-requires-2
-    returns
-    returns-2
-    returns-3)
+    read-requires enum-known-reading modelled-requires enum-known-reading-2 refused-requires enum-told
+    refused-requires-2 returns returns-2 returns-3)

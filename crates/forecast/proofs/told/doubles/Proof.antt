@@ -90,16 +90,5 @@ pub doubles-spec : {M : Type 1} → statement M
 doubles-spec =
     tie.close
     (tie.spec
-    Inv-loop
-    μ-loop
-    loop-holds
-    mul-double
-    shared-slice-read-double
-    double-requires
-    mul-floats
-    slice-write-floats
-    add-i
-    loop-less
-    loop-again
-    same-length
-    returns)
+    Inv-loop μ-loop loop-holds mul-double shared-slice-read-double double-requires mul-floats slice-write-floats add-i
+    loop-less loop-again same-length returns)

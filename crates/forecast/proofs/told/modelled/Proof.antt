@@ -63,12 +63,5 @@ pub modelled-spec : {M : Type 1} → statement M
 modelled-spec =
     tie.close
     (tie.spec
-    slice-aggregate-doubles
-    doubles-requires
-    slice-aggregate-doubles-2
-    doubles-requires-2
-    task-from-requires
-    slice-aggregate-run
-    run-requires
-    told-requires
-    returns)
+    slice-aggregate-doubles doubles-requires slice-aggregate-doubles-2 doubles-requires-2 task-from-requires
+    slice-aggregate-run run-requires told-requires returns)

@@ -33,9 +33,4 @@ pub task-from-spec : {M : Type 1} → statement M
 task-from-spec =
     tie.close
     (tie.spec
-    settings-from-requires
-    double-requires
-    double-requires-2
-    double-requires-3
-    double-requires-4
-    returns)
+    settings-from-requires double-requires double-requires-2 double-requires-3 double-requires-4 returns)

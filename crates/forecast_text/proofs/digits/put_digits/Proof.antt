@@ -62,16 +62,5 @@ pub put-digits-spec : {M : Type 1} → statement M
 put-digits-spec =
     tie.close
     (tie.spec
-    Inv-loop
-    μ-loop
-    loop-holds
-    sub-left
-    rem-byte
-    byte-requires
-    add-out
-    element-write-out
-    div-rest
-    loop-less
-    loop-again
-    add-result
-    returns)
+    Inv-loop μ-loop loop-holds sub-left rem-byte byte-requires add-out element-write-out div-rest loop-less loop-again
+    add-result returns)

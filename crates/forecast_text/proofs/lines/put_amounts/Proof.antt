@@ -67,14 +67,5 @@ pub put-amounts-spec : {M : Type 1} → statement M
 put-amounts-spec =
     tie.close
     (tie.spec
-    Inv-loop
-    μ-loop
-    few-requires
-    loop-holds
-    mul-put-amount
-    array-read-put-amount
-    put-amount-requires
-    add-i
-    loop-less
-    loop-again
-    returns)
+    Inv-loop μ-loop few-requires loop-holds mul-put-amount array-read-put-amount put-amount-requires add-i loop-less
+    loop-again returns)

@@ -55,14 +55,5 @@ pub put-text-spec : {M : Type 1} → statement M
 put-text-spec =
     tie.close
     (tie.spec
-    Inv-loop
-    μ-loop
-    loop-holds
-    shared-slice-read-out
-    add-out
-    element-write-out
-    add-i
-    loop-less
-    loop-again
-    add-result
+    Inv-loop μ-loop loop-holds shared-slice-read-out add-out element-write-out add-i loop-less loop-again add-result
     returns)

@@ -31,8 +31,7 @@ pub multipliers-end-spec : {M : Type 1} → statement M
 multipliers-end-spec =
     tie.close
     (tie.spec
-    Inv-loop
-    μ-loop
+    Inv-loop μ-loop
     loop-holds (λ c. omega arith) (λ c. omega arith) (λ c κs. search needs)
     returns (λ c. omega arith) (λ c. omega arith)
     loop-again

@@ -27,8 +27,4 @@ pub at-spec : {M : Type 1} → statement M
 at-spec =
     tie.close
     (tie.spec
-    mul-result
-    add-result
-    mul-result-2
-    shared-slice-read-result
-    returns)
+    mul-result add-result mul-result-2 shared-slice-read-result returns)

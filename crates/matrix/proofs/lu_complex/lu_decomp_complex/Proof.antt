@@ -42,8 +42,7 @@ pub lu-decomp-complex-spec : {M : Type 1} → statement M
 lu-decomp-complex-spec =
     tie.close
     (tie.spec
-    mul-if2
-    mul-if2-2
+    mul-if2 mul-if2-2
     decompose-requires (λ c. search needs) (λ c. search needs) (λ c. search needs)
     returns
     returns-2

@@ -70,8 +70,7 @@ pub derivative-spec : {M : Type 1} → statement M
 derivative-spec =
     tie.close
     (tie.spec
-    mul-unknown-among
-    unknown-among-requires
+    mul-unknown-among unknown-among-requires
     returns (λ c κs. search needs)
     react-all-requires (λ c. search needs)
     returns-2

@@ -174,8 +174,7 @@ pub to-end-spec : {M : Type 1} → statement M
 to-end-spec =
     tie.close
     (tie.spec
-    Inv-loop
-    μ-loop
+    Inv-loop μ-loop
     loop-holds (λ c κs. search needs)
     (λ c. c .before .before .before .before .loop .inv .long .y)
     (λ c. c .before .before .before .before .loop .inv .long .f0)

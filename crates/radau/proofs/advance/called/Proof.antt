@@ -161,28 +161,7 @@ pub called-spec : {M : Type 1} → statement M
 called-spec =
     tie.close
     (tie.spec
-    enum-known-step
-    enum-known-step-2
-    ask-jacobian-requires
-    enum-known-step-3
-    ask-jacobian-requires-2
-    enum-known-step-4
-    attempt-requires
-    returns
-    same-length
-    same-length-2
-    same-length-3
-    returns-2
-    same-length-4
-    same-length-5
-    same-length-6
-    returns-3
-    same-length-7
-    same-length-8
-    same-length-9
-    same-length-10
-    same-length-11
-    same-length-12
-    same-length-13
-    same-length-14
-    returns-4)
+    enum-known-step enum-known-step-2 ask-jacobian-requires enum-known-step-3 ask-jacobian-requires-2
+    enum-known-step-4 attempt-requires returns same-length same-length-2 same-length-3 returns-2 same-length-4
+    same-length-5 same-length-6 returns-3 same-length-7 same-length-8 same-length-9 same-length-10 same-length-11
+    same-length-12 same-length-13 same-length-14 returns-4)

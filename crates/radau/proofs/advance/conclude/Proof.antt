@@ -142,10 +142,7 @@ pub conclude-spec : {M : Type 1} → statement M
 conclude-spec =
     tie.close
     (tie.spec
-    enum-known-verdict
-    again-requires
-    enum-known-verdict-2
-    estimate-requires
+    enum-known-verdict again-requires enum-known-verdict-2 estimate-requires
     enum-known-verdict-3 (λ c. search needs) (λ c. search needs) (λ c. search needs)
     same-length
     same-length-2

@@ -49,9 +49,4 @@ pub started-spec : {M : Type 1} → statement M
 started-spec =
     tie.close
     (tie.spec
-    enum-known-heard
-    enum-known-heard-2
-    scaled-requires
-    returns
-    same-length
-    returns-2)
+    enum-known-heard enum-known-heard-2 scaled-requires returns same-length returns-2)

@@ -28,8 +28,7 @@ pub all-finite-spec : {M : Type 1} → statement M
 all-finite-spec =
     tie.close
     (tie.spec
-    Inv-loop
-    μ-loop
+    Inv-loop μ-loop
     loop-holds (λ c. omega arith) (λ c. omega arith) (λ c. omega arith)
     (λ c. omega arith) (λ c. omega arith) (λ c. omega arith)
     loop-again

@@ -27,8 +27,4 @@ pub entry-spec : {M : Type 1} → statement M
 entry-spec =
     tie.close
     (tie.spec
-    mul-result
-    add-result
-    mul-result-2
-    shared-slice-read-result
-    returns)
+    mul-result add-result mul-result-2 shared-slice-read-result returns)

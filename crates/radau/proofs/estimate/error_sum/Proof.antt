@@ -27,8 +27,7 @@ pub error-sum-spec : {M : Type 1} → statement M
 error-sum-spec =
     tie.close
     (tie.spec
-    Inv-loop
-    μ-loop
+    Inv-loop μ-loop
     loop-holds (λ c. omega arith) (λ c. omega arith) (λ c. omega arith)
     (λ c. omega arith) (λ c. omega arith) (λ c. omega arith)
     loop-again

@@ -36,8 +36,7 @@ pub literal-sides-spec : {M : Type 1} → statement M
 literal-sides-spec =
     tie.close
     (tie.spec
-    Inv-loop
-    μ-loop
+    Inv-loop μ-loop
     loop-holds (λ c κs. search needs) (λ c. omega arith) (λ c. omega arith) (λ c. omega arith) (λ c. omega arith)
     (λ c. omega arith) (λ c. omega arith) (λ c. omega arith) (λ c. omega arith)
     loop-again (λ c. omega arith) (λ c. omega arith)

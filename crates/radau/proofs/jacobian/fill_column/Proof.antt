@@ -32,8 +32,7 @@ pub fill-column-spec : {M : Type 1} → statement M
 fill-column-spec =
     tie.close
     (tie.spec
-    Inv-loop
-    μ-loop
+    Inv-loop μ-loop
     loop-holds (λ c. omega arith) (λ c. omega arith) (λ c. omega arith) (λ c. omega arith) (λ c κs. search needs)
     (λ c. omega arith) (λ c. omega arith)
     loop-again (λ c. omega arith)

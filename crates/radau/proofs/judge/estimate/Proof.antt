@@ -90,11 +90,4 @@ pub estimate-spec : {M : Type 1} → statement M
 estimate-spec =
     tie.close
     (tie.spec (λ c κs. search needs) (λ c κs. search needs) (λ c κs. search needs)
-    error-requires
-    counted-requires
-    tested-requires
-    same-length
-    same-length-2
-    same-length-3
-    same-length-4
-    returns)
+    error-requires counted-requires tested-requires same-length same-length-2 same-length-3 same-length-4 returns)

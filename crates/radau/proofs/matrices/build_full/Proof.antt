@@ -43,8 +43,7 @@ pub build-full-spec : {M : Type 1} → statement M
 build-full-spec =
     tie.close
     (tie.spec
-    Inv-loop
-    μ-loop
+    Inv-loop μ-loop
     mul-count loop-holds (λ c. omega arith) (λ c. omega arith) make-requires (λ c. omega arith) (λ c. omega arith)
     loop-again (λ c. omega arith) (λ c. omega arith) (λ c. omega arith)
     returns)

@@ -52,8 +52,7 @@ pub make-diagonal-spec : {M : Type 1} → statement M
 make-diagonal-spec =
     tie.close
     (tie.spec
-    Inv-loop
-    μ-loop
+    Inv-loop μ-loop
     loop-holds mul-make add-make make-requires (λ c. omega arith) (λ c. omega arith)
     loop-again (λ c. omega arith) (λ c. omega arith) (λ c. omega arith)
     returns)

@@ -40,8 +40,7 @@ pub make-plain-spec : {M : Type 1} → statement M
 make-plain-spec =
     tie.close
     (tie.spec
-    Inv-loop
-    μ-loop
+    Inv-loop μ-loop
     mul-count loop-holds make-requires (λ c. omega arith) (λ c. omega arith)
     loop-again (λ c. omega arith) (λ c. omega arith) (λ c. omega arith)
     returns)

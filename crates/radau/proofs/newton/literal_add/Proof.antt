@@ -44,8 +44,7 @@ pub literal-add-spec : {M : Type 1} → statement M
 literal-add-spec =
     tie.close
     (tie.spec
-    Inv-loop
-    μ-loop
+    Inv-loop μ-loop
     loop-holds (λ c κs. search needs) (λ c κs. search needs) (λ c. omega arith) (λ c. omega arith)
     loop-again (λ c. omega arith) (λ c. omega arith) (λ c. omega arith)
     returns)

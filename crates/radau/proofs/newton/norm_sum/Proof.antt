@@ -30,8 +30,7 @@ pub norm-sum-spec : {M : Type 1} → statement M
 norm-sum-spec =
     tie.close
     (tie.spec
-    Inv-loop
-    μ-loop
+    Inv-loop μ-loop
     loop-holds (λ c. omega arith) (λ c. omega arith) (λ c. omega arith)
     (λ c. omega arith) (λ c. omega arith) (λ c. omega arith) (λ c. omega arith)
     (λ c. omega arith) (λ c κs. search needs) (λ c. omega arith) (λ c. omega arith)

@@ -35,7 +35,6 @@ pub again-spec : {M : Type 1} → statement M
 again-spec =
     tie.close
     (tie.spec
-    failed-requires
-    returns
+    failed-requires returns
     ask-first-requires (λ c. omega arith)
     returns-2)

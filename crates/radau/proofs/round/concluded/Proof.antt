@@ -24,5 +24,4 @@ pub concluded-spec : {M : Type 1} → statement M
 concluded-spec =
     tie.close
     (tie.spec (λ c κs. search needs)
-    returns
-    returns-2)
+    returns returns-2)

@@ -36,7 +36,6 @@ pub paced-spec : {M : Type 1} → statement M
 paced-spec =
     tie.close
     (tie.spec (λ c κs. search needs)
-    predicted-requires
-    returns
+    predicted-requires returns
     failed-requires (λ c κs. search needs)
     returns-2)

@@ -41,8 +41,7 @@ pub predicted-spec : {M : Type 1} → statement M
 predicted-spec =
     tie.close
     (tie.spec
-    sub-remaining
-    sub-remaining-2
+    sub-remaining sub-remaining-2
     cast-remaining (λ c κs. search needs)
     slowed-requires
     returns (λ c κs. search needs)

@@ -34,8 +34,7 @@ pub slowed-spec : {M : Type 1} → statement M
 slowed-spec =
     tie.close
     (tie.spec (λ c κs. search needs) (λ c κs. search needs)
-    sub-remaining
-    sub-remaining-2
+    sub-remaining sub-remaining-2
     add-order (λ c κs. search needs)
     add-rejected (λ c κs. search needs)
     returns)

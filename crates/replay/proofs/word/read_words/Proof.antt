@@ -93,23 +93,6 @@ pub read-words-spec : {M : Type 1} → statement M
 read-words-spec =
     tie.close
     (tie.spec
-    Inv-loop
-    μ-loop
-    within-requires
-    loop-holds
-    after-requires
-    read-word-requires
-    enum-known-next
-    mul-block
-    slice-write-block
-    enum-told
-    same-length
-    returns
-    enum-told-2
-    same-length-2
-    returns-2
-    add-i
-    loop-less
-    loop-again
-    same-length-3
-    returns-3)
+    Inv-loop μ-loop within-requires loop-holds after-requires read-word-requires enum-known-next mul-block
+    slice-write-block enum-told same-length returns enum-told-2 same-length-2 returns-2 add-i loop-less loop-again
+    same-length-3 returns-3)

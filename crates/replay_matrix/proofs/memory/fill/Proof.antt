@@ -52,16 +52,5 @@ pub fill-spec : {M : Type 1} → statement M
 fill-spec =
     tie.close
     (tie.spec
-    Inv-loop
-    μ-loop
-    loop-holds
-    read-word-requires
-    enum-known-next
-    double-requires
-    mul-part
-    slice-write-part
-    add-i
-    loop-less
-    loop-again
-    same-length
-    returns)
+    Inv-loop μ-loop loop-holds read-word-requires enum-known-next double-requires mul-part slice-write-part add-i
+    loop-less loop-again same-length returns)

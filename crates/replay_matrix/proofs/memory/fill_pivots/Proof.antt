@@ -49,15 +49,5 @@ pub fill-pivots-spec : {M : Type 1} → statement M
 fill-pivots-spec =
     tie.close
     (tie.spec
-    Inv-loop
-    μ-loop
-    loop-holds
-    read-word-requires
-    enum-known-next
-    mul-part
-    slice-write-part
-    add-i
-    loop-less
-    loop-again
-    same-length
-    returns)
+    Inv-loop μ-loop loop-holds read-word-requires enum-known-next mul-part slice-write-part add-i loop-less loop-again
+    same-length returns)

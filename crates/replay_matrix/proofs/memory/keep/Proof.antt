@@ -50,17 +50,5 @@ pub keep-spec : {M : Type 1} → statement M
 keep-spec =
     tie.close
     (tie.spec
-    Inv-loop
-    μ-loop
-    loop-holds
-    mul-pattern
-    element-copy-out-pattern
-    pattern-requires
-    mul-pattern-2
-    element-copy-out-pattern-2
-    pattern-requires-2
-    compared-requires
-    add-i
-    loop-less
-    loop-again
-    returns)
+    Inv-loop μ-loop loop-holds mul-pattern element-copy-out-pattern pattern-requires mul-pattern-2
+    element-copy-out-pattern-2 pattern-requires-2 compared-requires add-i loop-less loop-again returns)

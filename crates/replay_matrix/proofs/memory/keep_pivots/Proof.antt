@@ -44,15 +44,5 @@ pub keep-pivots-spec : {M : Type 1} → statement M
 keep-pivots-spec =
     tie.close
     (tie.spec
-    Inv-loop
-    μ-loop
-    loop-holds
-    mul-compared
-    element-copy-out-compared
-    mul-compared-2
-    element-copy-out-compared-2
-    compared-requires
-    add-i
-    loop-less
-    loop-again
-    returns)
+    Inv-loop μ-loop loop-holds mul-compared element-copy-out-compared mul-compared-2 element-copy-out-compared-2
+    compared-requires add-i loop-less loop-again returns)

@@ -46,15 +46,5 @@ pub meet-spec : {M : Type 1} → statement M
 meet-spec =
     tie.close
     (tie.spec
-    Inv-loop
-    μ-loop
-    loop-holds
-    mul-pattern
-    shared-slice-read-pattern
-    pattern-requires
-    read-word-requires
-    held-against-requires
-    add-i
-    loop-less
-    loop-again
-    returns)
+    Inv-loop μ-loop loop-holds mul-pattern shared-slice-read-pattern pattern-requires read-word-requires
+    held-against-requires add-i loop-less loop-again returns)

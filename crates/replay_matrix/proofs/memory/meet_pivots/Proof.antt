@@ -43,14 +43,5 @@ pub meet-pivots-spec : {M : Type 1} → statement M
 meet-pivots-spec =
     tie.close
     (tie.spec
-    Inv-loop
-    μ-loop
-    loop-holds
-    mul-held-against
-    shared-slice-read-held-against
-    read-word-requires
-    held-against-requires
-    add-i
-    loop-less
-    loop-again
-    returns)
+    Inv-loop μ-loop loop-holds mul-held-against shared-slice-read-held-against read-word-requires
+    held-against-requires add-i loop-less loop-again returns)

@@ -49,16 +49,5 @@ pub fill-spec : {M : Type 1} → statement M
 fill-spec =
     tie.close
     (tie.spec
-    Inv-loop
-    μ-loop
-    loop-holds
-    entry-requires
-    double-requires
-    mul-part
-    slice-write-part
-    wrapping-add-u64-requires
-    add-i
-    loop-less
-    loop-again
-    same-length
-    returns)
+    Inv-loop μ-loop loop-holds entry-requires double-requires mul-part slice-write-part wrapping-add-u64-requires
+    add-i loop-less loop-again same-length returns)

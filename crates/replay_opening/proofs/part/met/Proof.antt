@@ -58,19 +58,6 @@ pub met-spec : {M : Type 1} → statement M
 met-spec =
     tie.close
     (tie.spec
-    Inv-loop
-    μ-loop
-    contents-of-requires
-    cleared-requires
-    loop-holds
-    entry-requires
-    double-requires
-    pattern-requires
-    mul-double
-    shared-slice-read-double
-    double-requires-2
-    wrapping-add-u64-requires
-    add-i
-    loop-less
-    loop-again
+    Inv-loop μ-loop contents-of-requires cleared-requires loop-holds entry-requires double-requires pattern-requires
+    mul-double shared-slice-read-double double-requires-2 wrapping-add-u64-requires add-i loop-less loop-again
     returns)

@@ -50,17 +50,5 @@ pub met-list-spec : {M : Type 1} → statement M
 met-list-spec =
     tie.close
     (tie.spec
-    Inv-loop
-    μ-loop
-    loop-holds
-    mul-double
-    element-copy-out-double
-    mul-double-2
-    add-double
-    mul-double-3
-    array-read-double
-    double-requires
-    add-i
-    loop-less
-    loop-again
-    returns)
+    Inv-loop μ-loop loop-holds mul-double element-copy-out-double mul-double-2 add-double mul-double-3
+    array-read-double double-requires add-i loop-less loop-again returns)

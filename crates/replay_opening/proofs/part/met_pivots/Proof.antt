@@ -50,17 +50,5 @@ pub met-pivots-spec : {M : Type 1} → statement M
 met-pivots-spec =
     tie.close
     (tie.spec
-    Inv-loop
-    μ-loop
-    contents-of-requires
-    cleared-requires
-    loop-holds
-    entry-requires
-    mul-compared
-    element-copy-out-compared
-    compared-requires
-    wrapping-add-u64-requires
-    add-i
-    loop-less
-    loop-again
-    returns)
+    Inv-loop μ-loop contents-of-requires cleared-requires loop-holds entry-requires mul-compared
+    element-copy-out-compared compared-requires wrapping-add-u64-requires add-i loop-less loop-again returns)

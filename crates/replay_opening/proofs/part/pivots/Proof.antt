@@ -44,15 +44,5 @@ pub pivots-spec : {M : Type 1} → statement M
 pivots-spec =
     tie.close
     (tie.spec
-    Inv-loop
-    μ-loop
-    contents-of-requires
-    loop-holds
-    entry-requires
-    mul-made
-    array-write-made
-    wrapping-add-u64-requires
-    add-i
-    loop-less
-    loop-again
-    returns)
+    Inv-loop μ-loop contents-of-requires loop-holds entry-requires mul-made array-write-made wrapping-add-u64-requires
+    add-i loop-less loop-again returns)

@@ -16,8 +16,7 @@ pub fill-spec : {M : Type 1} → statement M
 fill-spec =
     tie.close
     (tie.spec
-    Inv-loop
-    μ-loop
+    Inv-loop μ-loop
     (λ c. search needs)
     (λ c κs. search needs)
     (λ c κs. search needs)

@@ -15,8 +15,7 @@ pub taken-pivots-spec : {M : Type 1} → statement M
 taken-pivots-spec =
     tie.close
     (tie.spec
-    Inv-loop
-    μ-loop
+    Inv-loop μ-loop
     (λ c κs. search needs)
     (λ c. search needs)
     (λ c. search needs)

@@ -37,8 +37,7 @@ pub whole-digits-spec : {M : Type 1} → statement M
 whole-digits-spec =
     tie.close
     (tie.spec
-    Inv-loop
-    μ-loop
+    Inv-loop μ-loop
     loop-holds (λ c. omega arith) (λ c. omega arith) (λ c. omega arith)
     digit-requires (λ c. omega arith)
     loop-again

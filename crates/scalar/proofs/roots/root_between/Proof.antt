@@ -34,8 +34,7 @@ pub root-between-spec : {M : Type 1} → statement M
 root-between-spec =
     tie.close
     (tie.spec
-    Inv-loop
-    μ-loop
+    Inv-loop μ-loop
     loop-holds (λ c. omega arith) (λ c. omega arith) (λ c. omega arith) (λ c κs. omega arith) (λ c. omega arith)
     loop-again (λ c. omega arith)
     loop-again-2 (λ c κs. omega arith)

@@ -47,14 +47,5 @@ pub fill-amounts-spec : {M : Type 1} → statement M
 fill-amounts-spec =
     tie.close
     (tie.spec
-    Inv-loop
-    μ-loop
-    loop-holds
-    mul-amounts
-    element-copy-out-amounts
-    mul-amounts-2
-    element-write-amounts
-    add-i
-    loop-less
-    loop-again
-    returns)
+    Inv-loop μ-loop loop-holds mul-amounts element-copy-out-amounts mul-amounts-2 element-write-amounts add-i
+    loop-less loop-again returns)

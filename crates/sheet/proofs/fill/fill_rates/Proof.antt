@@ -50,15 +50,5 @@ pub fill-rates-spec : {M : Type 1} → statement M
 fill-rates-spec =
     tie.close
     (tie.spec
-    Inv-loop
-    μ-loop
-    loop-holds
-    mul-rates
-    mul-rates-2
-    element-copy-out-rates
-    mul-rates-3
-    element-write-rates
-    add-i
-    loop-less
-    loop-again
-    returns)
+    Inv-loop μ-loop loop-holds mul-rates mul-rates-2 element-copy-out-rates mul-rates-3 element-write-rates add-i
+    loop-less loop-again returns)

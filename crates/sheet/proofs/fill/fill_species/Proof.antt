@@ -56,17 +56,5 @@ pub fill-species-spec : {M : Type 1} → statement M
 fill-species-spec =
     tie.close
     (tie.spec
-    Inv-loop
-    μ-loop
-    loop-holds
-    mul-species
-    add-species
-    add-species-2
-    mul-species-2
-    element-copy-out-species
-    mul-species-3
-    element-write-species
-    add-i
-    loop-less
-    loop-again
-    returns)
+    Inv-loop μ-loop loop-holds mul-species add-species add-species-2 mul-species-2 element-copy-out-species
+    mul-species-3 element-write-species add-i loop-less loop-again returns)

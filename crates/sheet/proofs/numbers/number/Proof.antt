@@ -78,14 +78,5 @@ pub number-spec : {M : Type 1} → statement M
 number-spec =
     tie.close
     (tie.spec
-    returns
-    base-requires
-    spelled-requires
-    enum-told
-    enum-known-spelt
-    width-by-requires
-    returns-2
-    returns-3
-    returns-4
-    returns-5
-    returns-6)
+    returns base-requires spelled-requires enum-told enum-known-spelt width-by-requires returns-2 returns-3 returns-4
+    returns-5 returns-6)

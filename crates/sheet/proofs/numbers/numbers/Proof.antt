@@ -87,19 +87,5 @@ pub numbers-spec : {M : Type 1} → statement M
 numbers-spec =
     tie.close
     (tie.spec
-    Inv-loop
-    μ-loop
-    loop-holds
-    kind-at-requires
-    token-at-requires
-    same-length
-    returns
-    mul-store
-    slice-write-store
-    ends-requires
-    add-lines
-    add-i
-    loop-less
-    loop-again
-    same-length-2
-    returns-2)
+    Inv-loop μ-loop loop-holds kind-at-requires token-at-requires same-length returns mul-store slice-write-store
+    ends-requires add-lines add-i loop-less loop-again same-length-2 returns-2)

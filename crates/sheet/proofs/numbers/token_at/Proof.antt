@@ -73,16 +73,5 @@ pub token-at-spec : {M : Type 1} → statement M
 token-at-spec =
     tie.close
     (tie.spec
-    sub-rest
-    part-rest-start
-    part-rest-end
-    find-requires
-    slice-aggregate-number
-    number-requires
-    enum-known-spelt
-    add-t16
-    add-t17
-    enum-told
-    returns
-    returns-2
-    returns-3)
+    sub-rest part-rest-start part-rest-end find-requires slice-aggregate-number number-requires enum-known-spelt
+    add-t16 add-t17 enum-told returns returns-2 returns-3)

@@ -281,25 +281,6 @@ pub judge-spec : {M : Type 1} → statement M
 judge-spec =
     tie.close
     (tie.spec
-    numbers-requires
-    same-length
-    returns
-    slice-read-species
-    numbers-requires-2
-    same-length-2
-    same-length-3
-    returns-2
-    numbers-requires-3
-    same-length-4
-    same-length-5
-    same-length-6
-    returns-3
-    slice-read-numbered
-    mul-numbered
-    numbers-requires-4
-    ended-requires
-    same-length-7
-    same-length-8
-    same-length-9
-    same-length-10
-    returns-4)
+    numbers-requires same-length returns slice-read-species numbers-requires-2 same-length-2 same-length-3 returns-2
+    numbers-requires-3 same-length-4 same-length-5 same-length-6 returns-3 slice-read-numbered mul-numbered
+    numbers-requires-4 ended-requires same-length-7 same-length-8 same-length-9 same-length-10 returns-4)

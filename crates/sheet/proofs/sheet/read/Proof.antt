@@ -104,19 +104,6 @@ pub read-spec : {M : Type 1} → statement M
 read-spec =
     tie.close
     (tie.spec
-    returns
-    slice-aggregate-judge
-    slice-aggregate-judge-2
-    slice-aggregate-judge-3
-    slice-aggregate-judge-4
-    judge-requires
-    add-t21
-    returns-2
-    array-read-n
-    array-read-fill-amounts
-    fill-amounts-requires
-    fill-rates-requires
-    mul-fill-species
-    fill-species-requires
-    heading-from-requires
-    returns-3)
+    returns slice-aggregate-judge slice-aggregate-judge-2 slice-aggregate-judge-3 slice-aggregate-judge-4
+    judge-requires add-t21 returns-2 array-read-n array-read-fill-amounts fill-amounts-requires fill-rates-requires
+    mul-fill-species fill-species-requires heading-from-requires returns-3)

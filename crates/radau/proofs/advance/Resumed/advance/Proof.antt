@@ -596,28 +596,9 @@ pub advance-spec : {M : Type 1} → statement M
 advance-spec =
     tie.close
     (tie.spec (λ c κs. search needs) (λ c κs. search needs) (λ c κs. search needs)
-    enum-known-refusal
-    same-length
-    same-length-2
-    same-length-3
-    same-length-4
-    same-length-5
-    same-length-6
-    same-length-7
-    same-length-8
-    same-length-9
-    same-length-10
-    same-length-11
-    same-length-12
-    same-length-13
-    same-length-14
-    same-length-15
-    same-length-16
-    same-length-17
-    same-length-18
-    returns
-    enum-told
-    replied-requires
+    enum-known-refusal same-length same-length-2 same-length-3 same-length-4 same-length-5 same-length-6 same-length-7
+    same-length-8 same-length-9 same-length-10 same-length-11 same-length-12 same-length-13 same-length-14
+    same-length-15 same-length-16 same-length-17 same-length-18 returns enum-told replied-requires
     enum-known-step (λ c κs. search needs)
     same-length-19
     same-length-20
