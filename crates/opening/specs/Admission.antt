@@ -67,9 +67,8 @@ unfitOf (Refused r) = Refused Unfit
 abbrev pub shapeRows : Run → Bool → List Test
 shapeRows r fit = unfit (outside 1 32 (r .shape .n)) ∷ unfit (not fit) ∷ allUnfit (rangeRows (r .settings))
 
--- a partition not summing to n; attempts above max_steps in a run not ended; Newton rounds above
--- newton_maxiter; a difference column above n; a singular count above 5 in a run not ended; a pivot (first n-1
--- of either list) not below n
+-- partition not summing to n; attempts above max_steps, not ended; Newton rounds above newton_maxiter; difference
+-- column above n; singular count above 5, not ended; a pivot (first n-1 of either list) not below n
 abbrev pub stateRows : Run → List ℕ → List ℕ → List Test
 stateRows r ip1 ip2 =
     unfit (not (eqb (r .shape .nind1 + r .shape .nind2 + r .shape .nind3) (r .shape .n)))

@@ -76,9 +76,8 @@ fn check_given(
     }
 }
 
-// Opens a run of n amounts from x0 to xend. It is refused by the first row of document 01's table that holds, and then
-// nothing is written. Else the given tolerance lists are converted where they stand, all parts that were not given are
-// set to +0, and the first request is asked.
+// Opens a run of n amounts from x0 to xend. The first row of 01's table that holds refuses it, and nothing is written.
+// Else given tolerance lists are converted where they stand, and parts that were not given are set to +0.
 pub fn open(
     settings: Settings,
     n: usize,

@@ -54,9 +54,8 @@ not-keeping-less meets =
     ap bitsOf (meets 2 (double 0x4010_0000_0000_0000) (record { low = omega arith; high = omega arith; above = tt })) in
     omega arith
 
--- What square_root.rt has of a number before it rounds: an even place, the root's digits and what is left of the number
--- beyond their square. A routine that adds one also where as much is left as the root itself gives 2 for the double
--- below 4, whose root is nearer to the double below 2.
+-- Before it rounds, the routine has the root's digits and what is left of the number beyond their square. One that
+-- rounds up where as much is left as the root itself gives 2 for the double below 4: wrong by one double.
 abbrev pub RoundsUp : (Float → Float) → Type 0
 RoundsUp f =
     (b m w q r : ℕ) → EvenPlace (units b) m w → Digits (m * 2 ^ 52) q r

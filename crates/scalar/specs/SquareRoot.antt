@@ -15,9 +15,8 @@ use Rattle.words.specs.Patterns.{units, unitsInOne, infinityPattern}
 unfoldable pub squareOf : Float → ℕ
 squareOf x = units (toBits binary64 x) * unitsInOne
 
--- Of all doubles none is nearer to the root of n than the one with the pattern b: the root lies on b's side of the
--- middle between b and any other double c. Twice that middle is `units b + units c`, so four times n is held against
--- its square. On such a middle the last digit of b is even.
+-- No double is nearer to the root of n than that of pattern b: of the middle between b and any other c, twice which is
+-- `units b + units c`, the root lies on b's side (4 n against its square); on a middle the last digit of b is even.
 pub record Nearest (n b : ℕ) : Type 0 where
   pub under : (c : ℕ) → b < c → c < infinityPattern → 4 * n ≤ (units b + units c) * (units b + units c)
   pub over : (c : ℕ) → c < b → (units b + units c) * (units b + units c) ≤ 4 * n

@@ -6,9 +6,8 @@ ghost use Rattle.words.specs.Patterns.{infinityPattern};
 use crate::patterns::number;
 use crate::patterns::pattern;
 
-// For the orders 3, 4 and 5: y is the inverse root to four binary digits, r how far it is off (v * y^m is 1 - r), w *
-// series the root to 29 digits, and the last line a step by the tangent, which doubles them. The series are fits to (1
-// - r)^(1/m - 1) on r's range.
+// Orders 3, 4 and 5: y is the inverse root to four digits, r how far it is off (v * y^m is 1 - r), w * series the root
+// to 29 digits, and a step by the tangent doubles them. The series are fits to (1 - r)^(1/m - 1) on r's range.
 const THIRD: [f64; 8] = [
     0.999_999_999_967_272_1,
     0.666_666_667_736_782_3,

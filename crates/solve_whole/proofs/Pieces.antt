@@ -1,4 +1,4 @@
--- Piece by piece: where what follows a piece goes as the talk does, so does the piece.
+-- `solve`, piece by piece: if all that comes after a piece follows the talk, then the piece with it does.
 use Prim.Native.Nat.{ℕ}
 use mathlib.Core.Bool.{Bool, true, false}
 use mathlib.Core.Path.{_≡_, refl, sym, subst}
