@@ -12,12 +12,13 @@ use Rattle.state.specs.declared.talk.Reply.{Reply}
 use Rattle.state.specs.declared.talk.Request.{Request}
 use Rattle.state.specs.Memory.{Memory}
 use Rattle.solve_blocks.specs.Advance.{advanceOf}
+use Rattle.solve_blocks.proofs.EveryRule.{Kept}
 use Rattle.export.specs.declared.unpack.Unpacked.the-variants as unpacked
 use Rattle.export.specs.State.{packOf, unpackOf, RunHeld}
 use Rattle.export.specs.Talk.{settingsGiven}
 use Rattle.export.specs.Defaults.{numbersOf, floatsOf}
 use Rattle.export.proofs.Packed.{unpacked-exactly-proof}
-use Rattle.export.proofs.AdvanceKept.{Kept, advance-kept-proof}
+use Rattle.export.proofs.AdvanceKept.{advance-kept-proof}
 use Rattle.export.proofs.SettingsLaws.{settings-read-proof}
 
 -- Words are taken for a run exactly if they are what it packs to and its floats are doubles.
