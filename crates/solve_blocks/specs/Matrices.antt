@@ -21,6 +21,7 @@ use Rattle.state.specs.declared.run.Control.{Control}
 use Rattle.state.specs.declared.run.Run.{Run}
 use Rattle.state.specs.declared.run.Status.{Status}
 use Rattle.state.specs.declared.run.Status.the-variants.{SingularMatrix}
+use Rattle.state.specs.declared.run.Stage.{Stage}
 use Rattle.state.specs.declared.run.Stage.the-variants as stage
 use Rattle.state.specs.declared.talk.Request.{Request}
 use Rattle.state.specs.declared.talk.Request.the-variants as request
@@ -30,7 +31,7 @@ use Rattle.state.specs.Memory.{Factors, factors}
 use Rattle.solve_blocks.specs.declared.step.Call.{Call}
 use Rattle.solve_blocks.specs.declared.step.Step.{Step}
 use Rattle.solve_blocks.specs.declared.step.Step.the-variants as step
-use Rattle.solve_blocks.specs.Setters.{_▸_, inCounts, inControl, inNumbers, atStage, oneLu}
+use Rattle.solve_blocks.specs.Setters.{_▸_, inCounts, inControl, inNumbers, atStage, oneOde, oneLu}
 use Rattle.solve_blocks.specs.Setters.{setSingular, setReject, setLast, setCallDecomp, setH, setHhfac}
 use Rattle.solve_blocks.specs.Events.{real-singular, complex-singular, factored, Logged, logged, quiet, andThen}
 use Rattle.solve_blocks.specs.Entries.{massAt, jacAt, Three, three}
@@ -40,6 +41,10 @@ use Rattle.solve_blocks.specs.Entries.{massAt, jacAt, Three, three}
 -- the host is called: the run at the stage that waits for the reply, what is asked, and where
 abbrev pub call : Run → Request → Place → Call
 call r q p = record { run = r; request = q; place = p }
+
+-- for a derivative at x, which is counted with its request
+abbrev pub askDerivative : Run → Stage → Float → Place → Call
+askDerivative r s x p = call (r ▸ inCounts oneOde ▸ atStage s) (request.Derivative x) p
 
 -- `break 'main` with a status
 abbrev pub endedOf : Status → Run → Call
