@@ -33,7 +33,7 @@ use Rattle.solve_blocks.specs.Events.{Event, real-singular, complex-sing
 use Rattle.solve_blocks.specs.Events.{factored, over-limit, too-small, begun}
 use Rattle.solve_blocks.specs.Events.{rounds-used, diverged, slow, error-solve}
 use Rattle.solve_blocks.specs.Events.{failed, accepted, aimed, not-aimed}
-use Rattle.solve_blocks.specs.Matrices.{call, askDerivative, endedOf, missed}
+use Rattle.solve_blocks.specs.Matrices.{call, askDerivative, endedOf, missedOf}
 use Rattle.solve_blocks.specs.Judge.{acceptedPoint, askAccepted, askRefinement}
 use Rattle.solve_blocks.specs.Report.{askModified, isInterrupt}
 use Rattle.solve_blocks.specs.Needs.{FactorsLong}
@@ -174,7 +174,7 @@ pub record Closed (p : Reply) (mass jac : List Float) (P : List Event → Positi
   pub sixth : {es : List Event} {r : Run} → 5 < r .control .«singular_count» + 1 → P es (failing r)
       → P es (asked (endedOf status.SingularMatrix (r ▸ inControl (setSingular (r .control .«singular_count» + 1)))))
   pub another : {es : List Event} {r : Run} (h hhfac : Float) → r .control .«singular_count» + 1 ≤ 5 → P es (failing r)
-      → P es (main (r ▸ inControl (setSingular (r .control .«singular_count» + 1)) ▸ stepOf h hhfac ▸ inControl missed))
+      → P es (main (r ▸ inControl (setSingular (r .control .«singular_count» + 1)) ▸ stepOf h hhfac ▸ missedOf))
   -- an attempt
   pub limited : {es : List Event} {r : Run} → r .settings .«max_steps» < r .counts .total + 1 → P es (attempt r)
       → P (es ++ (over-limit ∷ [])) (asked (endedOf status.NeedLargerNMax (r ▸ inCounts oneTotal)))
@@ -205,7 +205,7 @@ pub record Closed (p : Reply) (mass jac : List Float) (P : List Event → Positi
   pub slow-book : {es : List Event} {r : Run} (theta thqold faccon dynold dyth h hhfac : Float)
       → r .settings .rule ≡ rule.Book → le «1·0» dyth ≡ true → P es (replied stage.Newton3 r)
       → P (es ++ (slow dyth ∷ []))
-      (main (iterated theta thqold faccon dynold r ▸ slowed h hhfac ▸ inControl missed))
+      (main (iterated theta thqold faccon dynold r ▸ slowed h hhfac ▸ missedOf))
   pub used-up : {es : List Event} {r : Run} → r .settings .«newton_maxiter» ≤ r .control .«newt_iter» → P es (newton r)
       → P (es ++ (rounds-used (r .control .«newt_iter») ∷ [])) (failing r)
   pub another-round : {es : List Event} {r : Run} (x : Float)
@@ -222,11 +222,11 @@ pub record Closed (p : Reply) (mass jac : List Float) (P : List Event → Positi
       (asked (askAccepted (acceptedRun hnew hacc erracc r)))
   pub fails-first : {es : List Event} {r : Run} (err hnew h hhfac : Float)
       → le err «1·0» ≡ false → r .control .first ≡ true → P es (judging r)
-      → P (es ++ (failed err ∷ [])) (main (r ▸ inNumbers (setHnew hnew) ▸ stepOf h hhfac ▸ inControl missed))
+      → P (es ++ (failed err ∷ [])) (main (r ▸ inNumbers (setHnew hnew) ▸ stepOf h hhfac ▸ missedOf))
   pub fails-later : {es : List Event} {r : Run} (err hnew h hhfac : Float)
       → le err «1·0» ≡ false → r .control .first ≡ false → P es (judging r)
       → P (es ++ (failed err ∷ []))
-      (main (r ▸ inNumbers (setHnew hnew) ▸ stepOf h hhfac ▸ inCounts oneRejected ▸ inControl missed))
+      (main (r ▸ inNumbers (setHnew hnew) ▸ stepOf h hhfac ▸ inCounts oneRejected ▸ missedOf))
   pub accepted-filled : {es : List Event} {r : Run} (offered : Bool) → P es (replied stage.Accepted r)
       → P es (asked
       (call (r ▸ atStage stage.Report) (request.Report (r .numbers .xold) (r .numbers .x) offered) place.Nowhere))

@@ -24,7 +24,7 @@ use Rattle.solve_blocks.specs.Setters.{oneLu, oneAccepted, oneRejected, 
 use Rattle.solve_blocks.specs.Setters.{setH, setHold, setHnew, setHhfac, setHAcc, setErrAcc}
 use Rattle.solve_blocks.specs.Events.{error-solve, failed, accepted, Logged, logged, quiet, noted}
 use Rattle.solve_blocks.specs.Entries.{asFloat, Three, three}
-use Rattle.solve_blocks.specs.Matrices.{askDerivative, missed}
+use Rattle.solve_blocks.specs.Matrices.{askDerivative, missedOf}
 use Rattle.solve_blocks.specs.Estimate.{defectOf, sides, sidesOf, solvedFirst, errorOf, plusAt, sumAt}
 
 -- ---- the step that the error asks for
@@ -116,8 +116,8 @@ askAccepted r = askDerivative r stage.Accepted (r .numbers .x) YToF0
 unfoldable pub rejectedOf : Run → Float → Run
 rejectedOf r hnew =
     pick (r .control .first)
-    (r ▸ inNumbers (setH (r .numbers .h ⊗ «0·1»)) ▸ inNumbers (setHhfac «0·1») ▸ inControl missed)
-    (r ▸ inNumbers (setHhfac (hnew ⊘ r .numbers .h)) ▸ inNumbers (setH hnew) ▸ inCounts oneRejected ▸ inControl missed)
+    (r ▸ inNumbers (setH (r .numbers .h ⊗ «0·1»)) ▸ inNumbers (setHhfac «0·1») ▸ missedOf)
+    (r ▸ inNumbers (setHhfac (hnew ⊘ r .numbers .h)) ▸ inNumbers (setH hnew) ▸ inCounts oneRejected ▸ missedOf)
 
 -- ---- the judgement
 
