@@ -53,7 +53,8 @@ use Rattle.solve_blocks.specs.Judge.{acceptedPoint, acceptedOf, askAccep
 use Rattle.solve_blocks.specs.Judge.{judgedOf, testedOf, estimateOf, refinedOf}
 use Rattle.solve_blocks.specs.Report.{askReport, reportedOf, isInterrupt, hnewOf, grownOf, renewedOf, arrivedOf}
 use Rattle.solve_blocks.specs.Jacobian.{askJacobianBy, askColumnOf, Columned, columnOf}
-use Rattle.solve_blocks.specs.Advance.{Stepped, startedOf, returnedOf, concludeOf, repliedOf, passedOf, calledOf}
+use Rattle.solve_blocks.specs.Advance.{Stepped, startedOf, returnedOf, concludeOf, repliedOf, receivedOf}
+use Rattle.solve_blocks.specs.Advance.{passedOf, calledOf}
 use Rattle.solve_blocks.specs.Needs.{FactorsLong}
 use Rattle.solve_blocks.proofs.AdvanceWhole.{wholeOf}
 use Rattle.solve_blocks.proofs.AdmittedLaws.{admitted}
@@ -468,7 +469,7 @@ kept-step r es (step.Attempt q) w = w
 module _ (r : Run) (p : Reply) (m : Memory) (admits : verdictOf (admissionRows r p m) ≡ Passed) where
   -- where the reply leads: the passes work there
   abbrev there : Stepped
-  there = repliedOf (r .stage) p r m .core
+  there = receivedOf r p m .core
 
   going : askingAt (r .stage) .ended ≡ false
   going = verdict-first (admissionRows r p m) .1 .0 admits 19 (omega arith)
