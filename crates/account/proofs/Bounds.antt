@@ -25,7 +25,8 @@ use Rattle.state.specs.declared.talk.Reply.{Reply}
 use Rattle.state.specs.Numbers.{statusNumber}
 use Rattle.opening.specs.Opening.{firstCounts, firstControl}
 use Rattle.opening.specs.Admission.{askingAt}
-use Rattle.solve_blocks.specs.Setters.{_▸_, inCounts, inControl, inNumbers, atStage, oneOde, setX}
+use Rattle.solve_blocks.specs.Setters.{_▸_, inCounts, inControl}
+use Rattle.solve_blocks.specs.Report.{askModified}
 use Rattle.solve_blocks.specs.Events.{Event}
 use Rattle.solve_blocks.proofs.Rules.{Position, replied, reporting, arrived, main, matrices}
 use Rattle.solve_blocks.proofs.Rules.{attempt, failing, newton, estimate, judging, asked, Closed}
@@ -110,7 +111,7 @@ WithinAt (stage.Ended s) r = Final s r
 unfoldable pub Within : Position → Type 0
 Within (replied s r) = WithinAt s r
 Within (reporting s r) =
-    (askingAt s .ended ≡ false) × ((x : Float) → WithinAt s (r ▸ inNumbers (setX x) ▸ inCounts oneOde ▸ atStage s))
+    (askingAt s .ended ≡ false) × ((x : Float) → WithinAt s (askModified s x r .run))
 Within (arrived r) = Left 0 0 0 6 12 0 0 0 r
 Within (main r) = Left 0 0 0 1 2 0 0 0 r
 Within (matrices r) = Left 0 0 0 0 2 0 0 0 r

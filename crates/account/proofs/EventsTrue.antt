@@ -36,8 +36,7 @@ use Rattle.solve_blocks.specs.declared.step.Call.{Call}
 use Rattle.solve_blocks.specs.Entries.{Three, three}
 use Rattle.solve_blocks.specs.Matrices.{builtOf}
 use Rattle.solve_blocks.specs.Needs.{FactorsLong}
-use Rattle.solve_blocks.specs.Setters.{_▸_, inCounts, inNumbers, atStage, oneOde, setX}
-use Rattle.solve_blocks.specs.Report.{isInterrupt}
+use Rattle.solve_blocks.specs.Report.{askModified, isInterrupt}
 use Rattle.solve_blocks.specs.Events.{Event, real-singular, complex-singular, factored, over-limit, too-small, begun}
 use Rattle.solve_blocks.specs.Events.{rounds-used, diverged, slow, error-solve, failed, accepted, aimed, not-aimed}
 use Rattle.account.specs.Reading.{one, isReport, asksAt}
@@ -143,7 +142,7 @@ module _ (o : Opening) (st : Standing) (g : Progress) where
   unfoldable pub Where : Reply → Position → Type 0
   Where p (replied s r) = RepliedAt p s r
   Where p (reporting s r) =
-      ((x : Float) → g .x ≡ x → AskedAt s (r ▸ inNumbers (setX x) ▸ inCounts oneOde ▸ atStage s))
+      ((x : Float) → g .x ≡ x → AskedAt s (askModified s x r .run))
       × (g .x ≡ reportedAt (r .numbers .x) p)
   Where p (arrived r) = r .numbers .x ≡ g .x
   Where p (main r) = Ready r

@@ -12,7 +12,7 @@ use Rattle.state.specs.Pivots.{stray}
 use Rattle.state.proofs.Pivots.{row-stored}
 use Rattle.solve_blocks.specs.declared.step.Step.{Step}
 use Rattle.solve_blocks.specs.declared.step.Step.the-variants as step
-use Rattle.solve_blocks.specs.Advance.{repliedOf, passedOf, calledOf}
+use Rattle.solve_blocks.specs.Advance.{receivedOf, passedOf, calledOf}
 use Rattle.solve_blocks.specs.Needs.{MemoryLong}
 use Rattle.solve_blocks.proofs.AdvanceWhole.{wholeOf}
 use Rattle.solve_blocks.proofs.Passes.{passes-kept}
@@ -46,7 +46,7 @@ pub advance-pivots : (n : ℕ) (r : Run) (p : Reply) (m : Memory) → r .shape .
     → (stray n (wholeOf r p m .core .memory .factors .ip1) ≡ false)
     × (stray n (wholeOf r p m .core .memory .factors .ip2) ≡ false)
 advance-pivots n r p m order l e f =
-    let t = repliedOf (r .stage) p r m .core in
+    let t = receivedOf r p m .core in
     let u = passedOf t .core in
     let a = subst (NoStray n) (sym (replied-same (r .stage) p r m)) (e, f) in
     let k = passes-kept (λ (x : List Float). Unit {0}) (λ x i v q. tt) (r .shape) (λ (ip : List ℕ). stray n ip ≡ false)

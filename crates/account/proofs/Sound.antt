@@ -16,7 +16,7 @@ use Rattle.opening.specs.Opening.{shapeOf}
 use Rattle.opening.specs.Admission.{askingAt, answersReport, admissionRows}
 use Rattle.opening.proofs.RowLaws.{NoneHolds}
 use Rattle.solve_blocks.specs.Events.{Event, Logged}
-use Rattle.solve_blocks.specs.Advance.{Stepped, Called, repliedOf, passedOf}
+use Rattle.solve_blocks.specs.Advance.{Stepped, Called, receivedOf, passedOf}
 use Rattle.solve_blocks.specs.Needs.{MemoryLong}
 use Rattle.history.specs.Host.{Action}
 use Rattle.history.specs.History.{Point}
@@ -120,7 +120,7 @@ module _ (o : Opening) (none : NoneHolds (openingRows o)) where
 
     -- where the reply leads, and what the passes there work on: the mass and the Jacobian that the next request finds
     abbrev there : Stepped
-    there = repliedOf (r .stage) (a .reply) r (handed j a) .core
+    there = receivedOf r (a .reply) (handed j a) .core
 
     abbrev pub kept : Given
     kept = l .core .memory .given

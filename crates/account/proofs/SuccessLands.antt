@@ -19,7 +19,7 @@ use Rattle.state.specs.declared.talk.Request.{Request}
 use Rattle.state.specs.declared.talk.Request.the-variants as request
 use Rattle.opening.specs.Opening.{firstControl}
 use Rattle.solve_blocks.specs.declared.step.Call.{Call}
-use Rattle.solve_blocks.specs.Setters.{_▸_, inCounts, inNumbers, atStage, oneOde, setX}
+use Rattle.solve_blocks.specs.Report.{askModified}
 use Rattle.solve_blocks.specs.Events.{Event}
 use Rattle.solve_blocks.proofs.Rules.{Position, replied, reporting, arrived, main, matrices}
 use Rattle.solve_blocks.proofs.Rules.{attempt, failing, newton, estimate, judging, asked, Closed}
@@ -65,7 +65,7 @@ Reports (request.Ended s) r = Unit
 -- at a position, whatever has happened; a report may be answered by any new point, and a failure ends an aim anyway
 unfoldable pub Lands : List Event → Position → Type 0
 Lands es (replied s r) = LandsAt s r
-Lands es (reporting s r) = (x : Float) → LandsAt s (r ▸ inNumbers (setX x) ▸ inCounts oneOde ▸ atStage s)
+Lands es (reporting s r) = (x : Float) → LandsAt s (askModified s x r .run)
 Lands es (arrived r) = Unit
 Lands es (main r) = Aims r
 Lands es (matrices r) = Aims r

@@ -15,7 +15,7 @@ use Rattle.solve_blocks.specs.declared.step.Step.{Step}
 use Rattle.solve_blocks.specs.declared.step.Step.the-variants as step
 use Rattle.solve_blocks.specs.declared.step.Round.the-variants as round
 use Rattle.solve_blocks.specs.Setters.{_▸_, inControl, setSingular, setLast, setReject, setCallDecomp}
-use Rattle.solve_blocks.specs.Matrices.{endedOf, missed, failedOf}
+use Rattle.solve_blocks.specs.Matrices.{endedOf, wishedOf, missedOf, failedOf}
 use Rattle.solve_blocks.specs.Newton.{slowRound}
 use Rattle.solve_blocks.specs.Report.{isDue}
 use Rattle.history.proofs.Refuted.{sampleAt}
@@ -50,10 +50,11 @@ unfolding failedOf pick
 sixth-ends = refl
 
 -- a failure leaves the wish for a Jacobian as it was, and an aim doesn't survive it (radau.rs:398-402)
-wish-kept : (r : Run) → missed (r .control) .«call_jac» ≡ r .control .«call_jac»
+wish-kept : (r : Run) → missedOf r .control .«call_jac» ≡ r .control .«call_jac»
+unfolding wishedOf
 wish-kept r = refl
 
-aim-lost : (r : Run) → missed (r .control) .last ≡ false
+aim-lost : (r : Run) → missedOf r .control .last ≡ false
 aim-lost r = refl
 
 -- a slow verdict goes on to the error test under the Rust rule without the reject mark, and ends the attempt under the
@@ -66,5 +67,5 @@ slow-book : (r : Run)
     → slowRound rule.Book r
     ≡ round.Over
     (step.Main (r ▸ inControl (setReject true) ▸ inControl (setLast false) ▸ inControl (setCallDecomp true)))
-unfolding slowRound
+unfolding slowRound wishedOf
 slow-book r = refl

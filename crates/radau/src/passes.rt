@@ -18,6 +18,7 @@ ghost use mathlib.Core.List.{List};
 ghost use lib.ListN.{length};
 ghost use lib.Ieee.{Float};
 ghost use Rattle.words.specs.Grid.{Square};
+ghost use Rattle.state.specs.declared.settings.Rule.{Rule};
 ghost use Rattle.state.specs.Memory.{factors};
 ghost use Rattle.solve_blocks.specs.Setters.{inCounts, oneLu, atStage};
 ghost use Rattle.solve_blocks.specs.Matrices.{call, endedOf, missed, failedOf, isErr, tried, complexTriedOf};
@@ -53,7 +54,7 @@ pub fn ended(moving: Moving, status: Status) -> Call
 
 // After any attempt that is not accepted.
 pub fn missed(control: Control) -> Control
-    ensures { λ r. ⌜ r ≡ missed control ⌝ }
+    ensures { λ r. ⌜ ((rule : Rule) → r ≡ missed rule control) ⌝ }
 {
     let mut c = control;
     c.reject = true;

@@ -39,7 +39,7 @@ use Rattle.solve_blocks.specs.MemorySetters.{setScal, setCont, setYCont,
 use Rattle.solve_blocks.specs.MemorySetters.{setNewton, setFactors, setDifferences}
 use Rattle.solve_blocks.specs.MemorySetters.{setColumn}
 use Rattle.solve_blocks.specs.Advance.{Stepped, stepped, startedOf, returnedOf}
-use Rattle.solve_blocks.specs.Advance.{concludeOf, repliedOf, called, calledOf}
+use Rattle.solve_blocks.specs.Advance.{concludeOf, repliedOf, receivedOf, called, calledOf}
 use Rattle.solve_blocks.specs.Advance.{advanceOutcome, advanceBy, advanceOf}
 use Rattle.solve_blocks.specs.Needs.{Fit, StepFit, RoundFit, HeardFit, NewtonLong}
 
@@ -202,7 +202,7 @@ module _ (r : Run) (p : Reply) (m : Memory) where
 
   pub advance-passed : (t : Stepped) (s : Step) (f : Factors) (c : Call) (w : Memory)
       → verdictOf (admissionRows r p m) ≡ verdict.Passed
-      → t ≡ repliedOf (r .stage) p r m .core
+      → t ≡ receivedOf r p m .core
       → tried s f ≡ passesOf (t .step) (t .memory .given .mass) (t .memory .given .jac) (t .memory .factors) .core
       → called c w ≡ calledOf s (setFactors f (t .memory)) .core
       → advanceOutcome (answer.Asked (c .run) (c .request) (c .place)) w ≡ advanceOf r p m .core

@@ -6,11 +6,11 @@ use Rattle.state.specs.declared.talk.Verdict.the-variants as verdict
 use Rattle.state.specs.Memory.{Memory}
 use Rattle.solve_blocks.specs.Events.{Logged, logged, andThen}
 use Rattle.solve_blocks.specs.Advance.{Stepped, Called, AdvanceOutcome, asked}
-use Rattle.solve_blocks.specs.Advance.{repliedOf, passedOf, calledOf, advanceBy}
+use Rattle.solve_blocks.specs.Advance.{receivedOf, passedOf, calledOf, advanceBy}
 
 abbrev pub wholeOf : Run → Reply → Memory → Logged Called
 wholeOf r p m =
-    andThen (andThen (repliedOf (r .stage) p r m) passedOf) (λ (t : Stepped). calledOf (t .step) (t .memory))
+    andThen (andThen (receivedOf r p m) passedOf) (λ (t : Stepped). calledOf (t .step) (t .memory))
 
 pub whole-is : (r : Run) (p : Reply) (m : Memory)
     → advanceBy verdict.Passed r p m ≡ logged (asked (wholeOf r p m .core)) (wholeOf r p m .log)

@@ -40,8 +40,7 @@ use Rattle.solve_blocks.specs.declared.step.Step.{Step}
 use Rattle.solve_blocks.specs.declared.step.Step.the-variants as step
 use Rattle.solve_blocks.specs.declared.step.Heard.{Heard}
 use Rattle.solve_blocks.specs.declared.step.Heard.the-variants as heard
-use Rattle.solve_blocks.specs.Setters.{_▸_, inCounts, inControl, inNumbers, oneLu}
-use Rattle.solve_blocks.specs.Setters.{oneAccepted, setFirst, setX, setXold, setHold, setXout}
+use Rattle.solve_blocks.specs.Setters.{_▸_, inCounts, inNumbers, oneLu, setXout}
 use Rattle.solve_blocks.specs.Events.{Event, slow, error-solve, failed, accepted}
 use Rattle.solve_blocks.specs.Events.{not-aimed, Logged, quiet, andThen}
 use Rattle.solve_blocks.specs.Entries.{Three}
@@ -50,11 +49,12 @@ use Rattle.solve_blocks.specs.Matrices.{realTriedOf, triedOf, passesOn, 
 use Rattle.solve_blocks.specs.Attempt.{askStageOf, Begun, beganOf, attemptOf}
 use Rattle.solve_blocks.specs.Newton.{RoundDone, concludedOf, slowRound, slowedOf, predictedOf}
 use Rattle.solve_blocks.specs.Newton.{pacedOf, judgedRound, roundOf, Resumed, againOf}
-use Rattle.solve_blocks.specs.Judge.{acceptedOf, askAccepted, rejectedOf, Judged}
+use Rattle.solve_blocks.specs.Judge.{acceptedPoint, acceptedOf, askAccepted, rejectedOf, Judged}
 use Rattle.solve_blocks.specs.Judge.{judgedOf, testedOf, estimateOf, refinedOf}
 use Rattle.solve_blocks.specs.Report.{askReport, reportedOf, isInterrupt, hnewOf, grownOf, renewedOf, arrivedOf}
 use Rattle.solve_blocks.specs.Jacobian.{askJacobianBy, askColumnOf, Columned, columnOf}
-use Rattle.solve_blocks.specs.Advance.{Stepped, startedOf, returnedOf, concludeOf, repliedOf, passedOf, calledOf}
+use Rattle.solve_blocks.specs.Advance.{Stepped, startedOf, returnedOf, concludeOf, repliedOf, receivedOf}
+use Rattle.solve_blocks.specs.Advance.{passedOf, calledOf}
 use Rattle.solve_blocks.specs.Needs.{FactorsLong}
 use Rattle.solve_blocks.proofs.AdvanceWhole.{wholeOf}
 use Rattle.solve_blocks.proofs.AdmittedLaws.{admitted}
@@ -292,11 +292,7 @@ module _ {p : Reply} {mass jac : List Float} {P : List Event → Position → Ty
         pick-all (λ (l : Logged Judged). Leads es l judgedAt) (le err «1·0») _ _
         (λ met. pick-all
         (λ (s : Run). P (es ++ (accepted err (r .numbers .h) ∷ []))
-        (stepAt
-        (askAccepted
-        (s ▸ inCounts oneAccepted ▸ inControl (setFirst false)
-        ▸ inNumbers (setXold (r .numbers .x)) ▸ inNumbers (setHold (r .numbers .h))
-        ▸ inNumbers (setX (r .numbers .xph))))))
+        (asked (askAccepted (acceptedPoint s))))
         (r .settings .predictive) _ _
         (λ e. c .accepts err _ _ _ met h)
         (λ e. c .accepts err _ (r .numbers .«h_acc») (r .numbers .«err_acc») met h))
@@ -473,7 +469,7 @@ kept-step r es (step.Attempt q) w = w
 module _ (r : Run) (p : Reply) (m : Memory) (admits : verdictOf (admissionRows r p m) ≡ Passed) where
   -- where the reply leads: the passes work there
   abbrev there : Stepped
-  there = repliedOf (r .stage) p r m .core
+  there = receivedOf r p m .core
 
   going : askingAt (r .stage) .ended ≡ false
   going = verdict-first (admissionRows r p m) .1 .0 admits 19 (omega arith)

@@ -11,24 +11,18 @@ use Rattle.words.specs.Words.{_⊘_}
 use Rattle.words.specs.Constants.{«1·0»}
 use Rattle.words.specs.Loop.{loop}
 use Rattle.words.proofs.Branch.{pick-yes, pick-no, pick-all}
-use Rattle.state.specs.declared.run.Counts.{Counts}
 use Rattle.state.specs.declared.run.Run.{Run}
-use Rattle.state.specs.declared.run.Stage.the-variants as stage
-use Rattle.state.specs.declared.talk.Request.the-variants as request
-use Rattle.state.specs.declared.talk.Place.the-variants.{YToF0, ContToF1}
 use Rattle.state.specs.Memory.{Newton, newton}
 use Rattle.solve_blocks.specs.declared.step.Call.{Call}
 use Rattle.solve_blocks.specs.declared.step.Step.{Step}
 use Rattle.solve_blocks.specs.declared.step.Step.the-variants as step
-use Rattle.solve_blocks.specs.Setters.{_▸_, inCounts, inControl, inNumbers, atStage, counts}
-use Rattle.solve_blocks.specs.Setters.{oneOde, oneLu, setFirst, setX, setXold, setHold, setHnew}
+use Rattle.solve_blocks.specs.Setters.{_▸_, inCounts, inNumbers, oneLu, setHnew}
 use Rattle.solve_blocks.specs.Events.{Logged}
 use Rattle.solve_blocks.specs.Entries.{Three, three}
-use Rattle.solve_blocks.specs.Matrices.{call}
 use Rattle.solve_blocks.specs.Estimate.{Sides, sides, defectOf, sidesOf, solvedFirst, errorOf, plusAt, sumAt}
-use Rattle.solve_blocks.specs.Judge.{quotOf, predictiveQuot, remembered, acceptedOf, rejectedOf}
+use Rattle.solve_blocks.specs.Judge.{quotOf, predictiveQuot, remembered, acceptedPoint, acceptedOf, rejectedOf}
 use Rattle.solve_blocks.specs.Judge.{Moved, moved, movedOf, askAccepted, Judged, judged, judgedOf}
-use Rattle.solve_blocks.specs.Judge.{Estimated, estimated, testedOf, estimateOf, refinedOf}
+use Rattle.solve_blocks.specs.Judge.{Estimated, estimated, askRefinement, testedOf, estimateOf, refinedOf}
 use Rattle.solve_blocks.specs.Needs.{Fit, StepFit}
 use Rattle.solve_blocks.proofs.FitLaws.{fit-less, counted-fit}
 
@@ -39,24 +33,22 @@ pub record Both (a b a₀ b₀ : List Float) : Type 0 where
 
 -- ---- an acceptance
 
--- what is stored after the controller's memory, the count being k
-abbrev pub acceptedWith : Run → ℕ → Run → Run
-acceptedWith r k t =
-    t ▸ inCounts (λ (c : Counts). counts (c .ode) (c .jac) (c .lu) (c .total) k (c .rejected))
-    ▸ inControl (setFirst false)
-    ▸ inNumbers (setXold (r .numbers .x))
-    ▸ inNumbers (setHold (r .numbers .h))
-    ▸ inNumbers (setX (r .numbers .xph))
-
--- the code reads the count before that memory is written
-pub accepted-by : (r : Run) (err quot q : Float) (t : Run) → q ≡ predictiveQuot r err quot
+pub accepted-by : (r : Run) (err quot q : Float) (t s : Run) → q ≡ predictiveQuot r err quot
     → t ≡ remembered err (r ▸ inNumbers (setHnew (r .numbers .h ⊘ q)))
-    → acceptedWith r (r .counts .accepted + 1) t ≡ acceptedOf r err quot
+    → s ≡ acceptedPoint t → s ≡ acceptedOf r err quot
 unfolding acceptedOf
-accepted-by r err quot q t e f =
-    rw (f, e)
-    (pick-all (λ (t : Run). acceptedWith r (r .counts .accepted + 1) t ≡ acceptedWith r (t .counts .accepted + 1) t)
-    (r .settings .predictive) _ _ (λ _. refl) (λ _. refl))
+accepted-by r err quot q t s e f g = rw (g, f, e)
+
+-- the controller's memory is no count
+pub remembered-counts : (err : Float) (r s : Run) → s ≡ remembered err r → s .counts ≡ r .counts
+remembered-counts err r s e =
+    ap (λ (t : Run). t .counts) e
+    ∙ pick-all (λ (t : Run). t .counts ≡ r .counts) (r .settings .predictive) _ _ (λ _. refl) (λ _. refl)
+
+-- the first acceptance is over, and counted
+pub accepted-counted : (r : Run)
+    → (acceptedPoint r .counts .accepted ≡ r .counts .accepted + 1) × (acceptedPoint r .control .first ≡ false)
+accepted-counted r = (refl, refl)
 
 pub accepted-room : {n : ℕ} (r : Run) (err quot : Float) (s : Run) → s ≡ acceptedOf r err quot → Fit 1 n r
     → s .counts .ode + 1 < 2 ^ 64
@@ -71,7 +63,7 @@ module _ (r : Run) (err : Float) (z : Three) (y cont : List Float) where
       → q ≡ quotOf (r .settings) (r .control .«newt_iter») err
       → moved y′ cont′ ≡ movedOf (r .shape .n) z (moved y cont)
       → s ≡ acceptedOf r err q
-      → a ≡ call (s ▸ inCounts oneOde ▸ atStage stage.Accepted) (request.Derivative (s .numbers .x)) YToF0
+      → a ≡ askAccepted s
       → judged (step.Asked a) y′ cont′ ≡ judgedOf r err z y cont .core
   unfolding judgedOf
   judge-accepted q y′ cont′ s a h e m f g =
@@ -80,7 +72,8 @@ module _ (r : Run) (err : Float) (z : Three) (y cont : List Float) where
         f,
         e,
       ) (ap (λ (m : Moved).
-      judged (askAccepted (acceptedOf r err (quotOf (r .settings) (r .control .«newt_iter») err))) (m .y) (m .cont))
+      judged (step.Asked (askAccepted (acceptedOf r err (quotOf (r .settings) (r .control .«newt_iter») err))))
+      (m .y) (m .cont))
       m)
       ∙ sym (ap (λ (l : Logged Judged). l .core) (pick-yes _ _ h))
 
@@ -94,7 +87,7 @@ module _ (r : Run) (err : Float) (z : Three) (y cont : List Float) where
   pub tested-asked : (cont′ : List Float) (a : Call)
       → (le «1·0» err && (r .control .first || r .control .reject)) ≡ true
       → cont′ ≡ loop (plusAt y) 0 (r .shape .n) cont
-      → a ≡ call (r ▸ inCounts oneOde ▸ atStage stage.Refinement) (request.Derivative (r .numbers .x)) ContToF1
+      → a ≡ askRefinement r
       → judged (step.Asked a) y cont′ ≡ testedOf r err z y cont .core
   unfolding testedOf
   tested-asked cont′ a h e f = rw (f, e) (sym (ap (λ (l : Logged Judged). l .core) (pick-yes _ _ h)))

@@ -1,6 +1,7 @@
 -- A run which fits still fits past a report.
 --     refit        a run that fits, with another control within its bounds and other numbers
 use Prim.Native.Nat.{ℕ, _+_, _≤_}
+use mathlib.Core.Path.{_≡_, refl}
 use native.Mathlib.Omega.{arith}
 use lib.Ieee.{Float}
 use Rattle.words.proofs.Branch.{pick-all}
@@ -14,7 +15,7 @@ use Rattle.solve_blocks.specs.declared.step.Step.{Step}
 use Rattle.solve_blocks.specs.Setters.{inControl, inNumbers}
 use Rattle.solve_blocks.specs.Events.{Logged}
 use Rattle.solve_blocks.specs.Needs.{Fit, StepFit, HeardFit}
-use Rattle.solve_blocks.specs.Report.{reportedOf, grownOf, renewedOf, arrivedOf}
+use Rattle.solve_blocks.specs.Report.{askModified, reportedOf, grownOf, renewedOf, arrivedOf}
 use Rattle.solve_blocks.proofs.FitLaws.{fit-less}
 
 -- ---- a run that fits
@@ -34,6 +35,11 @@ reported-fit k again reply.Continue t = fit-less t
 reported-fit k again reply.Interrupt t = tt
 reported-fit k again (reply.Modified x) t = tt
 reported-fit k again (reply.Mark xo) t = refit _ _ (t .rounds) (t .failures) (fit-less t)
+
+-- the derivative at a modified point is counted
+pub modified-counted : (again : Stage) (x : Float) (r : Run)
+    → askModified again x r .run .counts .ode ≡ r .counts .ode + 1
+modified-counted again x r = refl
 
 module _ {k n : ℕ} where
   grown-fit : (r : Run) (h : Float) → Fit k n r → Fit k n (grownOf r h)

@@ -24,17 +24,18 @@ use Rattle.state.specs.declared.talk.Reply.the-variants as reply
 use Rattle.state.specs.declared.talk.Request.the-variants as request
 use Rattle.state.specs.Memory.{Factors}
 use Rattle.solve_blocks.specs.declared.step.Call.{Call}
-use Rattle.solve_blocks.specs.Setters.{_▸_, inCounts, inControl, inNumbers, atStage, oneOde, oneJac}
-use Rattle.solve_blocks.specs.Setters.{oneLu, oneTotal, oneAccepted, oneRejected, setFirst, setLast}
-use Rattle.solve_blocks.specs.Setters.{setReject, setCallJac, setCallDecomp, setSingular, setNewt, setX}
-use Rattle.solve_blocks.specs.Setters.{setXold, setXph, setH, setHold, setHnew, setHhfac, setHAcc}
+use Rattle.solve_blocks.specs.Setters.{_▸_, inCounts, inControl, inNumbers, atStage, oneJac}
+use Rattle.solve_blocks.specs.Setters.{oneLu, oneTotal, oneRejected, setLast}
+use Rattle.solve_blocks.specs.Setters.{setReject, setCallJac, setCallDecomp, setSingular, setNewt}
+use Rattle.solve_blocks.specs.Setters.{setXph, setH, setHnew, setHhfac, setHAcc}
 use Rattle.solve_blocks.specs.Setters.{setErrAcc, setFaccon, setTheta, setDynold, setThqold, setXout}
 use Rattle.solve_blocks.specs.Events.{Event, real-singular, complex-singular}
 use Rattle.solve_blocks.specs.Events.{factored, over-limit, too-small, begun}
 use Rattle.solve_blocks.specs.Events.{rounds-used, diverged, slow, error-solve}
 use Rattle.solve_blocks.specs.Events.{failed, accepted, aimed, not-aimed}
-use Rattle.solve_blocks.specs.Matrices.{call, endedOf, missed}
-use Rattle.solve_blocks.specs.Report.{isInterrupt}
+use Rattle.solve_blocks.specs.Matrices.{call, askDerivative, endedOf, missedOf}
+use Rattle.solve_blocks.specs.Judge.{acceptedPoint, askAccepted, askRefinement}
+use Rattle.solve_blocks.specs.Report.{askModified, isInterrupt}
 use Rattle.solve_blocks.specs.Needs.{FactorsLong}
 use Rattle.solve_blocks.proofs.Tries.{e1Stop, e2Stop}
 
@@ -80,9 +81,7 @@ stepOf h hhfac r = r ▸ inNumbers (setH h) ▸ inNumbers (setHhfac hhfac)
 -- the attempt is accepted
 abbrev pub acceptedRun : Float → Float → Float → Run → Run
 acceptedRun hnew hacc erracc r =
-    r ▸ inNumbers (setHnew hnew) ▸ inNumbers (setHAcc hacc)
-    ▸ inNumbers (setErrAcc erracc) ▸ inCounts oneAccepted ▸ inControl (setFirst false)
-    ▸ inNumbers (setXold (r .numbers .x)) ▸ inNumbers (setHold (r .numbers .h)) ▸ inNumbers (setX (r .numbers .xph))
+    r ▸ inNumbers (setHnew hnew) ▸ inNumbers (setHAcc hacc) ▸ inNumbers (setErrAcc erracc) ▸ acceptedPoint
 
 -- past a report: failures are forgotten, and so is the reject mark; which matrices are wanted is any
 abbrev pub cleared : Float → Float → Float → Bool → Bool → Run → Run
@@ -122,7 +121,7 @@ pub record Closed (p : Reply) (mass jac : List Float) (P : List Event → Positi
   pub interrupted : {es : List Event} {s : Stage} {r : Run} → isInterrupt p ≡ true → P es (reporting s r)
       → P es (asked (endedOf status.UserInterrupt r))
   pub modified : {es : List Event} {s : Stage} {r : Run} (x : Float) → p ≡ reply.Modified x → P es (reporting s r)
-      → P es (asked (call (r ▸ inNumbers (setX x) ▸ inCounts oneOde ▸ atStage s) (request.Derivative x) place.YToF0))
+      → P es (asked (askModified s x r))
   pub first-told : {es : List Event} {r : Run} (mark : Number) → isInterrupt p ≡ false → isModified p ≡ false
       → P es (reporting stage.FirstDerivativeAgain r) → P es (main (r ▸ inNumbers (setXout mark)))
   pub later-told : {es : List Event} {r : Run} (mark : Number) → isInterrupt p ≡ false → isModified p ≡ false
@@ -175,7 +174,7 @@ pub record Closed (p : Reply) (mass jac : List Float) (P : List Event → Positi
   pub sixth : {es : List Event} {r : Run} → 5 < r .control .«singular_count» + 1 → P es (failing r)
       → P es (asked (endedOf status.SingularMatrix (r ▸ inControl (setSingular (r .control .«singular_count» + 1)))))
   pub another : {es : List Event} {r : Run} (h hhfac : Float) → r .control .«singular_count» + 1 ≤ 5 → P es (failing r)
-      → P es (main (r ▸ inControl (setSingular (r .control .«singular_count» + 1)) ▸ stepOf h hhfac ▸ inControl missed))
+      → P es (main (r ▸ inControl (setSingular (r .control .«singular_count» + 1)) ▸ stepOf h hhfac ▸ missedOf))
   -- an attempt
   pub limited : {es : List Event} {r : Run} → r .settings .«max_steps» < r .counts .total + 1 → P es (attempt r)
       → P (es ++ (over-limit ∷ [])) (asked (endedOf status.NeedLargerNMax (r ▸ inCounts oneTotal)))
@@ -186,13 +185,12 @@ pub record Closed (p : Reply) (mass jac : List Float) (P : List Event → Positi
   pub begins : {es : List Event} {r : Run} (faccon theta x : Float) → r .counts .total + 1 ≤ r .settings .«max_steps»
       → TooSmall r false → P es (attempt r)
       → P (es ++ (begun (r .numbers .h) (r .numbers .x) ∷ []))
-      (asked
-      (call (begunOf faccon theta r ▸ inCounts oneOde ▸ atStage stage.Newton1) (request.Derivative x) place.ContToZ1))
+      (asked (askDerivative (begunOf faccon theta r) stage.Newton1 x place.ContToZ1))
   -- the Newton iteration
   pub first-stage : {es : List Event} {r : Run} (x : Float) → P es (replied stage.Newton1 r)
-      → P es (asked (call (r ▸ inCounts oneOde ▸ atStage stage.Newton2) (request.Derivative x) place.ContToZ2))
+      → P es (asked (askDerivative r stage.Newton2 x place.ContToZ2))
   pub second-stage : {es : List Event} {r : Run} (x : Float) → P es (replied stage.Newton2 r)
-      → P es (asked (call (r ▸ inCounts oneOde ▸ atStage stage.Newton3) (request.Derivative x) place.ContToZ3))
+      → P es (asked (askDerivative r stage.Newton3 x place.ContToZ3))
   pub not-near : {es : List Event} {r : Run} (theta thqold faccon dynold : Float) → P es (replied stage.Newton3 r)
       → P es (newton (iterated theta thqold faccon dynold r))
   pub near : {es : List Event} {r : Run} (theta thqold faccon dynold : Float) → P es (replied stage.Newton3 r)
@@ -207,32 +205,28 @@ pub record Closed (p : Reply) (mass jac : List Float) (P : List Event → Positi
   pub slow-book : {es : List Event} {r : Run} (theta thqold faccon dynold dyth h hhfac : Float)
       → r .settings .rule ≡ rule.Book → le «1·0» dyth ≡ true → P es (replied stage.Newton3 r)
       → P (es ++ (slow dyth ∷ []))
-      (main (iterated theta thqold faccon dynold r ▸ slowed h hhfac ▸ inControl missed))
+      (main (iterated theta thqold faccon dynold r ▸ slowed h hhfac ▸ missedOf))
   pub used-up : {es : List Event} {r : Run} → r .settings .«newton_maxiter» ≤ r .control .«newt_iter» → P es (newton r)
       → P (es ++ (rounds-used (r .control .«newt_iter») ∷ [])) (failing r)
   pub another-round : {es : List Event} {r : Run} (x : Float)
       → r .control .«newt_iter» < r .settings .«newton_maxiter» → P es (newton r)
-      → P es (asked (call (r ▸ inCounts oneOde ▸ atStage stage.Newton1) (request.Derivative x) place.ContToZ1))
+      → P es (asked (askDerivative r stage.Newton1 x place.ContToZ1))
   -- the error
   pub refines : {es : List Event} {r : Run} → P es (estimate r)
-      → P (es
-      ++ (error-solve
-      ∷ [])) (asked (call (r ▸ inCounts oneLu ▸ inCounts oneOde ▸ atStage stage.Refinement)
-      (request.Derivative (r .numbers .x)) place.ContToF1))
+      → P (es ++ (error-solve ∷ [])) (asked (askRefinement (r ▸ inCounts oneLu)))
   pub estimated : {es : List Event} {r : Run} → P es (estimate r)
       → P (es ++ (error-solve ∷ [])) (judging (r ▸ inCounts oneLu))
   pub refined : {es : List Event} {r : Run} → P es (replied stage.Refinement r) → P es (judging r)
   pub accepts : {es : List Event} {r : Run} (err hnew hacc erracc : Float) → le err «1·0» ≡ true → P es (judging r)
       → P (es ++ (accepted err (r .numbers .h) ∷ []))
-      (asked (call (acceptedRun hnew hacc erracc r ▸ inCounts oneOde ▸ atStage stage.Accepted)
-      (request.Derivative (r .numbers .xph)) place.YToF0))
+      (asked (askAccepted (acceptedRun hnew hacc erracc r)))
   pub fails-first : {es : List Event} {r : Run} (err hnew h hhfac : Float)
       → le err «1·0» ≡ false → r .control .first ≡ true → P es (judging r)
-      → P (es ++ (failed err ∷ [])) (main (r ▸ inNumbers (setHnew hnew) ▸ stepOf h hhfac ▸ inControl missed))
+      → P (es ++ (failed err ∷ [])) (main (r ▸ inNumbers (setHnew hnew) ▸ stepOf h hhfac ▸ missedOf))
   pub fails-later : {es : List Event} {r : Run} (err hnew h hhfac : Float)
       → le err «1·0» ≡ false → r .control .first ≡ false → P es (judging r)
       → P (es ++ (failed err ∷ []))
-      (main (r ▸ inNumbers (setHnew hnew) ▸ stepOf h hhfac ▸ inCounts oneRejected ▸ inControl missed))
+      (main (r ▸ inNumbers (setHnew hnew) ▸ stepOf h hhfac ▸ inCounts oneRejected ▸ missedOf))
   pub accepted-filled : {es : List Event} {r : Run} (offered : Bool) → P es (replied stage.Accepted r)
       → P es (asked
       (call (r ▸ atStage stage.Report) (request.Report (r .numbers .xold) (r .numbers .x) offered) place.Nowhere))

@@ -9,15 +9,15 @@ use Rattle.state.specs.Memory.{Memory}
 use Rattle.opening.specs.Rows.{verdictOf}
 use Rattle.opening.specs.Admission.{admissionRows}
 use Rattle.solve_blocks.specs.Matrices.{passesOn}
-use Rattle.solve_blocks.specs.Advance.{repliedOf, passedOf}
+use Rattle.solve_blocks.specs.Advance.{receivedOf, passedOf}
 use Rattle.solve_blocks.proofs.AdmittedLaws.{admitted}
 use Rattle.solve_blocks.proofs.FitLaws.{passes-settle}
 use Rattle.solve_blocks.proofs.RepliedLaws.{replied-fit}
 
 pub settled : (r : Run) (p : Reply) (m : Memory) → verdictOf (admissionRows r p m) ≡ Passed
-    → passesOn (passedOf (repliedOf (r .stage) p r m .core) .core .step) ≡ false
+    → passesOn (passedOf (receivedOf r p m .core) .core .step) ≡ false
 settled r p m e =
     let a = admitted r p m e in
-    let t = repliedOf (r .stage) p r m .core in
+    let t = receivedOf r p m .core in
     passes-settle 2 (r .shape .n) (t .memory .given .mass) (t .memory .given .jac) (t .step) (t .memory .factors)
     (replied-fit (r .shape .n) m p r (a .fit) (a .stage .rounds) t refl)

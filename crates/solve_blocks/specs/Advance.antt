@@ -107,6 +107,10 @@ repliedOf stage.Report p r m = inMemory m (returnedOf (reportedOf stage.Derivati
 repliedOf stage.DerivativeAgain p r m = inMemory m (arrivedOf r)
 repliedOf (stage.Ended s) p r m = quiet (stepped (step.Asked (endedOf s r)) m)
 
+-- every reply of an admitted advance is received here, before anything of it is used
+abbrev pub receivedOf : Run → Reply → Memory → Logged Stepped
+receivedOf r p m = repliedOf (r .stage) p r m
+
 -- ---- from a label to the next request
 
 -- the matrices (radau.rs:376-419)
@@ -159,7 +163,7 @@ asked d = advanceOutcome (answer.Asked (d .call .run) (d .call .request) (d .cal
 unfoldable pub advanceBy : Verdict → Run → Reply → Memory → Logged AdvanceOutcome
 advanceBy (verdict.Refused x) r p m = quiet (advanceOutcome (answer.Refused r x) m)
 advanceBy verdict.Passed r p m =
-    let l = andThen (andThen (repliedOf (r .stage) p r m) passedOf) (λ (t : Stepped). calledOf (t .step) (t .memory)) in
+    let l = andThen (andThen (receivedOf r p m) passedOf) (λ (t : Stepped). calledOf (t .step) (t .memory)) in
     logged (asked (l .core)) (l .log)
 
 abbrev pub advanceOf : Run → Reply → Memory → Logged AdvanceOutcome

@@ -16,17 +16,16 @@ use Rattle.state.specs.declared.run.Run.{Run}
 use Rattle.state.specs.declared.run.Status.the-variants.{NeedLargerNMax, StepSizeTooSmall}
 use Rattle.state.specs.declared.run.Stage.{Stage}
 use Rattle.state.specs.declared.run.Stage.the-variants as stage
-use Rattle.state.specs.declared.talk.Request.the-variants as request
 use Rattle.state.specs.declared.talk.Place.{Place}
 use Rattle.state.specs.declared.talk.Place.the-variants.{ContToZ1}
 use Rattle.state.specs.Memory.{Newton, newton, zeros}
 use Rattle.solve_blocks.specs.declared.step.Call.{Call}
-use Rattle.solve_blocks.specs.Setters.{_▸_, inCounts, inControl, inNumbers, atStage, oneOde}
+use Rattle.solve_blocks.specs.Setters.{_▸_, inCounts, inControl, inNumbers}
 use Rattle.solve_blocks.specs.Setters.{oneTotal, setNewt, setXph, setFaccon, setTheta}
 use Rattle.solve_blocks.specs.Events.{begun, over-limit, too-small, Logged, logged}
 use Rattle.solve_blocks.specs.Entries.{combined}
 use Rattle.solve_blocks.specs.Scale.{weightedOf}
-use Rattle.solve_blocks.specs.Matrices.{call, endedOf}
+use Rattle.solve_blocks.specs.Matrices.{askDerivative, endedOf}
 
 -- ---- the stages' amounts, asked of the host
 
@@ -45,8 +44,7 @@ staged c cont = record { call = c; cont = cont }
 -- three at once [radau.rs:511]
 unfoldable pub askStageOf : Run → Stage → Float → Place → List Float → List Float → List Float → Staged
 askStageOf r s x p y z cont =
-    staged (call (r ▸ inCounts oneOde ▸ atStage s) (request.Derivative x) p)
-    (loop (stageSumAt y z) 0 (r .shape .n) cont)
+    staged (askDerivative r s x p) (loop (stageSumAt y z) 0 (r .shape .n) cont)
 
 -- the first stage [radau.rs:502]
 abbrev pub askFirstOf : Run → List Float → List Float → List Float → Staged

@@ -14,17 +14,17 @@ use Rattle.scalar.specs.Coefficients.{C1, C2, C1M1, C2M1, C1MC2}
 use Rattle.state.specs.declared.settings.Settings.{Settings}
 use Rattle.state.specs.declared.run.Run.{Run}
 use Rattle.state.specs.declared.run.Stage.the-variants as stage
-use Rattle.state.specs.declared.talk.Request.the-variants as request
 use Rattle.state.specs.declared.talk.Place.the-variants.{YToF0, ContToF1}
 use Rattle.state.specs.Memory.{Newton}
+use Rattle.solve_blocks.specs.declared.step.Call.{Call}
 use Rattle.solve_blocks.specs.declared.step.Step.{Step}
 use Rattle.solve_blocks.specs.declared.step.Step.the-variants as step
-use Rattle.solve_blocks.specs.Setters.{_▸_, inCounts, inControl, inNumbers, atStage, oneOde}
+use Rattle.solve_blocks.specs.Setters.{_▸_, inCounts, inControl, inNumbers}
 use Rattle.solve_blocks.specs.Setters.{oneLu, oneAccepted, oneRejected, setFirst, setX, setXold}
 use Rattle.solve_blocks.specs.Setters.{setH, setHold, setHnew, setHhfac, setHAcc, setErrAcc}
 use Rattle.solve_blocks.specs.Events.{error-solve, failed, accepted, Logged, logged, quiet, noted}
 use Rattle.solve_blocks.specs.Entries.{asFloat, Three, three}
-use Rattle.solve_blocks.specs.Matrices.{call, missed}
+use Rattle.solve_blocks.specs.Matrices.{askDerivative, missedOf}
 use Rattle.solve_blocks.specs.Estimate.{defectOf, sides, sidesOf, solvedFirst, errorOf, plusAt, sumAt}
 
 -- ---- the step that the error asks for
@@ -91,22 +91,24 @@ remembered err r =
     (r ▸ inNumbers (setHAcc (r .numbers .h)) ▸ inNumbers (setErrAcc (maxOf err «1e-2»)))
     r
 
-unfoldable pub acceptedOf : Run → Float → Float → Run
-acceptedOf r err quot =
-    r ▸ inNumbers (setHnew (r .numbers .h ⊘ predictiveQuot r err quot))
-    ▸ remembered err
+-- what every acceptance leaves in the run, whatever its error was
+abbrev pub acceptedPoint : Run → Run
+acceptedPoint r =
     -- [radau.rs:677-679]
-    ▸ inCounts oneAccepted
+    r ▸ inCounts oneAccepted
     ▸ inControl (setFirst false)
     -- [radau.rs:694-697]
     ▸ inNumbers (setXold (r .numbers .x))
     ▸ inNumbers (setHold (r .numbers .h))
     ▸ inNumbers (setX (r .numbers .xph))
 
+unfoldable pub acceptedOf : Run → Float → Float → Run
+acceptedOf r err quot =
+    r ▸ inNumbers (setHnew (r .numbers .h ⊘ predictiveQuot r err quot)) ▸ remembered err ▸ acceptedPoint
+
 -- the derivative at the new point is asked [radau.rs:710-712]
-abbrev pub askAccepted : Run → Step
-askAccepted r =
-    step.Asked (call (r ▸ inCounts oneOde ▸ atStage stage.Accepted) (request.Derivative (r .numbers .x)) YToF0)
+abbrev pub askAccepted : Run → Call
+askAccepted r = askDerivative r stage.Accepted (r .numbers .x) YToF0
 
 -- ---- a rejection
 
@@ -114,8 +116,8 @@ askAccepted r =
 unfoldable pub rejectedOf : Run → Float → Run
 rejectedOf r hnew =
     pick (r .control .first)
-    (r ▸ inNumbers (setH (r .numbers .h ⊗ «0·1»)) ▸ inNumbers (setHhfac «0·1») ▸ inControl missed)
-    (r ▸ inNumbers (setHhfac (hnew ⊘ r .numbers .h)) ▸ inNumbers (setH hnew) ▸ inCounts oneRejected ▸ inControl missed)
+    (r ▸ inNumbers (setH (r .numbers .h ⊗ «0·1»)) ▸ inNumbers (setHhfac «0·1») ▸ missedOf)
+    (r ▸ inNumbers (setHhfac (hnew ⊘ r .numbers .h)) ▸ inNumbers (setH hnew) ▸ inCounts oneRejected ▸ missedOf)
 
 -- ---- the judgement
 
@@ -134,7 +136,8 @@ judgedOf r err z y cont =
     let m = movedOf (r .shape .n) z (moved y cont) in
     let hnew = r .numbers .h ⊘ quot in
     pick (le err «1·0»)
-    (logged (judged (askAccepted (acceptedOf r err quot)) (m .y) (m .cont)) (accepted err (r .numbers .h) ∷ []))
+    (logged (judged (step.Asked (askAccepted (acceptedOf r err quot))) (m .y) (m .cont))
+    (accepted err (r .numbers .h) ∷ []))
     (logged (judged (step.Main (rejectedOf (r ▸ inNumbers (setHnew hnew)) hnew)) y cont) (failed err ∷ []))
 
 -- ---- the estimate
@@ -152,15 +155,15 @@ estimated s y cont f1 f2 = record { step = s; y = y; cont = cont; f1 = f1; f2 = 
 abbrev pub withJudged : List Float → List Float → Logged Judged → Logged Estimated
 withJudged f1 f2 l = logged (estimated (l .core .step) (l .core .y) (l .core .cont) f1 f2) (l .log)
 
--- before the first acceptance and after a rejection an error that is too large is refined by one derivative, at the
--- old x [radau.rs:648-649]
+-- the derivative that refines an error, at the old x [radau.rs:653-654]
+abbrev pub askRefinement : Run → Call
+askRefinement r = askDerivative r stage.Refinement (r .numbers .x) ContToF1
+
+-- before the first acceptance and after a rejection an error that is too large is refined [radau.rs:648-649]
 unfoldable pub testedOf : Run → Float → Three → List Float → List Float → Logged Judged
 testedOf r err z y cont =
     pick (le «1·0» err && (r .control .first || r .control .reject))
-    -- [radau.rs:653-654]
-    (quiet (judged
-    (step.Asked (call (r ▸ inCounts oneOde ▸ atStage stage.Refinement) (request.Derivative (r .numbers .x)) ContToF1)) y
-    (loop (plusAt y) 0 (r .shape .n) cont)))
+    (quiet (judged (step.Asked (askRefinement r)) y (loop (plusAt y) 0 (r .shape .n) cont)))
     (judgedOf r err z y cont)
 
 -- the first estimate (radau.rs:622-646); its solve counts as a decomposition [radau.rs:638]

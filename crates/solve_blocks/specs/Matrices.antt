@@ -17,10 +17,12 @@ use Rattle.matrix.specs.Elimination.{worked}
 use Rattle.matrix.specs.Lu.{real, luDecompOf}
 use Rattle.matrix.specs.LuComplex.{complexKind, luDecompComplexOf}
 use Rattle.state.specs.declared.settings.Mass.{Mass}
+use Rattle.state.specs.declared.settings.Rule.{Rule}
 use Rattle.state.specs.declared.run.Control.{Control}
 use Rattle.state.specs.declared.run.Run.{Run}
 use Rattle.state.specs.declared.run.Status.{Status}
 use Rattle.state.specs.declared.run.Status.the-variants.{SingularMatrix}
+use Rattle.state.specs.declared.run.Stage.{Stage}
 use Rattle.state.specs.declared.run.Stage.the-variants as stage
 use Rattle.state.specs.declared.talk.Request.{Request}
 use Rattle.state.specs.declared.talk.Request.the-variants as request
@@ -30,8 +32,8 @@ use Rattle.state.specs.Memory.{Factors, factors}
 use Rattle.solve_blocks.specs.declared.step.Call.{Call}
 use Rattle.solve_blocks.specs.declared.step.Step.{Step}
 use Rattle.solve_blocks.specs.declared.step.Step.the-variants as step
-use Rattle.solve_blocks.specs.Setters.{_▸_, inCounts, inControl, inNumbers, atStage, oneLu}
-use Rattle.solve_blocks.specs.Setters.{setSingular, setReject, setLast, setCallDecomp, setH, setHhfac}
+use Rattle.solve_blocks.specs.Setters.{_▸_, inCounts, inControl, inNumbers, atStage, oneOde, oneLu}
+use Rattle.solve_blocks.specs.Setters.{setSingular, setReject, setLast, setCallJac, setCallDecomp, setH, setHhfac}
 use Rattle.solve_blocks.specs.Events.{real-singular, complex-singular, factored, Logged, logged, quiet, andThen}
 use Rattle.solve_blocks.specs.Entries.{massAt, jacAt, Three, three}
 
@@ -41,14 +43,26 @@ use Rattle.solve_blocks.specs.Entries.{massAt, jacAt, Three, three}
 abbrev pub call : Run → Request → Place → Call
 call r q p = record { run = r; request = q; place = p }
 
+-- for a derivative at x, which is counted with its request
+abbrev pub askDerivative : Run → Stage → Float → Place → Call
+askDerivative r s x p = call (r ▸ inCounts oneOde ▸ atStage s) (request.Derivative x) p
+
 -- `break 'main` with a status
 abbrev pub endedOf : Status → Run → Call
 endedOf s r = call (r ▸ atStage (stage.Ended s)) (request.Ended s) Nowhere
 
--- after any attempt that is not accepted: the matrices are made again, an aim doesn't survive, and the wish for a
--- Jacobian stays as it was
-abbrev pub missed : Control → Control
-missed c = c ▸ setReject true ▸ setLast false ▸ setCallDecomp true
+-- whether a Jacobian is wanted past an attempt that failed: the wish stays as it was, whatever the rule
+unfoldable pub wishedOf : Rule → Control → Bool
+wishedOf q c = c .«call_jac»
+
+-- the matrices are made again, and an aim doesn't survive
+abbrev pub missed : Rule → Control → Control
+missed q c = c ▸ setReject true ▸ setLast false ▸ setCallDecomp true ▸ setCallJac (wishedOf q c)
+
+-- after any attempt that is not accepted: a singular matrix, rounds used up, a theta that is too large, under the book
+-- rule the slow verdict, and an error that is too large, before the first acceptance and after it
+abbrev pub missedOf : Run → Run
+missedOf r = r ▸ inControl (missed (r .settings .rule))
 
 -- the failure is counted: the sixth ends the run, another halves the step [radau.rs:393-403] [again radau.rs:408-418]
 -- [alike radau.rs:485-496] [alike radau.rs:586-597]; where the first two leave `call_decomp` alone it is true already
@@ -56,7 +70,7 @@ unfoldable pub failedOf : Run → Step
 failedOf r =
     let s = r ▸ inControl (setSingular (r .control .«singular_count» + 1)) in
     pick (ltb 5 (r .control .«singular_count» + 1)) (step.Asked (endedOf SingularMatrix s))
-    (step.Main (s ▸ inNumbers (setH (r .numbers .h ⊗ «0·5»)) ▸ inNumbers (setHhfac «0·5») ▸ inControl missed))
+    (step.Main (s ▸ inNumbers (setH (r .numbers .h ⊗ «0·5»)) ▸ inNumbers (setHhfac «0·5») ▸ missedOf))
 
 -- ---- the matrices
 

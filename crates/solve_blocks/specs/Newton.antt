@@ -45,7 +45,7 @@ use Rattle.solve_blocks.specs.Setters.{_▸_, inCounts, inControl, inNum
 use Rattle.solve_blocks.specs.Setters.{setH, setHhfac, setTheta, setThqold, setFaccon, setDynold}
 use Rattle.solve_blocks.specs.Events.{rounds-used, diverged, slow, Logged, logged, quiet}
 use Rattle.solve_blocks.specs.Entries.{massAt, asFloat, combined, Three, three}
-use Rattle.solve_blocks.specs.Matrices.{missed, failedOf}
+use Rattle.solve_blocks.specs.Matrices.{missedOf, failedOf}
 use Rattle.solve_blocks.specs.Attempt.{askFirstOf}
 
 -- ---- the head of the loop
@@ -142,7 +142,7 @@ remaining r = r .settings .«newton_maxiter» - 1 - r .control .«newt_iter»
 -- it (01, 'The book rule')
 unfoldable pub slowRound : Rule → Run → Round
 slowRound rule.Rust r = round.Estimate (r ▸ inControl (setLast false))
-slowRound rule.Book r = round.Over (step.Main (r ▸ inControl missed))
+slowRound rule.Book r = round.Over (step.Main (missedOf r))
 
 -- [radau.rs:576-580]
 unfoldable pub slowedOf : Run → Float → Round

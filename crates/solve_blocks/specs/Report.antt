@@ -21,12 +21,12 @@ use Rattle.solve_blocks.specs.declared.step.Heard.{Heard}
 use Rattle.solve_blocks.specs.declared.step.Heard.the-variants as heard
 use Rattle.solve_blocks.specs.declared.step.Step.{Step}
 use Rattle.solve_blocks.specs.declared.step.Step.the-variants as step
-use Rattle.solve_blocks.specs.Setters.{_▸_, inCounts, inControl, inNumbers, atStage, oneOde}
+use Rattle.solve_blocks.specs.Setters.{_▸_, inControl, inNumbers, atStage}
 use Rattle.solve_blocks.specs.Setters.{setLast, setReject, setCallJac, setCallDecomp}
 use Rattle.solve_blocks.specs.Setters.{setSingular, setX, setH, setHnew, setHhfac, setXout}
 use Rattle.solve_blocks.specs.Events.{aimed, not-aimed, Logged, logged, quiet}
 use Rattle.solve_blocks.specs.Attempt.{thet}
-use Rattle.solve_blocks.specs.Matrices.{call, endedOf}
+use Rattle.solve_blocks.specs.Matrices.{call, askDerivative, endedOf}
 
 -- ---- a report is asked
 
@@ -50,13 +50,17 @@ askReport r =
 
 -- ---- and answered
 
--- `again` is the stage of the derivative that a modified point asks for [radau.rs:340-358] [alike radau.rs:729-743]
+-- the host has put the run at x, and the derivative there is asked [radau.rs:349-353] [again radau.rs:734-738]
+abbrev pub askModified : Stage → Float → Run → Call
+askModified again x r = askDerivative (r ▸ inNumbers (setX x)) again x YToF0
+
+-- `again` is the stage of the derivative that a modified point asks for [radau.rs:340-348] [alike radau.rs:729-733]
 unfoldable pub reportedOf : Stage → Reply → Run → Heard
 reportedOf again reply.Filled r = heard.Reported r
 reportedOf again reply.Continue r = heard.Reported r
 reportedOf again reply.Interrupt r = heard.Asked (endedOf UserInterrupt r)
-reportedOf again (reply.Modified x) r =
-    heard.Asked (call (r ▸ inNumbers (setX x) ▸ inCounts oneOde ▸ atStage again) (request.Derivative x) YToF0)
+reportedOf again (reply.Modified x) r = heard.Asked (askModified again x r)
+-- [radau.rs:354-358] [again radau.rs:739-743]
 reportedOf again (reply.Mark xo) r = heard.Reported (r ▸ inNumbers (setXout (number.Given xo)))
 
 -- whether it breaks off

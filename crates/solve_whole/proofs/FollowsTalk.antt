@@ -21,7 +21,7 @@ use Rattle.solve_blocks.specs.declared.step.Call.{Call}
 use Rattle.solve_blocks.specs.declared.step.Step.{Step}
 use Rattle.solve_blocks.specs.declared.step.Step.the-variants as step
 use Rattle.solve_blocks.specs.Matrices.{call, passesOf, passAt}
-use Rattle.solve_blocks.specs.Advance.{Stepped, stepped, Called, called, repliedOf, passedOf, calledOf, advanceBy}
+use Rattle.solve_blocks.specs.Advance.{Stepped, stepped, Called, called, receivedOf, passedOf, calledOf, advanceBy}
 use Rattle.history.specs.Host.{isEnd}
 use Rattle.history.specs.History.{point, nextPoint}
 use Rattle.solve_whole.specs.Talk.{Exchange, Host, World, ask, replyOf, Talk}
@@ -98,8 +98,7 @@ module _ (host : Host) where
     -- the host is asked
     pub asked-on :
         isEnd (c .request) ≡ false →
-        From d (repliedOf (c .run .stage) (replyOf host c w) (c .run) (ask host c w .memory) .core)
-        (ask host c w .exchanges) R
+        From d (receivedOf (c .run) (replyOf host c w) (ask host c w .memory) .core) (ask host c w .exchanges) R
         →
         Sim (suc d) (step.Asked c) w R
     unfolding passesOf passAt loop pick calledOf advanceBy nextPoint
@@ -107,8 +106,7 @@ module _ (host : Host) where
 
     pub ask-on :
         isEnd (c .request) ≡ false →
-        From d (repliedOf (c .run .stage) (replyOf host c w) (c .run) (ask host c w .memory) .core)
-        (ask host c w .exchanges) R
+        From d (receivedOf (c .run) (replyOf host c w) (ask host c w .memory) .core) (ask host c w .exchanges) R
         →
         Sim d (step.Asked c) w R
     ask-on still g = fewer (suc d) d _ R (omega arith) (asked-on still g)

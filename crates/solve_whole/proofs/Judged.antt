@@ -6,17 +6,14 @@ use lib.Ieee.{Float, le}
 use Rattle.words.specs.Constants.{«1·0»}
 use Rattle.words.specs.Loop.{loop}
 use Rattle.state.specs.declared.run.Run.{Run}
-use Rattle.state.specs.declared.run.Stage.the-variants as stage
-use Rattle.state.specs.declared.talk.Place.the-variants as place
-use Rattle.state.specs.declared.talk.Request.the-variants as request
 use Rattle.state.specs.Memory.{Memory}
 use Rattle.solve_blocks.specs.declared.step.Round.the-variants as round
+use Rattle.solve_blocks.specs.declared.step.Step.the-variants as step
 use Rattle.solve_blocks.specs.Events.{Logged}
-use Rattle.solve_blocks.specs.Setters.{_▸_, inCounts, atStage, oneOde, oneLu}
+use Rattle.solve_blocks.specs.Setters.{_▸_, inCounts, oneLu}
 use Rattle.solve_blocks.specs.Entries.{three}
-use Rattle.solve_blocks.specs.Matrices.{call}
 use Rattle.solve_blocks.specs.Estimate.{solvedFirst, errorOf, plusAt, sumAt}
-use Rattle.solve_blocks.specs.Judge.{Judged, judgedOf, testedOf, estimateOf, refinedOf, askAccepted}
+use Rattle.solve_blocks.specs.Judge.{Judged, judgedOf, testedOf, estimateOf, refinedOf, askAccepted, askRefinement}
 use Rattle.solve_blocks.specs.MemorySetters.{setCont, setYCont}
 use Rattle.solve_blocks.specs.Advance.{Stepped, stepped, repliedOf, concludeOf}
 use Rattle.history.specs.Host.{isEnd}
@@ -42,7 +39,7 @@ testedAt err r m =
 
 module _ (host : Host) (d : ℕ) where
   pub judge-goes : (main next : Next) → Mains host d 0 main
-      → ((r : Run) (w : World) → Sound 0 r → Sim host d (askAccepted r) w (next r w))
+      → ((r : Run) (w : World) → Sound 0 r → Sim host d (step.Asked (askAccepted r)) w (next r w))
       → (err : Float) (r : Run) (w : World) → Sound 0 r
       → From host d (judgedAt err r (w .memory)) (w .exchanges) (judge host err r w main next)
   unfolding judgedOf judge
@@ -61,8 +58,7 @@ module _ (host : Host) (d : ℕ) where
     unfolding testedOf refinedOf repliedOf refine isEnd
     refine-goes goes err r w sound =
         let n = r .shape .n in
-        let c =
-        call (r ▸ inCounts oneOde ▸ atStage stage.Refinement) (request.Derivative (r .numbers .x)) place.ContToF1 in
+        let c = askRefinement r in
         let u = w ▸ onMemory (setCont (loop (plusAt (w .memory .amounts .y)) 0 n (w .memory .amounts .cont))) in
         let v = ask host c u in
         let m = v .memory in

@@ -7,8 +7,6 @@ use Rattle.state.specs.declared.run.Run.{Run}
 use Rattle.state.specs.declared.run.Stage.{Stage}
 use Rattle.state.specs.declared.run.Stage.the-variants as stage
 use Rattle.state.specs.declared.run.Status.the-variants as status
-use Rattle.state.specs.declared.talk.Place.the-variants as place
-use Rattle.state.specs.declared.talk.Request.the-variants as request
 use Rattle.state.specs.declared.talk.Reply.{Reply}
 use Rattle.state.specs.declared.talk.Reply.the-variants as reply
 use Rattle.state.specs.Memory.{Memory}
@@ -16,10 +14,10 @@ use Rattle.solve_blocks.specs.declared.step.Step.{Step}
 use Rattle.solve_blocks.specs.declared.step.Step.the-variants as step
 use Rattle.solve_blocks.specs.declared.step.Heard.{Heard}
 use Rattle.solve_blocks.specs.declared.step.Heard.the-variants as heard
-use Rattle.solve_blocks.specs.Setters.{_▸_, inCounts, inNumbers, atStage, oneOde, setX}
-use Rattle.solve_blocks.specs.Matrices.{call, endedOf}
+use Rattle.solve_blocks.specs.Setters.{_▸_}
+use Rattle.solve_blocks.specs.Matrices.{endedOf}
 use Rattle.solve_blocks.specs.Judge.{askAccepted}
-use Rattle.solve_blocks.specs.Report.{askFirstReport, askReport, reportedOf, arrivedOf}
+use Rattle.solve_blocks.specs.Report.{askFirstReport, askReport, askModified, reportedOf, arrivedOf}
 use Rattle.solve_blocks.specs.Advance.{Stepped, stepped, rescaled, startedOf, returnedOf, repliedOf}
 use Rattle.history.specs.Host.{isEnd}
 use Rattle.solve_whole.specs.Talk.{Host, World, onMemory, ask, replyOf}
@@ -95,7 +93,7 @@ module _ (host : Host) (d : ℕ) where
     replied-goes reply.Interrupt r w sound =
         ended-on host d (endedOf status.UserInterrupt r) w (ends status.UserInterrupt refl refl)
     replied-goes (reply.Modified x) r w sound =
-        let c = call (r ▸ inNumbers (setX x) ▸ inCounts oneOde ▸ atStage again) (request.Derivative x) place.YToF0 in
+        let c = askModified again x r in
         let v = ask host c w in
         ask-on host d c w _ refl (subst (λ (t : Stepped). From host d t (v .exchanges) (next (c .run) v))
         (sym (back _ _ _)) (goes (c .run) v sound))
@@ -118,10 +116,10 @@ module _ (host : Host) (d : ℕ) where
 
   -- a later one, past the derivative at the new point
   pub arrive-goes : (next : Next) → ((r : Run) (w : World) → Sound 0 r → Sim host d (arrivedOf r .core) w (next r w))
-      → (r : Run) (w : World) → Sound 0 r → Sim host d (askAccepted r) w (arrive host r w next)
+      → (r : Run) (w : World) → Sound 0 r → Sim host d (step.Asked (askAccepted r)) w (arrive host r w next)
   unfolding repliedOf arrive askReport isEnd
   arrive-goes next goes r w sound =
-      let a = call (r ▸ inCounts oneOde ▸ atStage stage.Accepted) (request.Derivative (r .numbers .x)) place.YToF0 in
+      let a = askAccepted r in
       let v = ask host a w ▸ onMemory (rescaled (a .run)) in
       let c = askReport (a .run) in
       ask-on host d a w _ refl

@@ -34,8 +34,8 @@ use Rattle.solve_blocks.specs.declared.step.Round.{Round}
 use Rattle.solve_blocks.specs.declared.step.Round.the-variants as round
 use Rattle.solve_blocks.specs.declared.step.Step.{Step}
 use Rattle.solve_blocks.specs.declared.step.Step.the-variants as step
-use Rattle.solve_blocks.specs.Setters.{_▸_, inCounts, inNumbers, atStage, oneOde}
-use Rattle.solve_blocks.specs.Setters.{oneLu, oneTotal, setX, setHnew, setXout}
+use Rattle.solve_blocks.specs.Setters.{_▸_, inCounts, inNumbers, atStage}
+use Rattle.solve_blocks.specs.Setters.{oneLu, oneTotal, setHnew, setXout}
 use Rattle.solve_blocks.specs.Entries.{three}
 use Rattle.solve_blocks.specs.Scale.{weightedOf}
 use Rattle.solve_blocks.specs.Matrices.{call, endedOf, failedOf, triedOf}
@@ -43,8 +43,8 @@ use Rattle.solve_blocks.specs.Jacobian.{askJacobianOf, perturbation, columnAt}
 use Rattle.solve_blocks.specs.Attempt.{askStageOf, guessOf, started}
 use Rattle.solve_blocks.specs.Newton.{roundOf}
 use Rattle.solve_blocks.specs.Estimate.{defectOf, sides, sidesOf, solvedFirst, errorOf, plusAt, sumAt}
-use Rattle.solve_blocks.specs.Judge.{moved, movedOf, quotOf, acceptedOf, rejectedOf}
-use Rattle.solve_blocks.specs.Report.{askFirstReport, askReport, arrivedOf}
+use Rattle.solve_blocks.specs.Judge.{moved, movedOf, quotOf, acceptedOf, askAccepted, rejectedOf, askRefinement}
+use Rattle.solve_blocks.specs.Report.{askFirstReport, askReport, askModified, arrivedOf}
 use Rattle.solve_blocks.specs.MemorySetters.{setScal, setCont, setYCont, setF12, setNewton, setFactors, setDifferences}
 use Rattle.solve_blocks.specs.MemorySetters.{setColumn}
 use Rattle.solve_blocks.specs.Advance.{rescaled}
@@ -87,7 +87,7 @@ module _ (host : Host) where
   replied again reply.Continue r w next = next r w
   replied again reply.Interrupt r w next = broken status.UserInterrupt r w
   replied again (reply.Modified x) r w next =
-      let c = call (r ▸ inNumbers (setX x) ▸ inCounts oneOde ▸ atStage again) (request.Derivative x) place.YToF0 in
+      let c = askModified again x r in
       next (c .run) (ask host c w)
   replied again (reply.Mark xo) r w next = next (r ▸ inNumbers (setXout (number.Given xo))) w
 
@@ -189,8 +189,7 @@ module _ (host : Host) where
   unfoldable pub refine : Float → Run → World → (Float → Next) → Result
   refine err r w next =
       let n = r .shape .n in
-      let c =
-      call (r ▸ inCounts oneOde ▸ atStage stage.Refinement) (request.Derivative (r .numbers .x)) place.ContToF1 in
+      let c = askRefinement r in
       let v =
       ask host c (w ▸ onMemory (setCont (loop (plusAt (w .memory .amounts .y)) 0 n (w .memory .amounts .cont)))) in
       let m = v .memory in
@@ -217,7 +216,7 @@ module _ (host : Host) where
   -- the derivative at the new point, the scale, and the report (radau.rs:710-743)
   unfoldable pub arrive : Run → World → Next → Result
   arrive r w next =
-      let c = call (r ▸ inCounts oneOde ▸ atStage stage.Accepted) (request.Derivative (r .numbers .x)) place.YToF0 in
+      let c = askAccepted r in
       report stage.DerivativeAgain (askReport (c .run)) (ask host c w ▸ onMemory (rescaled (c .run))) next
 
   -- ---- the whole

@@ -1,4 +1,4 @@
--- `compare/judge` meets its contract: the ways out are those of proofs/JudgeLaws.antt.
+-- `judge` meets its contract: the ways out are those of proofs/JudgeLaws.antt.
 use borrow.Author.Needs.{needs}
 use Rattle.solve_blocks.specs.Entries.{three}
 use Rattle.solve_blocks.proofs.JudgeLaws.{accepted-room, judge-accepted, judge-rejected}

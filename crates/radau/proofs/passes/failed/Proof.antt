@@ -15,7 +15,8 @@ returns c = λ kept. yes _ _ _ (lt-ltb _ _ (c .before .if1 .taken)) (ap step.Ask
 returns-2 : tie.Need-returns-2
 unfolding failedOf
 returns-2 c =
-    λ kept. no _ _ _ (le-ltb _ _ (c .before .before .before .before .before .if1 .left)) (rw (c .missed .ensures))
+    λ kept. no _ _ _ (le-ltb _ _ (c .before .before .before .before .before .if1 .left))
+    (rw (c .missed .ensures (kept .settings .rule)))
 
 pub failed-spec : {M : Type 1} → statement M
 failed-spec =

@@ -16,7 +16,7 @@ returns c = λ kept. rw (c .before .enum-told .given .1)
 
 returns-2 : tie.Need-returns-2
 unfolding slowRound
-returns-2 c = λ kept. rw (c .before .before .enum-told2 .given .1, c .missed .ensures)
+returns-2 c = λ kept. rw (c .before .before .enum-told2 .given .1, c .missed .ensures (kept .settings .rule))
 
 pub slow-round-spec : {M : Type 1} → statement M
 slow-round-spec =
