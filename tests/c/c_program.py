@@ -297,8 +297,8 @@ def library(way):
         return None
     if way == "run" or is_proved():
         return proved_archive() if has("rt", "the archive is NOT built") else None
-    print("UNPROVED: export or printout is not proved here, or was edited since; the programs run on their sources,")
-    print("compiled by rustc. `tests/c/c_program.py run` proves them")
+    print("UNPROVED: export or export_forecast is not proved here, or was edited since; the programs run on their")
+    print("sources, compiled by rustc. `tests/c/c_program.py run` proves them")
     return sources_compiled() if has("rustc", "they are NOT run") else None
 
 

@@ -73,7 +73,7 @@ SMALL_ORDERS = range(1, 9)
 def insist(fact, words):
     """Stop where something that this script leans on does not hold."""
     if not fact:
-        sys.exit(f"matrix_answers: {words}")
+        sys.exit(f"replay_matrix: {words}")
 
 
 # --- Cases -----------------------------------------------------------------------------------

@@ -84,7 +84,7 @@ LOWEST = -1074  # the smallest double is 2**LOWEST
 def insist(fact, words):
     """Stop where something that this script leans on does not hold."""
     if not fact:
-        sys.exit(f"scalar_vectors: {words}")
+        sys.exit(f"replay_scalar: {words}")
 
 
 # --- Doubles as patterns -------------------------------------------------------------------

@@ -60,7 +60,7 @@ MOST_REQUESTS, MOST_BYTES = 100_000, 1_000_000
 def insist(fact, words):
     """Stop where something that this script leans on does not hold."""
     if not fact:
-        sys.exit(f"sheet_answers: {words}")
+        sys.exit(f"replay_sheet: {words}")
 
 
 def number_of(bits):

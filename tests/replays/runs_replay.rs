@@ -323,7 +323,7 @@ fn replay(o: &Opening, asked: &[Asked]) -> std::result::Result<usize, String> {
             }
             (3, 5) => Reply::Mark(floats[0]),
             (4, 0) => {
-                let r = match state::result(run) {
+                let r = match run.result() {
                     state::talk::Result::Ended(r) => r,
                     _ => return Err(format!("request {k}: not ended")),
                 };

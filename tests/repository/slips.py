@@ -52,9 +52,9 @@ import replay_run
 from slip_parse import insist
 
 ROOT = rust_text.ROOT
-TESTS = ROOT / "tests"
+TESTS, HERE = ROOT / "tests", ROOT / "tests" / "repository"
 TARGET = ROOT / "target" / "slips"
-SAME = TESTS / "slips_same.txt"
+SAME = HERE / "slips_same.txt"
 DOCUMENT = ROOT / "compare" / "beside" / "README.md"
 MARKS = ("<!-- made by tests/repository/slips.py --write -->", "<!-- up to here -->")
 
@@ -158,10 +158,10 @@ def is_definition(slip):
 
 # --- The programs --------------------------------------------------------------------------------
 
-SWITCH = f'#[path = "{TESTS}/slip_switch.rs"]\nmod slips;\n'
-BESIDE_MATRIX = f"""{SWITCH}#[path = "{TESTS}/slips.rs"]
+SWITCH = f'#[path = "{HERE}/slip_switch.rs"]\nmod slips;\n'
+BESIDE_MATRIX = f"""{SWITCH}#[path = "{HERE}/slips.rs"]
 mod other;
-#[path = "{TESTS}/matrix_answers.rs"]
+#[path = "{TESTS}/replays/replay_matrix.rs"]
 mod matrix_cases;
 mod radau {{
     pub fn interpolate(xi: f64, yi: &mut [f64], cont: &[f64], xold: f64, h: f64) {{
@@ -173,7 +173,7 @@ FLAGS = ["--cap-lints", "allow", "-C", "overflow-checks=on"]
 
 def compiled(root, name, words):
     """The program, compiled anew only where a text has changed."""
-    texts = sorted(file for file in [*root.parent.rglob("*.rs"), *(TARGET / "text").rglob("*.rs"), *TESTS.glob("*.rs")])
+    texts = sorted(file for file in [*root.parent.rglob("*.rs"), *(TARGET / "text").rglob("*.rs"), *TESTS.glob("*/*.rs")])
     digest = hashlib.sha256(b"".join(file.read_bytes() for file in texts) + repr(words).encode()).hexdigest()
     mark, made = root.parent / f"{name}.digest", root.parent / name
     if not (made.is_file() and mark.is_file() and mark.read_text() == digest):
@@ -185,7 +185,7 @@ def compiled(root, name, words):
 def replayer(texts):
     """The program of tests/repository/slips.rs."""
     main, solver = "other::go();", texts.solver_texts()
-    root = rust_solve.make_crate(TARGET / "text", TARGET / "replay", TESTS / "runs.rs", BESIDE_MATRIX, main, solver)
+    root = rust_solve.make_crate(TARGET / "text", TARGET / "replay", TESTS / "replays" / "runs.rs", BESIDE_MATRIX, main, solver)
     return compiled(root, "slips", [])
 
 
@@ -201,7 +201,7 @@ def opener(texts):
     tolerance = replay_opening.tolerance_text(texts.source.parent)
     root = folder / "root.rs"
     program = replay_opening.RUST_PROGRAM.format(source=texts.source.resolve(), tolerance=tolerance, lines=lines)
-    root.write_text(program + SWITCH + f'#[path = "{TESTS}/powers.rs"]\nmod program;\n')
+    root.write_text(program + SWITCH + f'#[path = "{TESTS}/support/powers.rs"]\nmod program;\n')
     return compiled(root, "openings", [])
 
 
