@@ -173,7 +173,7 @@ FLAGS = ["--cap-lints", "allow", "-C", "overflow-checks=on"]
 
 def compiled(root, name, words):
     """The program, compiled anew only where a text has changed."""
-    texts = sorted(file for file in [*root.parent.rglob("*.rs"), *(TARGET / "text").rglob("*.rs"), *TESTS.glob("*/*.rs")])
+    texts = sorted([*root.parent.rglob("*.rs"), *(TARGET / "text").rglob("*.rs"), *TESTS.glob("*/*.rs")])
     digest = hashlib.sha256(b"".join(file.read_bytes() for file in texts) + repr(words).encode()).hexdigest()
     mark, made = root.parent / f"{name}.digest", root.parent / name
     if not (made.is_file() and mark.is_file() and mark.read_text() == digest):
@@ -185,7 +185,8 @@ def compiled(root, name, words):
 def replayer(texts):
     """The program of tests/repository/slips.rs."""
     main, solver = "other::go();", texts.solver_texts()
-    root = rust_solve.make_crate(TARGET / "text", TARGET / "replay", TESTS / "replays" / "runs.rs", BESIDE_MATRIX, main, solver)
+    runs = TESTS / "replays" / "runs.rs"
+    root = rust_solve.make_crate(TARGET / "text", TARGET / "replay", runs, BESIDE_MATRIX, main, solver)
     return compiled(root, "slips", [])
 
 
