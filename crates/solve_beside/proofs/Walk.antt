@@ -17,7 +17,10 @@ use Rattle.state.specs.declared.run.Status.the-variants.{NeedLargerNMax, StepSi
 use Rattle.state.specs.declared.run.Stage.{Stage}
 use Rattle.state.specs.declared.run.Stage.the-variants as stage
 use Rattle.state.specs.declared.talk.Reply.{Reply}
+use Rattle.state.specs.declared.talk.Verdict.the-variants.{Passed}
 use Rattle.state.specs.Memory.{Memory, memory, amounts, Newton, Differences}
+use Rattle.opening.specs.Rows.{verdictOf}
+use Rattle.opening.specs.Admission.{admissionRows}
 use Rattle.solve_blocks.specs.declared.step.Heard.{Heard}
 use Rattle.solve_blocks.specs.declared.step.Heard.the-variants as heard
 use Rattle.solve_blocks.specs.declared.step.Round.{Round}
@@ -35,7 +38,10 @@ use Rattle.solve_blocks.specs.Jacobian.{Asking, askJacobianBy, Columned}
 use Rattle.solve_blocks.specs.MemorySetters.{setCont, setYCont, setF12, setNewton, setDifferences, setColumn}
 use Rattle.solve_blocks.specs.Advance.{Stepped, stepped, inMemory, Called, called, startedOf, returnedOf, concludeOf}
 use Rattle.solve_blocks.specs.Advance.{repliedOf, passedOf, calledOf}
+use Rattle.solve_blocks.specs.Needs.{StepFit}
 use Rattle.solve_blocks.proofs.AdvanceWhole.{wholeOf}
+use Rattle.solve_blocks.proofs.AdmittedLaws.{admitted}
+use Rattle.solve_blocks.proofs.RepliedLaws.{replied-fit}
 use Rattle.solve_beside.specs.Changes.{Changes, runBy, memoryBy, callBy, calledBy}
 use Rattle.solve_beside.proofs.Branches.{pick-maps, onCore}
 use Rattle.solve_beside.proofs.Carried.{onStep, onRound, onBegun, onAsking, onStepped}
@@ -80,6 +86,13 @@ Agree c (step.Asked a) = Unit
 Agree c (step.Main r) = SourceSame c r
 Agree c (step.Matrices r) = SourceSame c r
 Agree c (step.Attempt r) = LimitSame c r
+
+fit-of : (n : ℕ) (s : Step) → StepFit 14 n s → StepOf n s
+unfolding StepFit StepOf
+fit-of n (step.Asked a) f = tt
+fit-of n (step.Main r) f = f .order
+fit-of n (step.Matrices r) f = f .order
+fit-of n (step.Attempt r) f = f .order
 
 module _ (c : Changes) where
   -- ---- from a reply to a label
@@ -175,7 +188,7 @@ module _ (c : Changes) where
   abbrev pub stepPast : Run → Reply → Memory → Step
   stepPast r p m = passedOf (repliedOf (r .stage) p r m .core) .core .step
 
-  pub whole-same : (n : ℕ) (r : Run) (p : Reply) (m : Memory) → BuiltSame c n → At c (r .stage)
+  whole-same : (n : ℕ) (r : Run) (p : Reply) (m : Memory) → BuiltSame c n → At c (r .stage)
       → StepOf n (stepAfter r p m) → Agree c (stepPast r p m)
       → wholeOf (runBy c r) p (memoryBy c m) ≡ onCore (calledBy c) (wholeOf r p m)
   whole-same n r p m built at order both =
@@ -188,3 +201,12 @@ module _ (c : Changes) where
       (passed-same c n built (l .core) order)
       ∙ ap (λ (k : Logged Called). logged (k .core) (l .log ++ t .log ++ k .log))
       (called-same (t .core .step) (t .core .memory) both)
+
+  -- an advance that is admitted leaves the order of its run as it was
+  pub advance-same : (r : Run) (p : Reply) (m : Memory) → verdictOf (admissionRows r p m) ≡ Passed
+      → BuiltSame c (r .shape .n) → At c (r .stage) → Agree c (stepPast r p m)
+      → wholeOf (runBy c r) p (memoryBy c m) ≡ onCore (calledBy c) (wholeOf r p m)
+  advance-same r p m passed built at both =
+      let n = r .shape .n in
+      let a = admitted r p m passed in
+      whole-same n r p m built at (fit-of n _ (replied-fit n m p r (a .fit) (a .stage .rounds) _ refl)) both
