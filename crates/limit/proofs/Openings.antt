@@ -69,7 +69,8 @@ module _ (o : Opening) (r : Run) (q : Request) (p : Place) (m : Memory)
 
   pub first-limit : 1 ≤ o .settings .«max_steps»
   first-limit =
-      within 1 1_000_000 (o .settings .«max_steps») (verdict-first-proof (openingRows o) .1 .0 passed 16 (omega arith)) .0
+      let none = verdict-first-proof (openingRows o) .1 .0 passed in
+      within 1 1_000_000 (o .settings .«max_steps») (none 16 (omega arith)) .0
 
   -- the run has the settings of its opening
   settings-by : (v : Verdict) → settingsIn (byVerdict v o .answer) ≡ o .settings

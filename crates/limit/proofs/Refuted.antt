@@ -118,7 +118,8 @@ going : (k : ℕ) (t : Talk) → goes k t ≡ true → (j : ℕ) → j < k
 unfolding goes talkBy
 going zero t e j l = absurd (omega (arith, l))
 going (suc k) t e zero l = both (isEnd (t .point .request)) _ e .0
-going (suc k) t e (suc j) l = going k (advancedBy offered host t) (both (isEnd (t .point .request)) _ e .1) j (omega (arith, l))
+going (suc k) t e (suc j) l =
+    going k (advancedBy offered host t) (both (isEnd (t .point .request)) _ e .1) j (omega (arith, l))
 
 abbrev startOf : ℕ → Point
 startOf M =

@@ -94,7 +94,8 @@ module _ (host : Host) where
       passed : Admits host t
       going : endsOver (advancedBy offered host t .point .request) ≡ false
 
-    advanced-same : (t : Talk) → Steady t → advancedBy offered host (talkWith M t) ≡ talkWith M (advancedBy offered host t)
+    advanced-same : (t : Talk) → Steady t
+        → advancedBy offered host (talkWith M t) ≡ talkWith M (advancedBy offered host t)
     advanced-same t s =
         let r = t .point .run in
         let a = actionAt host t in
@@ -244,7 +245,8 @@ module _ (M : ℕ) (host : Host) (o : Opening) (r : Run) (q : Request) (p : Plac
   begins : (f : Run) (v : World) → TalksTo offered host (pointWith M start) f v → Begins (w .exchanges) (v .exchanges)
   begins f v b =
       let k = length (v .exchanges) in
-      let l : long ≤ k = first-end offered host (pointWith M start) k long (at-end offered host (pointWith M start) f v b)
+      let ends = at-end offered host (pointWith M start) f v b in
+      let l : long ≤ k = first-end offered host (pointWith M start) k long ends
       (λ j h. ap (λ (t : Talk). isEnd (t .point .request)) (same-before j h) ∙ a .before j h) in
       let d = k - long in
       let whole : k ≡ long + d = omega (arith, l) in

@@ -38,12 +38,8 @@ module _ (c : Changes) where
   judged-same r err z y cont =
       let quot = quotOf (r .settings) (r .control .«newt_iter») err in
       let hnew = r .numbers .h ⊘ quot in
-      let m = movedOf (r .shape .n) z (moved y cont) in
-      pick-maps (onCore (onJudged c)) _
-      (ap (λ (s : Run). logged (judged (askAccepted s) (m .y) (m .cont)) (accepted err (r .numbers .h) ∷ []))
-      (accepted-same r err quot))
-      (ap (λ (s : Run). logged (judged (step.Main s) y cont) (failed err ∷ []))
-      (rejected-same (r ▸ inNumbers (setHnew hnew)) hnew))
+      pick-maps (onCore (onJudged c)) _ (rw (accepted-same r err quot) refl)
+      (rw (rejected-same (r ▸ inNumbers (setHnew hnew)) hnew) refl)
 
   tested-same : (r : Run) (err : Float) (z : Three) (y cont : List Float)
       → testedOf (runBy c r) err z y cont ≡ onCore (onJudged c) (testedOf r err z y cont)
