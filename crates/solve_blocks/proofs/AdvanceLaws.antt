@@ -217,9 +217,9 @@ module _ (r : Run) (p : Reply) (m : Memory) where
 fewer : {n : ℕ} {r : Run} → Fit 15 n r → Fit 2 n r
 fewer f = omega arith
 
-pub told-fits : {n : ℕ} {r : Run} {t : Heard} → t ≡ heard.Reported r → HeardFit 15 n t → Fit 15 n r
+pub heard-fits : {n : ℕ} {r : Run} {t : Heard} → t ≡ heard.Reported r → HeardFit 15 n t → Fit 15 n r
 unfolding HeardFit
-told-fits {n} e f = subst (HeardFit 15 n) e f
+heard-fits {n} e f = subst (HeardFit 15 n) e f
 
 pub newton-fits : {n : ℕ} {r : Run} {v : Round} → v ≡ round.Newton r → RoundFit 15 n v → Fit 2 n r
 unfolding RoundFit
