@@ -135,11 +135,12 @@ inline bool lengths_fit(const Lent &lent, size_t n) {
 
 #define LENT_DOUBLES(m, part) (m)[part].doubles(), (m)[part].count
 #define LENT_PIVOTS(m, part) (m)[part].pivots(), (m)[part].count
-#define LENT_PARTS(m)                                                                                                                \
-    LENT_DOUBLES(m, Y), LENT_DOUBLES(m, F0), LENT_DOUBLES(m, SCAL), LENT_DOUBLES(m, CONT), LENT_DOUBLES(m, Z1), LENT_DOUBLES(m, Z2), \
-    LENT_DOUBLES(m, Z3), LENT_DOUBLES(m, F1), LENT_DOUBLES(m, F2), LENT_DOUBLES(m, F3), LENT_DOUBLES(m, RTOL),                       \
-    LENT_DOUBLES(m, ATOL), LENT_DOUBLES(m, MASS), LENT_DOUBLES(m, JAC), LENT_DOUBLES(m, E1), LENT_DOUBLES(m, E2R),                   \
-    LENT_DOUBLES(m, E2I), LENT_PIVOTS(m, IP1), LENT_PIVOTS(m, IP2), LENT_DOUBLES(m, Y_PERTURBED),                                    \
+#define LENT_PARTS(m) \
+    LENT_DOUBLES(m, Y), LENT_DOUBLES(m, F0), LENT_DOUBLES(m, SCAL), LENT_DOUBLES(m, CONT), \
+    LENT_DOUBLES(m, Z1), LENT_DOUBLES(m, Z2), LENT_DOUBLES(m, Z3), LENT_DOUBLES(m, F1), \
+    LENT_DOUBLES(m, F2), LENT_DOUBLES(m, F3), LENT_DOUBLES(m, RTOL), LENT_DOUBLES(m, ATOL), \
+    LENT_DOUBLES(m, MASS), LENT_DOUBLES(m, JAC), LENT_DOUBLES(m, E1), LENT_DOUBLES(m, E2R), \
+    LENT_DOUBLES(m, E2I), LENT_PIVOTS(m, IP1), LENT_PIVOTS(m, IP2), LENT_DOUBLES(m, Y_PERTURBED), \
     LENT_DOUBLES(m, F_PERTURBED), LENT_DOUBLES(m, F_ORIGIN)
 
 #endif

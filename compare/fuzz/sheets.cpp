@@ -14,8 +14,9 @@ static struct Tally {
 
 static void tell() {
     std::fprintf(stderr,
-                 "sheets: %" PRIu64 " inputs, of which %" PRIu64 " ran, %" PRIu64 " of them with fewer steps than they "
-                                                                                  "permit\nrefused by number,", tally.inputs, tally.ran, tally.shortened);
+                 "sheets: %" PRIu64 " inputs, of which %" PRIu64 " ran, %" PRIu64
+                 " of them with fewer steps than they permit\nrefused by number,",
+                 tally.inputs, tally.ran, tally.shortened);
     const char *before = " ";
     for (size_t k = 0; k < 22; k++)
         if (tally.refused[k] != 0) {

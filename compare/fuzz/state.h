@@ -9,7 +9,8 @@
 // that may be absent, l whether tolerances are lists, s a scalar tolerance, S the stage, c its column or status
 // (crates/export/specs/State.antt).
 const char KINDS[] =
-    "wffff" "tgtg" "w" "tg" "b" "ththth" "bb" "tg" "bb" "wwww" "lss" "fffff" "wwwwww" "bbbbb" "ww" "fffffffffffff" "tg" "Sc";
+    "wffff" "tgtg" "w" "tg" "b" "ththth" "bb" "tg" "bb" "wwww" "lss" "fffff"
+    "wwwwww" "bbbbb" "ww" "fffffffffffff" "tg" "Sc";
 static_assert(sizeof KINDS == ELCHEPUR_STATE + 1, "every word has its kind");
 
 enum StateWord {

@@ -2,8 +2,9 @@
 """The crates `export` and `export_forecast` as programs in C see them: their header, their
 archive, and runs through both.
 
-    tests/c/c_program.py check [FOLDER]  hold the header to the sources, and run the programs in C: on the archive, where both are proved and were
-                                       not edited since; else on their very sources, the contracts taken out, compiled by rustc
+    tests/c/c_program.py check [FOLDER]  hold the header to the sources, and run the programs in C: on the archive,
+                                       where both are proved and were not edited since; else on their very sources,
+                                       the contracts taken out, compiled by rustc
     tests/c/c_program.py run [FOLDER]    the same on the archive; what is not proved yet is proved first
 
 FOLDER holds the Rust's text; tests/support/rust_text.py says where it is looked for otherwise. What is missing (rt,
@@ -20,12 +21,14 @@ archive must define the same functions and no others.
 
 The programs:
   - tests/c/c_calls.c calls each function with a few values whose answers document 01 gives;
-  - tests/c/c_replay.c replays the stored runs of the Rust's own `solve` (crates/replay_run/stdin), every request and all 22 parts compared, hosts that
-    make the Jacobian, masses, marks and modified points among them;
-  - tests/c/c_sheets.c hands every sheet of crates/replay_sheet/stdin over, those that are refused too, and prints what is printed of it;
-  - tests/c/c_program.c is a host of its own: it runs every sheet of crates/replay_sheet/stdin, with the answers stored there, and once more with a Jacobian of
-    the host's own, with the answers that the Rust gives then.
-The last three run on include/elchepur_host.h, which has what every host writes again, and whose example must print what it says there:
+  - tests/c/c_replay.c replays the stored runs of the Rust's own `solve` (crates/replay_run/stdin), every request and
+    all 22 parts compared, hosts that make the Jacobian, masses, marks and modified points among them;
+  - tests/c/c_sheets.c hands every sheet of crates/replay_sheet/stdin over, those that are refused too, and prints
+    what is printed of it;
+  - tests/c/c_program.c is a host of its own: it runs every sheet of crates/replay_sheet/stdin, with the answers
+    stored there, and once more with a Jacobian of the host's own, with the answers that the Rust gives then.
+The last three run on include/elchepur_host.h, which has what every host writes again, and whose example must print
+what it says there:
   - tests/c/c_hosted.c replays the stored runs of the Rust once more, through its callbacks;
   - tests/c/c_endings.c brings about every way in which a run can end."""
 

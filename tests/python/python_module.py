@@ -2,7 +2,7 @@
 """The module of python/ beside the header, the programs in C and the Rust's runs.
 
     tests/python/python_module.py write         write python/elchepur/_numbers.py from include/elchepur.h
-    tests/python/python_module.py check         on the archive, where it is proved and was not edited since; else on its very
+    tests/python/python_module.py check   on the archive, where it is proved and was not edited since; else on its very
                                          sources, compiled by rustc
     tests/python/python_module.py run           on the archive; what is not proved yet is proved first
 
@@ -17,7 +17,8 @@ Exit status: 0 nothing differs; 1 something does; 2 wrong use.
     tests/c/c_program.c prints of it, and so have seven points between the ends, by dense output.
   - The stored runs of the Rust's own `solve` (crates/replay_run/stdin), with every setting and every answer of a
     report: the Rust's calls in their order, each at its x, and its end.
-  - tests/python/python_cases.py: how calls fail, what comes through, what is taken for a library; and the README's program."""
+  - tests/python/python_cases.py: how calls fail, what comes through, what is taken for a library; and the README's
+    program."""
 
 import importlib
 import math
@@ -90,7 +91,9 @@ def wrapped(words):
     return "".join(f"        {line}\n" for line in lines)
 
 
-TEXT = '''"""The numbers, parts and functions of include/elchepur.h. Written by tests/python/python_module.py, not by hand."""
+TEXT = '''"""The numbers, parts and functions of include/elchepur.h.
+
+Written by tests/python/python_module.py, not by hand."""
 
 {numbers}
 # The header's words for each number that refuses.

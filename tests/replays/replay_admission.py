@@ -18,15 +18,15 @@ others do stops the script.
 A case is a block of eleven lines, each of four words of 16 hex digits with a space between. Doubles are bit patterns; a
 NaN is always 7ff8000000000000.
 
-    1-5  as in tests/replays/replay_opening.py, x in the place of x0, with further choices, a bit for each of FLAGS behind those there; in
-         the place of the outcome the row of the summary and 01's number, four digits each
+    1-5  as in tests/replays/replay_opening.py, x in the place of x0, with further choices, a bit for each of FLAGS
+         behind those there; in the place of the outcome the row of the summary and 01's number, four digits each
     6-7  the lengths of the 22 parts, four digits each; then nind1, nind2
     8    nind3, newt_iter, singular_count, ode
     9    jac, lu, total, accepted
-    10   rejected; the stage by its place in STAGES, the status, the reply by its place in REPLIES, of four digits each; the column;
-         the float of the reply
-    11   for each list of pivots the place of one entry (ffff: none) and what the others are, four digits each; what that entry is in
-         each list; the pattern of every float of the state that has no word of its own"""
+    10   rejected; the stage by its place in STAGES, the status, the reply by its place in REPLIES, of four digits
+         each; the column; the float of the reply
+    11   for each list of pivots the place of one entry (ffff: none) and what the others are, four digits each; what
+         that entry is in each list; the pattern of every float of the state that has no word of its own"""
 
 import sys
 

@@ -24,19 +24,19 @@ patterns; a NaN is always 7ff8000000000000.
     2   max_steps, newton_maxiter, uround, safety_factor
     3   scale_min, scale_max, max_step, min_step
     4   newton_tol, first_step, the scalar rtol and atol
-    5   nind1, nind2, nind3, outcome: four numbers of four digits: the row that refuses, or 0; for rows 3, 9 and 12 which
-        float failed, by its number of FLOATS below; its place in a list; 0
-    6-7 the lengths of the 22 parts in the order of PARTS below, four digits each; then, of line 7, the part and the place of
-        one entry that stands outside of its part's rule (ffff, ffff: none), and its pattern
-    8-10 what the parts hold before the call: for y, mass, rtol, atol, each of the other parts of floats, and each of pivots, the
-        pattern of the first entry and how much it rises from entry to entry, modulo 2^64
+    5   nind1, nind2, nind3, outcome: four numbers of four digits: the row that refuses, or 0; for rows 3, 9 and 12
+        which float failed, by its number of FLOATS below; its place in a list; 0
+    6-7 the lengths of the 22 parts in the order of PARTS below, four digits each; then, of line 7, the part and the
+        place of one entry that stands outside of its part's rule (ffff, ffff: none), and its pattern
+    8-10 what the parts hold before the call: for y, mass, rtol, atol, each of the other parts of floats, and each of
+        pivots, the pattern of the first entry and how much it rises from entry to entry, modulo 2^64
 and, where the opening is accepted,
     11  h, hmax, hmin, posneg
     12  newton_tol, the converted rtol and atol (0 where they are lists), ode
     13  nind1, nind2, nind3, 0
     then, for lists, the converted entries in pairs of rtol and atol, two pairs to a line, zeros after the last.
-What was absent is written as 0. A refused opening leaves the memory as it was. An accepted one leaves y, and mass if it is
-Full; lists become what the pairs say; all else becomes +0."""
+What was absent is written as 0. A refused opening leaves the memory as it was. An accepted one leaves y, and mass if
+it is Full; lists become what the pairs say; all else becomes +0."""
 
 import copy
 import math
@@ -803,7 +803,8 @@ def rust_row(o):
     rows = rows_of(o)
     sums = sum(count or 0 for count in (o.nind1, o.nind2, o.nind3))
     finite = all(math.isfinite(x) for x in [o.x0, o.xend, *o.rtols(), *o.atols()])
-    if {1, 2, 9} & set(rows) or o.book and not o.lists and o.n > 1 or sums >= 2**64 or not finite or not o.ceiling() >= 0:
+    converted_once = o.book and not o.lists and o.n > 1
+    if {1, 2, 9} & set(rows) or converted_once or sums >= 2**64 or not finite or not o.ceiling() >= 0:
         return None
     above = {4: o.max_steps > 0, 8: o.newton_maxiter > 0}
     return min((row for row in RUST_ROWS if row in rows and not above.get(row)), default=0)

@@ -14,14 +14,18 @@ tests/replays/runs.py makes the runs and tells how they are had. Stored are thos
 MOST_WORDS words, and of the longer ones, the shortest first, each that takes a branch of the Rust or has an order that
 none before it has; in all every branch that is counted is taken.
 
-A word is 16 hex digits, and doubles are bit patterns; a NaN is always 7ff8000000000000. Words stand in blocks, each followed by LF if
-it is a fourth one of its block, else by a space. A run is a block for its opening and one for each request:
-  - the opening: n, x0, xend, the choices, max_steps, newton_maxiter, the eight floats and the two tolerances of crates/replay's
-    settings, nind1, nind2, nind3; how many requests follow; then the amounts, a Full mass and two lists of tolerances, if given;
-  - a request: its head, the hash of all 22 parts as they stand when it is made (tests/replays/runs.rs), its floats, then what the host
-    replies: the entries that it fills in, or the new x and y, or the mark; at the end of a run the result in their place.
-A head has four digits: the kind (1 derivative, 2 Jacobian, 3 report, 4 end), the place of a derivative, whether a report offers
-coefficients or the status of an end, and the reply (1 filled, 2 continue, 3 interrupt, 4 modified, 5 mark)."""
+A word is 16 hex digits, and doubles are bit patterns; a NaN is always 7ff8000000000000. Words stand in blocks, each
+followed by LF if it is a fourth one of its block, else by a space. A run is a block for its opening and one for each
+request:
+  - the opening: n, x0, xend, the choices, max_steps, newton_maxiter, the eight floats and the two tolerances of
+    crates/replay's settings, nind1, nind2, nind3; how many requests follow; then the amounts, a Full mass and two
+    lists of tolerances, if given;
+  - a request: its head, the hash of all 22 parts as they stand when it is made (tests/replays/runs.rs), its floats,
+    then what the host replies: the entries that it fills in, or the new x and y, or the mark; at the end of a run the
+    result in their place.
+A head has four digits: the kind (1 derivative, 2 Jacobian, 3 report, 4 end), the place of a derivative, whether a
+report offers coefficients or the status of an end, and the reply (1 filled, 2 continue, 3 interrupt, 4 modified, 5
+mark)."""
 
 import sys
 

@@ -37,7 +37,8 @@ PROGRAM = ROOT / "tests" / "replays" / "runs.rs"
 REPLAY = ROOT / "tests" / "replays" / "runs_replay.rs"
 
 # The settings that may be absent, and the switches, in the order of their bits.
-CHOICES = ("max_step min_step newton_tol first_step nind1 nind2 nind3 predictive dense_output full host book lists".split())
+CHOICES = ("max_step min_step newton_tol first_step nind1 nind2 nind3 "
+           "predictive dense_output full host book lists").split()
 
 
 def insist(fact, words):

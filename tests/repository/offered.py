@@ -3,8 +3,8 @@
 allows for one input coincide.
 
     tests/repository/offered.py list     the table: each function, the theorem, its file
-    tests/repository/offered.py check    complain, and end with status 1, where a function has no such theorem; first the script is
-                              tried on theorems that are about something else
+    tests/repository/offered.py check    complain, and end with status 1, where a function has no such theorem; first
+                                         the script is tried on theorems that are about something else
 
 A function is offered where another crate can name it: it is `pub`, and so is each module on the way to it. Its theorem
 is NAME-once of its crate's proofs/Determinism.antt, and states `Settles` (crates/words/specs/Contract.antt) of what the

@@ -1,13 +1,17 @@
 """The Rust's own `solve` in a crate of ours, changed so that its calls of the host can be traced. For
 tests/replays/runs.py and compare/beside/run; untraced for bench/run.
 
-error.rs, dense.rs, status.rs and the four files of matrix/ are taken where they stand. Of methods/mod.rs stands what comes after its lists of
-modules. radau.rs and ivp.rs are copied with these changes, each of which must find its words exactly once:
+error.rs, dense.rs, status.rs and the four files of matrix/ are taken where they stand. Of methods/mod.rs stands what
+comes after its lists of modules. radau.rs and ivp.rs are copied with these changes, each of which must find its words
+exactly once:
   - `SHIMS`: the derive of the crate `bon` goes, since that crate is not here and only the struct is wanted;
-  - `POWERS`: each power goes to a routine of the program, since the C library's `pow` is not the same on every machine, and 01 says which power is meant;
-  - `EDITS`, `IVP_EDITS`: before each call of the host all parts of memory are handed to the program, and each branch is counted;
+  - `POWERS`: each power goes to a routine of the program, since the C library's `pow` is not the same on every
+    machine, and 01 says which power is meant;
+  - `EDITS`, `IVP_EDITS`: before each call of the host all parts of memory are handed to the program, and each branch
+    is counted;
   - `BOOK_EDITS`: for the book rule, and only there, document 01's two changes.
-solout.rs and solve/event.rs are not among the Rust's files here: tests/support/solout.rs and the crate's root have the three types that are named.
+solout.rs and solve/event.rs are not among the Rust's files here: tests/support/solout.rs and the crate's root have
+the three types that are named.
 
 The program is the crate's module `program`. It has `snap`, `differences`, `mass_made` and `end`, by which it is told,
 the powers, and `hit`, `note` and `noted` of tests/support/branches.rs, where branches go by their numbers in the
@@ -129,7 +133,8 @@ EDITS = [
     ("                ControlFlag::XOut(xo) => {\n                    xout = Some(xo);\n                }\n            "
      "}\n        }\n\n        // Initial mass",
      "                ControlFlag::XOut(xo) => {\n" + hit("first report: mark")
-     + "\n                    xout = Some(xo);\n                }\n            }\n        }\n\n        // Initial mass"),
+     + "\n                    xout = Some(xo);\n                }\n            }\n        }"
+     + "\n\n        // Initial mass"),
     after("        f.mass(&mut mass);", "crate::program::mass_made(&mass);"),
     # A pass.
     ("                f.jac(x, &y, &mut jac);",

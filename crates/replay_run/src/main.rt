@@ -125,8 +125,9 @@ fn replayed(names: &[u8]) -> Counts {
 
 fn main() {
     let names =
-        b"derivative y to f0:\nderivative cont to z1:\nderivative cont to z2:\nderivative cont to z3:\nderivative cont to f1:\n\
-        derivative y to f_origin:\nderivative y_perturbed to f_perturbed:\nJacobian:\nreport:\nreport with coefficients:\n\
+        b"derivative y to f0:\nderivative cont to z1:\nderivative cont to z2:\nderivative cont to z3:\n\
+        derivative cont to f1:\nderivative y to f_origin:\nderivative y_perturbed to f_perturbed:\n\
+        Jacobian:\nreport:\nreport with coefficients:\n\
         ended, status 0:\nended, status 1:\nended, status 2:\nended, status 3:\nended, status 5:\n\
         reply filled:\nreply continue:\nreply interrupt:\nreply modified:\nreply mark:\nruns:\n";
     write_summary(replayed(names), names);
