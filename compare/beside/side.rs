@@ -40,7 +40,8 @@ impl Side {
         classes[tally::HOST] = opening.settings.host_jacobian;
         classes[tally::BOOK] = opening.settings.book;
         classes[tally::BACKWARD] = opening.xend < opening.x0;
-        Side { ours, theirs, scalars: None, place: 0, host, draw, classes, requests: 0, interrupted: false, trace: None }
+        let (requests, interrupted) = (0, false);
+        Side { ours, theirs, scalars: None, place: 0, host, draw, classes, requests, interrupted, trace: None }
     }
 
     pub fn interrupted(&self) -> bool {

@@ -4,25 +4,21 @@ use Prim.Native.Nat.{ℕ, _≤_}
 use mathlib.Core.Bool.{false}
 use mathlib.Core.Path.{_≡_, refl, sym, ap, _∙_, subst}
 use mathlib.Core.List.{List}
-use Rattle.state.specs.declared.run.Run.{Run}
 use Rattle.state.specs.declared.run.Status.{Status}
 use Rattle.state.specs.declared.run.Stage.the-variants as stage
 use Rattle.state.specs.declared.talk.Opened.{Opened}
 use Rattle.state.specs.declared.talk.Opened.the-variants as opened
-use Rattle.state.specs.declared.talk.Place.{Place}
-use Rattle.state.specs.declared.talk.Request.{Request}
 use Rattle.state.specs.Memory.{Memory}
 use Rattle.opening.specs.Opening.{OpeningOutcome, openingOutcome, openOf}
-use Rattle.history.specs.History.{point}
-use Rattle.limit.specs.Limit.{runWith, openingWith, openedWith, Raises, isOver}
+use Rattle.limit.specs.Limit.{runWith, openedWith, Raises}
 use Rattle.limit.proofs.Openings.{opening-same}
 use Rattle.limit.proofs.Theorems.{raising-keeps}
 use Rattle.sheet.specs.Sheet.{Model, Valid}
-use Rattle.sheet.specs.Reader.{Read, accepted, readOf}
+use Rattle.sheet.specs.Reader.{Read, readOf}
 use Rattle.sheet.proofs.Accepted.{accepted-sound}
 use Rattle.forecast_text.specs.declared.ending.Forecast.{Forecast}
 use Rattle.forecast_text.specs.Printed.{printedOf}
-use Rattle.forecast.specs.Forecast.{openingFor, hostOf, endedAt, RunsTo, FromOpened, Solved, Forecasts}
+use Rattle.forecast.specs.Forecast.{openingFor, hostOf, endedAt, FromOpened, Solved, Forecasts}
 use Rattle.forecast.specs.Raised.{modelWith, Raised, endsOver, SameForecast}
 use Rattle.forecast.proofs.HostsAgree.{model-fair}
 use Rattle.forecast.proofs.Solves.{one-forecast-proof}
@@ -64,7 +60,8 @@ unfolding Forecasts
 raised-forecast-proof sheet raised x f told other =
     let m = x .model in
     let solved = subst (λ (y : Read). Forecasts y f) (x .holds) told in
-    let again = raised-solved m (accepted-sound sheet m (x .holds) .1) (x .limit) (x .least) (x .raises) f other solved in
+    let valid = accepted-sound sheet m (x .holds) .1 in
+    let again = raised-solved m valid (x .limit) (x .least) (x .raises) f other solved in
     let forecasts = subst (λ (y : Read). Forecasts y f) (sym (x .then-holds)) again in
     record {
       forecasts = forecasts;

@@ -11,7 +11,6 @@ use lib.Ieee.{Float}
 use borrow.Author.Tests.{ltb-false, le-ltb}
 use Rattle.words.proofs.Branch.{pick-all}
 use Rattle.state.specs.declared.settings.Settings.{Settings}
-use Rattle.state.specs.declared.settings.Mass.{Mass}
 use Rattle.state.specs.declared.settings.Rule.{Rule}
 use Rattle.state.specs.declared.settings.Rule.the-variants as rule
 use Rattle.state.specs.declared.settings.Source.{Source}
@@ -38,11 +37,10 @@ use Rattle.solve_blocks.specs.Jacobian.{askJacobianBy}
 use Rattle.solve_blocks.specs.Advance.{repliedOf, passedOf, calledOf}
 use Rattle.solve_blocks.proofs.AdvanceWhole.{wholeOf}
 use Rattle.solve_blocks.proofs.EveryRule.{KeptAt, kept-closed, everyway}
-use Rattle.solve_beside.specs.Changes.{runBy, calledBy}
+use Rattle.solve_beside.specs.Changes.{calledBy}
 use Rattle.solve_beside.proofs.Branches.{onCore}
 use Rattle.solve_beside.proofs.Carried.{onRound, onAsking}
-use Rattle.solve_beside.proofs.Rounds.{SlowSame}
-use Rattle.solve_beside.proofs.Walk.{At, Agree, SourceSame, stepPast, advance-same}
+use Rattle.solve_beside.proofs.Walk.{At, Agree, advance-same}
 use Rattle.account.proofs.Admits.{over, no-row}
 use Rattle.limit.specs.Limit.{toLimit, runWith, isOver}
 

@@ -18,7 +18,7 @@ use Rattle.opening.specs.Opening.{OpeningOutcome, openingOutcome, openOf, byVer
 use Rattle.opening.specs.Opening.{shapeOf, firstStepOf}
 use Rattle.opening.proofs.RowLaws.{verdict-first-proof}
 use Rattle.opening.proofs.OpeningLaws.{within}
-use Rattle.limit.specs.Limit.{openingWith, runWith, openedWith}
+use Rattle.limit.specs.Limit.{openingWith, openedWith}
 
 accepted-same : (M : ℕ) (o : Opening) → acceptedOf (openingWith M o) ≡ openedWith M (acceptedOf o)
 unfolding acceptedOf firstRun fixedOf shapeOf firstStepOf

@@ -5,7 +5,7 @@
 use Prim.Native.Nat.{ℕ, zero, suc, _≤_, _<_}
 use mathlib.Core.Path.{_≡_, refl, sym, ap, _∙_, subst}
 use mathlib.Core.Bool.{Bool, true, false, not, _&&_, true≢false}
-use mathlib.Core.List.{List, [], _∷_}
+use mathlib.Core.List.{[]}
 use native.Mathlib.Omega.{arith}
 use lib.ListN.{length}
 use lib.Ieee as ieee
@@ -72,7 +72,7 @@ use Rattle.history.specs.History.{Point, point, nextPoint}
 use Rattle.history.specs.Host.{isEnd, partAt, Action, filled, modified, wrote}
 use Rattle.account.specs.Journal.{ofKind, SameLength, Fair}
 use Rattle.account.proofs.Exists.{sample}
-use Rattle.solve_whole.specs.Talk.{Host, World, world, Talk, talk, actionAt, offered, advancedBy, talkBy, FairTalk}
+use Rattle.solve_whole.specs.Talk.{Host, World, world, Talk, talk, offered, advancedBy, talkBy, FairTalk}
 use Rattle.solve_whole.specs.Talk.{TalksTo}
 use Rattle.solve_whole.proofs.Talks.{one-end}
 use Rattle.limit.specs.Limit.{runWith, pointWith, openingWith, Raises, Unmoved}

@@ -19,7 +19,7 @@ use Rattle.state.specs.declared.talk.Verdict.{Verdict}
 use Rattle.state.specs.Memory.{Memory}
 use Rattle.state.specs.Result.{resultAt}
 use Rattle.opening.specs.Rows.{Opening}
-use Rattle.opening.specs.Opening.{OpeningOutcome, openingOutcome, openOf}
+use Rattle.opening.specs.Opening.{openingOutcome, openOf}
 use Rattle.solve_blocks.specs.Events.{Logged}
 use Rattle.solve_blocks.specs.Advance.{Called, advanceBy}
 use Rattle.solve_blocks.proofs.AdvanceWhole.{wholeOf}

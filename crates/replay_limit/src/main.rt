@@ -30,9 +30,13 @@ const OUT: usize = 1024;
 
 // The rows of the summary: the first ended with 0, 3 or 5; it ended with 2, and so did the second; the second did not.
 const ARRIVED: usize = 0;
+
 const TOO_SMALL: usize = 1;
+
 const SINGULAR: usize = 2;
+
 const OVER: usize = 3;
+
 const NO_LONGER_OVER: usize = 4;
 
 // No row of the summary: a pair of it is malformed.
@@ -141,7 +145,12 @@ fn with_texts(
         return counted(counts, names, row, grown_ends(both, ending, raised_ending));
     }
     let bytes = &out[0..within(printed, OUT)];
-    counted(counts, names, row, printed_alike(both, &raised_out, raised_printed, bytes))
+    counted(
+        counts,
+        names,
+        row,
+        printed_alike(both, &raised_out, raised_printed, bytes),
+    )
 }
 
 // Whether as many bytes were read as were asked for.

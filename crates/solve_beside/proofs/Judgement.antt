@@ -1,21 +1,19 @@
 -- The estimate of the error, an acceptance and a rejection look at nothing that may differ.
 use Prim.Native.Nat.{ℕ}
-use mathlib.Core.Path.{_≡_, refl, ap, _∙_}
+use mathlib.Core.Path.{_≡_, refl, ap}
 use mathlib.Core.Bool.{false}
-use mathlib.Core.List.{List, [], _∷_}
+use mathlib.Core.List.{List}
 use lib.Ieee.{Float}
 use Rattle.words.specs.Words.{_⊘_}
 use Rattle.state.specs.declared.run.Run.{Run}
 use Rattle.state.specs.Memory.{Newton}
-use Rattle.solve_blocks.specs.declared.step.Step.{Step}
-use Rattle.solve_blocks.specs.declared.step.Step.the-variants as step
 use Rattle.solve_blocks.specs.Setters.{_▸_, inCounts, inControl, inNumbers, oneLu, oneAccepted}
 use Rattle.solve_blocks.specs.Setters.{setFirst, setX, setXold, setHold, setHnew}
-use Rattle.solve_blocks.specs.Events.{error-solve, accepted, failed, Logged, logged, noted}
+use Rattle.solve_blocks.specs.Events.{error-solve, Logged, noted}
 use Rattle.solve_blocks.specs.Entries.{Three, three}
 use Rattle.solve_blocks.specs.Estimate.{defectOf, sides, sidesOf, solvedFirst, errorOf}
-use Rattle.solve_blocks.specs.Judge.{moved, movedOf, facOf, between, quotOf, predictiveQuot, acceptedOf, askAccepted}
-use Rattle.solve_blocks.specs.Judge.{rejectedOf, Judged, judged, judgedOf, withJudged, testedOf, estimateOf, refinedOf}
+use Rattle.solve_blocks.specs.Judge.{facOf, between, quotOf, predictiveQuot, acceptedOf}
+use Rattle.solve_blocks.specs.Judge.{rejectedOf, Judged, judgedOf, withJudged, testedOf, estimateOf, refinedOf}
 use Rattle.solve_beside.specs.Changes.{Changes, runBy}
 use Rattle.solve_beside.proofs.Branches.{pick-maps, onCore}
 use Rattle.solve_beside.proofs.Carried.{onJudged, onEstimated}

@@ -1,7 +1,7 @@
 -- A failure, and the passes through the matrices: only the making of E1 and E2 looks at the Jacobian.
 use Prim.Native.Nat.{ℕ}
 use mathlib.Core.Path.{_≡_, refl, sym, ap, _∙_, subst}
-use mathlib.Core.Bool.{Bool, true, false, true≢false}
+use mathlib.Core.Bool.{Bool, true, true≢false}
 use mathlib.Core.List.{List, _++_}
 use lib.Ieee.{Float}
 use Rattle.words.specs.Loop.{pick}

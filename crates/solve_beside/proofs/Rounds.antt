@@ -1,6 +1,6 @@
 -- A round of the Newton iteration: only the verdict 'slow' looks at the rule.
-use Prim.Native.Nat.{ℕ, _+_}
-use mathlib.Core.Path.{_≡_, refl, ap, _∙_}
+use Prim.Native.Nat.{_+_}
+use mathlib.Core.Path.{_≡_, refl, ap}
 use mathlib.Core.List.{List, [], _∷_}
 use lib.Ieee.{Float}
 use Rattle.words.specs.Words.{_⊖_, _⊗_, _⊘_}
@@ -14,7 +14,7 @@ use Rattle.solve_blocks.specs.declared.step.Step.{Step}
 use Rattle.solve_blocks.specs.Setters.{_▸_, inControl, inNumbers, setNewt, setFaccon, setTheta, setThqold}
 use Rattle.solve_blocks.specs.Events.{slow, diverged, rounds-used, logged, quiet}
 use Rattle.solve_blocks.specs.Attempt.{askStageOf}
-use Rattle.solve_blocks.specs.Newton.{updatedOf, RoundDone, roundDone, remaining, concludedOf, slowRound, slowedOf}
+use Rattle.solve_blocks.specs.Newton.{updatedOf, roundDone, remaining, concludedOf, slowRound, slowedOf}
 use Rattle.solve_blocks.specs.Newton.{predictedOf, rateOf, pacedOf, judgedRound, roundOf, resumed, againOf}
 use Rattle.solve_beside.specs.Changes.{Changes, runBy}
 use Rattle.solve_beside.proofs.Branches.{pick-maps, onCore}

@@ -42,7 +42,7 @@ use Rattle.solve_blocks.specs.Needs.{StepFit}
 use Rattle.solve_blocks.proofs.AdvanceWhole.{wholeOf}
 use Rattle.solve_blocks.proofs.AdmittedLaws.{admitted}
 use Rattle.solve_blocks.proofs.RepliedLaws.{replied-fit}
-use Rattle.solve_beside.specs.Changes.{Changes, runBy, memoryBy, callBy, calledBy}
+use Rattle.solve_beside.specs.Changes.{Changes, runBy, memoryBy, calledBy}
 use Rattle.solve_beside.proofs.Branches.{pick-maps, onCore}
 use Rattle.solve_beside.proofs.Carried.{onStep, onRound, onBegun, onAsking, onStepped}
 use Rattle.solve_beside.proofs.Passes.{StepOf, BuiltSame, passed-same}
