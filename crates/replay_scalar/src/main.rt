@@ -68,7 +68,8 @@ fn replayed() -> Counts {
 
 // The names of the rows, in the order of `row`.
 fn main() {
-    let names = b"sqrt\nroot\ninverse_root\npower\ntwo_thirds\nfour_fifths\nquarter\n\
+    let names =
+        b"sqrt\nroot\ninverse_root\npower\ntwo_thirds\nfour_fifths\nquarter\n\
         abs\nmax\nmin\nclamp\nsignum\ncoefficient\n";
     write_summary(replayed(), names);
 }
