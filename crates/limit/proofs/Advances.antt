@@ -39,7 +39,7 @@ use Rattle.solve_blocks.proofs.AdvanceWhole.{wholeOf}
 use Rattle.solve_blocks.proofs.EveryRule.{KeptAt, kept-closed, everyway}
 use Rattle.solve_beside.specs.Changes.{calledBy}
 use Rattle.solve_beside.proofs.Branches.{onCore}
-use Rattle.solve_beside.proofs.Carried.{onRound, onAsking}
+use Rattle.solve_beside.proofs.Carried.{onRound, onAsking, RuleSame}
 use Rattle.solve_beside.proofs.Walk.{At, Agree, advance-same}
 use Rattle.account.proofs.Admits.{over, no-row}
 use Rattle.limit.specs.Limit.{toLimit, runWith, isOver}
@@ -150,6 +150,9 @@ module _ (M : ℕ) where
   slow-by rule.Rust r = refl
   slow-by rule.Book r = refl
 
+  rules-same : RuleSame (toLimit M)
+  rules-same = record { slow = λ r. slow-by (r .settings .rule) r }
+
   at-every : (s : Stage) → At (toLimit M) s
   unfolding At
   at-every stage.FirstDerivative = tt
@@ -159,7 +162,7 @@ module _ (M : ℕ) where
   at-every (stage.Column k) = λ n col p fp fo jac. refl
   at-every stage.Newton1 = tt
   at-every stage.Newton2 = tt
-  at-every stage.Newton3 = λ r. slow-by (r .settings .rule) r
+  at-every stage.Newton3 = tt
   at-every stage.Refinement = tt
   at-every stage.Accepted = tt
   at-every stage.Report = tt
@@ -186,5 +189,5 @@ module _ (M : ℕ) where
       let kept : runOf (t .step) .settings ≡ r .settings =
       sym (called-settings (t .step) (t .memory)) ∙ settings-kept r p m passed in
       let within = subst (λ (s : Settings). s .«max_steps» ≤ M) (sym kept) more in
-      advance-same (toLimit M) r p m passed (λ mode mass jac h x. refl) (at-every (r .stage))
+      advance-same (toLimit M) rules-same r p m passed (λ mode mass jac h x. refl) (at-every (r .stage))
       (agrees (t .step) (t .memory) within going)

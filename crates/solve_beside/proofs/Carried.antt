@@ -1,4 +1,6 @@
--- What each block hands on, with the changes made in it.
+-- What each block hands on, with the changes made in it, and what is asked of a change of the rule.
+use mathlib.Core.Path.{_≡_}
+use Rattle.state.specs.declared.run.Run.{Run}
 use Rattle.solve_blocks.specs.declared.step.Heard.{Heard}
 use Rattle.solve_blocks.specs.declared.step.Heard.the-variants as heard
 use Rattle.solve_blocks.specs.declared.step.Round.{Round}
@@ -7,7 +9,7 @@ use Rattle.solve_blocks.specs.declared.step.Step.{Step}
 use Rattle.solve_blocks.specs.declared.step.Step.the-variants as step
 use Rattle.solve_blocks.specs.Matrices.{Tried, tried}
 use Rattle.solve_blocks.specs.Attempt.{Begun, begunAs}
-use Rattle.solve_blocks.specs.Newton.{RoundDone, roundDone, Resumed, resumed}
+use Rattle.solve_blocks.specs.Newton.{slowRound, RoundDone, roundDone, Resumed, resumed}
 use Rattle.solve_blocks.specs.Judge.{Judged, judged, Estimated, estimated}
 use Rattle.solve_blocks.specs.Jacobian.{Asking, asking, Columned, columned}
 use Rattle.solve_blocks.specs.Advance.{Stepped, stepped}
@@ -55,3 +57,9 @@ module _ (c : Changes) where
 
   abbrev pub onStepped : Stepped → Stepped
   onStepped t = stepped (onStep (t .step)) (memoryBy c (t .memory))
+
+  -- each definition that looks at the rule goes the same way under both
+  pub record RuleSame : Type 0 where
+    -- a slow round
+    pub slow : (r : Run)
+        → slowRound ((c .rule) (r .settings .rule)) (runBy c r) ≡ onRound (slowRound (r .settings .rule) r)

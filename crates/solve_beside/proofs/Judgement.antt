@@ -16,9 +16,9 @@ use Rattle.solve_blocks.specs.Judge.{facOf, between, quotOf, predictiveQuot, ac
 use Rattle.solve_blocks.specs.Judge.{rejectedOf, Judged, judgedOf, withJudged, testedOf, estimateOf, refinedOf}
 use Rattle.solve_beside.specs.Changes.{Changes, runBy}
 use Rattle.solve_beside.proofs.Branches.{pick-maps, onCore}
-use Rattle.solve_beside.proofs.Carried.{onJudged, onEstimated}
+use Rattle.solve_beside.proofs.Carried.{onJudged, onEstimated, RuleSame}
 
-module _ (c : Changes) where
+module _ (c : Changes) (rules : RuleSame c) where
   accepted-same : (r : Run) (err quot : Float) → acceptedOf (runBy c r) err quot ≡ runBy c (acceptedOf r err quot)
   unfolding acceptedOf predictiveQuot between
   accepted-same r err quot =

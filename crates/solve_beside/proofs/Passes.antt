@@ -20,7 +20,7 @@ use Rattle.solve_blocks.specs.Matrices.{passesOn, runOf, passAt, passesOf}
 use Rattle.solve_blocks.specs.Advance.{Stepped, stepped, passedOf}
 use Rattle.solve_beside.specs.Changes.{Changes, runBy, memoryBy}
 use Rattle.solve_beside.proofs.Branches.{pick-maps, pick-maps-where, loop-maps, onCore}
-use Rattle.solve_beside.proofs.Carried.{onStep, onTried, onStepped}
+use Rattle.solve_beside.proofs.Carried.{onStep, onTried, onStepped, RuleSame}
 
 -- ---- the order is kept
 
@@ -64,7 +64,7 @@ BuiltSame c n =
     (mode : Mass) (mass jac : List Float) (h : Float) (x : Three)
     → builtOf mode n mass ((c .jac) jac) h x ≡ builtOf mode n mass jac h x
 
-module _ (c : Changes) where
+module _ (c : Changes) (rules : RuleSame c) where
   pub failed-same : (r : Run) → failedOf (runBy c r) ≡ onStep c (failedOf r)
   unfolding failedOf
   failed-same r = pick-maps (onStep c) _ refl refl

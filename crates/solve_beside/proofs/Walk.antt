@@ -1,7 +1,9 @@
 -- Two runs side by side, one advance of each: block by block along the definitions the one goes where the other goes,
 -- with the same requests, events and memory, where each block that looks at what differs finds the same.
---     At        what is asked at the stage that waits for the reply: of the two Jacobians, of the two rules
---     Agree     what is asked of the step past the matrices: of the two sources, of the two limits
+--     RuleSame     what is asked of the two rules
+--     BuiltSame    what is asked of the two Jacobians where E1 and E2 are made, and
+--     At           where a column of theirs is written, at the stage that waits for the reply
+--     Agree        what is asked of the step past the matrices: of the two sources, of the two limits
 use Prim.Native.Nat.{ℕ, _+_}
 use mathlib.Core.Path.{_≡_, refl, ap, _∙_}
 use mathlib.Core.Bool.{Bool}
@@ -44,9 +46,9 @@ use Rattle.solve_blocks.proofs.AdmittedLaws.{admitted}
 use Rattle.solve_blocks.proofs.RepliedLaws.{replied-fit}
 use Rattle.solve_beside.specs.Changes.{Changes, runBy, memoryBy, calledBy}
 use Rattle.solve_beside.proofs.Branches.{pick-maps, onCore}
-use Rattle.solve_beside.proofs.Carried.{onStep, onRound, onBegun, onAsking, onStepped}
+use Rattle.solve_beside.proofs.Carried.{onStep, onRound, onBegun, onAsking, onStepped, RuleSame}
 use Rattle.solve_beside.proofs.Passes.{StepOf, BuiltSame, passed-same}
-use Rattle.solve_beside.proofs.Rounds.{SlowSame, round-same, again-same}
+use Rattle.solve_beside.proofs.Rounds.{round-same, again-same}
 use Rattle.solve_beside.proofs.Judgement.{estimate-same, refined-same}
 use Rattle.solve_beside.proofs.Reports.{ColumnsSame, reported-same, arrived-same, started-same, returned-same}
 use Rattle.solve_beside.proofs.Reports.{column-same}
@@ -61,7 +63,7 @@ At c stage.Jacobian = Unit
 At c (stage.Column k) = ColumnsSame c
 At c stage.Newton1 = Unit
 At c stage.Newton2 = Unit
-At c stage.Newton3 = SlowSame c
+At c stage.Newton3 = Unit
 At c stage.Refinement = Unit
 At c stage.Accepted = Unit
 At c stage.Report = Unit
@@ -87,6 +89,13 @@ Agree c (step.Main r) = SourceSame c r
 Agree c (step.Matrices r) = SourceSame c r
 Agree c (step.Attempt r) = LimitSame c r
 
+-- where the reply leads, and past the matrices
+abbrev pub stepAfter : Run → Reply → Memory → Step
+stepAfter r p m = repliedOf (r .stage) p r m .core .step
+
+abbrev pub stepPast : Run → Reply → Memory → Step
+stepPast r p m = passedOf (repliedOf (r .stage) p r m .core) .core .step
+
 fit-of : (n : ℕ) (s : Step) → StepFit 14 n s → StepOf n s
 unfolding StepFit StepOf
 fit-of n (step.Asked a) f = tt
@@ -94,7 +103,7 @@ fit-of n (step.Main r) f = f .order
 fit-of n (step.Matrices r) f = f .order
 fit-of n (step.Attempt r) f = f .order
 
-module _ (c : Changes) where
+module _ (c : Changes) (rules : RuleSame c) where
   -- ---- from a reply to a label
 
   conclude-same : (v : Round) (m : Memory)
@@ -102,11 +111,11 @@ module _ (c : Changes) where
   unfolding concludeOf
   conclude-same (round.Newton r) m =
       ap (λ (a : Logged Resumed). logged (stepped (a .core .step) (setCont (a .core .cont) (memoryBy c m))) (a .log))
-      (again-same c r (m .amounts .y) (m .newton .z1) (m .amounts .cont))
+      (again-same c rules r (m .amounts .y) (m .newton .z1) (m .amounts .cont))
   conclude-same (round.Estimate r) m =
       ap (λ (l : Logged Estimated). logged (stepped (l .core .step)
       (setF12 (l .core .f1) (l .core .f2) (setYCont (l .core .y) (l .core .cont) (memoryBy c m)))) (l .log))
-      (estimate-same c r (m .given .mass) (m .factors .e1) (m .factors .ip1) (m .amounts .f0) (m .amounts .scal)
+      (estimate-same c rules r (m .given .mass) (m .factors .e1) (m .factors .ip1) (m .amounts .f0) (m .amounts .scal)
       (m .amounts .y) (m .amounts .cont) (m .newton))
   conclude-same (round.Over s) m = refl
 
@@ -130,13 +139,13 @@ module _ (c : Changes) where
       let l = roundOf r (m .given .mass) (m .amounts .scal) (m .factors) (m .newton) in
       ap (λ (k : Logged RoundDone). andThen k
       (λ (v : RoundDone). concludeOf (v .round) (setNewton (v .newton) (memoryBy c m))))
-      (round-same c a r (m .given .mass) (m .amounts .scal) (m .factors) (m .newton))
+      (round-same c rules r (m .given .mass) (m .amounts .scal) (m .factors) (m .newton))
       ∙ ap (λ (k : Logged Stepped). logged (k .core) (l .log ++ k .log))
       (conclude-same (l .core .round) (setNewton (l .core .newton) m))
   replied-same stage.Refinement a p r m =
       ap (λ (l : Logged Judged). logged
       (stepped (l .core .step) (setYCont (l .core .y) (l .core .cont) (memoryBy c m))) (l .log))
-      (refined-same c r (m .factors .e1) (m .factors .ip1) (m .amounts .scal) (m .amounts .y) (m .amounts .cont)
+      (refined-same c rules r (m .factors .e1) (m .factors .ip1) (m .amounts .scal) (m .amounts .y) (m .amounts .cont)
       (m .newton))
   replied-same stage.Accepted a p r m = refl
   replied-same stage.Report a p r m =
@@ -181,13 +190,6 @@ module _ (c : Changes) where
 
   -- ---- the advance
 
-  -- where the reply leads, and past the matrices
-  abbrev pub stepAfter : Run → Reply → Memory → Step
-  stepAfter r p m = repliedOf (r .stage) p r m .core .step
-
-  abbrev pub stepPast : Run → Reply → Memory → Step
-  stepPast r p m = passedOf (repliedOf (r .stage) p r m .core) .core .step
-
   whole-same : (n : ℕ) (r : Run) (p : Reply) (m : Memory) → BuiltSame c n → At c (r .stage)
       → StepOf n (stepAfter r p m) → Agree c (stepPast r p m)
       → wholeOf (runBy c r) p (memoryBy c m) ≡ onCore (calledBy c) (wholeOf r p m)
@@ -198,7 +200,7 @@ module _ (c : Changes) where
       (replied-same (r .stage) at p r m)
       ∙ ap (λ (k : Logged Stepped). andThen (logged (k .core) (l .log ++ k .log))
       (λ (t : Stepped). calledOf (t .step) (t .memory)))
-      (passed-same c n built (l .core) order)
+      (passed-same c rules n built (l .core) order)
       ∙ ap (λ (k : Logged Called). logged (k .core) (l .log ++ t .log ++ k .log))
       (called-same (t .core .step) (t .core .memory) both)
 
