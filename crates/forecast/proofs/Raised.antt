@@ -10,8 +10,8 @@ use Rattle.state.specs.declared.talk.Opened.{Opened}
 use Rattle.state.specs.declared.talk.Opened.the-variants as opened
 use Rattle.state.specs.Memory.{Memory}
 use Rattle.opening.specs.Opening.{OpeningOutcome, openingOutcome, openOf}
-use Rattle.limit.specs.Limit.{runWith, openedWith, Raises}
-use Rattle.limit.proofs.Openings.{opening-same}
+use Rattle.limit.specs.Limit.{runWith, Raises}
+use Rattle.limit.proofs.Openings.{openedWith, opening-same}
 use Rattle.limit.proofs.Theorems.{raising-keeps}
 use Rattle.sheet.specs.Sheet.{Model, Valid}
 use Rattle.sheet.specs.Reader.{Read, readOf}

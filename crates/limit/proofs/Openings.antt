@@ -18,7 +18,15 @@ use Rattle.opening.specs.Opening.{OpeningOutcome, openingOutcome, openOf, byVer
 use Rattle.opening.specs.Opening.{shapeOf, firstStepOf}
 use Rattle.opening.proofs.RowLaws.{verdict-first-proof}
 use Rattle.opening.proofs.OpeningLaws.{within}
-use Rattle.limit.specs.Limit.{openingWith, openedWith}
+use Rattle.limit.specs.Limit.{openingWith, runWith}
+
+-- what is answered to an opening
+abbrev pub openedWith : ℕ → OpeningOutcome → OpeningOutcome
+openedWith M x = openingOutcome (answerWith (x .answer)) (x .memory)
+  where
+    answerWith : Opened → Opened
+    answerWith (opened.Asked r q p) = opened.Asked (runWith M r) q p
+    answerWith (opened.Refused y) = opened.Refused y
 
 accepted-same : (M : ℕ) (o : Opening) → acceptedOf (openingWith M o) ≡ openedWith M (acceptedOf o)
 unfolding acceptedOf firstRun fixedOf shapeOf firstStepOf

@@ -31,9 +31,9 @@ use Rattle.solve_whole.proofs.Talks.{first-end, at-end, one-end}
 use Rattle.solve_whole.proofs.Offered.{last-advance, admitted-before}
 use Rattle.solve_whole.proofs.HostsAlike.{talk-more}
 use Rattle.solve_whole.proofs.Theorems.{solve-offered, solve-returns}
-use Rattle.limit.specs.Limit.{runWith, pointWith, openingWith, openedWith, Raises, isOver, Begins, Opens}
+use Rattle.limit.specs.Limit.{runWith, pointWith, openingWith, Raises, isOver, Begins, Opens}
 use Rattle.limit.specs.Limit.{Unmoved, Continued}
-use Rattle.limit.proofs.Openings.{opening-same, first-limit, first-settings}
+use Rattle.limit.proofs.Openings.{openedWith, opening-same, first-limit, first-settings}
 use Rattle.limit.proofs.Advances.{admits-more, settings-kept, endsOver, whole-same}
 
 -- ---- one advance of a talk

@@ -10,11 +10,10 @@ use Rattle.state.specs.declared.settings.Source.{Source}
 use Rattle.state.specs.declared.run.Run.{Run}
 use Rattle.state.specs.declared.run.Status.{Status}
 use Rattle.state.specs.declared.run.Status.the-variants.{NeedLargerNMax}
-use Rattle.state.specs.declared.talk.Opened.{Opened}
 use Rattle.state.specs.declared.talk.Opened.the-variants as opened
 use Rattle.state.specs.Result.{resultOf}
 use Rattle.opening.specs.Rows.{Opening, opening}
-use Rattle.opening.specs.Opening.{OpeningOutcome, openingOutcome, openOf}
+use Rattle.opening.specs.Opening.{openingOutcome, openOf}
 use Rattle.solve_beside.specs.Changes.{Changes, settingsBy, runBy}
 use Rattle.history.specs.History.{Point, point}
 use Rattle.account.specs.Reading.{sameStatus}
@@ -38,14 +37,6 @@ runWith M r = runBy (toLimit M) r
 
 abbrev pub pointWith : ℕ → Point → Point
 pointWith M here = point (runWith M (here .run)) (here .request) (here .place) (here .memory)
-
--- what is answered to an opening
-abbrev pub openedWith : ℕ → OpeningOutcome → OpeningOutcome
-openedWith M x = openingOutcome (answerWith (x .answer)) (x .memory)
-  where
-    answerWith : Opened → Opened
-    answerWith (opened.Asked r q p) = opened.Asked (runWith M r) q p
-    answerWith (opened.Refused y) = opened.Refused y
 
 -- ---- what is promised
 

@@ -71,54 +71,66 @@ fn pair_row(first: usize, second: usize) -> usize {
     first
 }
 
-// That a byte fits is known of an argument.
-fn number_of(byte: u8) -> u64 {
-    byte as u64
-}
-
-// What was found, and two texts held against each other: their lengths first, and then the bytes.
-fn alike(found: Found, gave: &[u8], wanted: &[u8]) -> Found {
-    let mut now = found.compared(gave.len() as u64, wanted.len() as u64);
+// Whether two texts have the same bytes.
+fn alike(gave: &[u8], wanted: &[u8]) -> bool {
+    let mut same = gave.len() == wanted.len();
     for i in 0..within(gave.len(), wanted.len()) {
-        now = now.compared(number_of(gave[i]), number_of(wanted[i]));
+        same = same & (gave[i] == wanted[i]);
     }
-    now
+    same
 }
 
-// The first bytes of what was printed. Of what lies behind a reference the length is known.
-fn printed_alike(found: Found, out: &[u8; OUT], printed: usize, wanted: &[u8]) -> Found {
+// Whether what was printed is the stored answer. Of what lies behind a reference the length is known.
+fn answered(out: &[u8; OUT], printed: usize, wanted: &[u8]) -> bool {
     let bytes: &[u8] = out;
-    alike(found, &bytes[0..within(printed, bytes.len())], wanted)
+    alike(&bytes[0..within(printed, bytes.len())], wanted)
 }
 
-// No count of the longer run is below the shorter's.
-fn grown(found: Found, shorter: IntegrationResult, longer: IntegrationResult) -> Found {
+// Whether the same was printed of both sheets.
+fn unmoved(out: &[u8; OUT], printed: usize, raised_out: &[u8; OUT], raised_printed: usize) -> bool {
+    let bytes: &[u8] = raised_out;
+    answered(out, printed, &bytes[0..within(raised_printed, bytes.len())])
+}
+
+// Whether no count of the longer run is below the shorter's.
+fn grown(shorter: IntegrationResult, longer: IntegrationResult) -> bool {
     let before = shorter.counts;
     let after = longer.counts;
-    found
-        .truth(before.ode <= after.ode, true)
-        .truth(before.jac <= after.jac, true)
-        .truth(before.lu <= after.lu, true)
-        .truth(before.total <= after.total, true)
-        .truth(before.accepted <= after.accepted, true)
-        .truth(before.rejected <= after.rejected, true)
+    (before.ode <= after.ode)
+        & (before.jac <= after.jac)
+        & (before.lu <= after.lu)
+        & (before.total <= after.total)
+        & (before.accepted <= after.accepted)
+        & (before.rejected <= after.rejected)
 }
 
-// The same where both have ended.
-fn grown_ends(found: Found, shorter: Ending, longer: Ending) -> Found {
+// The same where the longer run has ended, as every run does.
+fn grown_to(shorter: IntegrationResult, longer: Ending) -> bool {
+    match longer {
+        Ending::Ended(second) => {
+            let after = second.result;
+            grown(shorter, after)
+        }
+        _ => false,
+    }
+}
+
+fn grown_ends(shorter: Ending, longer: Ending) -> bool {
     match shorter {
         Ending::Ended(first) => {
             let before = first.result;
-            match longer {
-                Ending::Ended(second) => {
-                    let after = second.result;
-                    grown(found, before, after)
-                }
-                _ => found.truth(false, true),
-            }
+            grown_to(before, longer)
         }
-        _ => found.truth(false, true),
+        _ => false,
     }
+}
+
+// The three that were found of a pair: the first that fails is told by its place.
+fn found_of(first: bool, second: bool, together: bool) -> Found {
+    Found::nothing()
+        .truth(first, true)
+        .truth(second, true)
+        .truth(together, true)
 }
 
 // The counts after one pair more, of which all was read.
@@ -138,19 +150,12 @@ fn with_texts(
     let raised_printed = print(raised_told, &mut raised_out);
     let ending = told.ending;
     let raised_ending = raised_told.ending;
-    let first = printed_alike(Found::nothing(), &out, printed, answer);
-    let both = printed_alike(first, &raised_out, raised_printed, raised_answer);
     let row = pair_row(row_of(ending), row_of(raised_ending));
-    if OVER <= row {
-        return counted(counts, names, row, grown_ends(both, ending, raised_ending));
-    }
-    let bytes = &out[0..within(printed, OUT)];
-    counted(
-        counts,
-        names,
-        row,
-        printed_alike(both, &raised_out, raised_printed, bytes),
-    )
+    let first = answered(&out, printed, answer);
+    let second = answered(&raised_out, raised_printed, raised_answer);
+    let same = unmoved(&out, printed, &raised_out, raised_printed);
+    let goes_on = (OVER <= row) & grown_ends(ending, raised_ending);
+    counted(counts, names, row, found_of(first, second, same | goes_on))
 }
 
 // Whether as many bytes were read as were asked for.

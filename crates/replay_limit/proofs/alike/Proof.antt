@@ -6,10 +6,10 @@ use Rattle.replay_limit.proofs.alike.Statement.{statement}
 use Rattle.replay_limit.proofs.alike.Tie as tie
 
 abbrev Inv-loop : tie.InvT-loop
-Inv-loop found gave wanted now₀ i₀ i-end now i = (i-end ≤ length gave) × (i-end ≤ length wanted)
+Inv-loop gave wanted same₀ i₀ i-end same i = (i-end ≤ length gave) × (i-end ≤ length wanted)
 
 abbrev μ-loop : tie.MeasureT-loop
-μ-loop found gave wanted now₀ i₀ i-end now i = i-end - i
+μ-loop gave wanted same₀ i₀ i-end same i = i-end - i
 
 pub alike-spec : {M : Type 1} → statement M
 alike-spec =
