@@ -151,7 +151,7 @@ module _ (M : ℕ) where
   slow-by rule.Book r = refl
 
   rules-same : RuleSame (toLimit M)
-  rules-same = record { slow = λ r. slow-by (r .settings .rule) r }
+  rules-same = record { missed = λ r. refl; slow = λ r. slow-by (r .settings .rule) r }
 
   at-every : (s : Stage) → At (toLimit M) s
   unfolding At

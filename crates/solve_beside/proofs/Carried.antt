@@ -7,7 +7,7 @@ use Rattle.solve_blocks.specs.declared.step.Round.{Round}
 use Rattle.solve_blocks.specs.declared.step.Round.the-variants as round
 use Rattle.solve_blocks.specs.declared.step.Step.{Step}
 use Rattle.solve_blocks.specs.declared.step.Step.the-variants as step
-use Rattle.solve_blocks.specs.Matrices.{Tried, tried}
+use Rattle.solve_blocks.specs.Matrices.{missedOf, Tried, tried}
 use Rattle.solve_blocks.specs.Attempt.{Begun, begunAs}
 use Rattle.solve_blocks.specs.Newton.{slowRound, RoundDone, roundDone, Resumed, resumed}
 use Rattle.solve_blocks.specs.Judge.{Judged, judged, Estimated, estimated}
@@ -60,6 +60,8 @@ module _ (c : Changes) where
 
   -- each definition that looks at the rule goes the same way under both
   pub record RuleSame : Type 0 where
+    -- an attempt that failed
+    pub missed : (r : Run) → missedOf (runBy c r) ≡ runBy c (missedOf r)
     -- a slow round
     pub slow : (r : Run)
         → slowRound ((c .rule) (r .settings .rule)) (runBy c r) ≡ onRound (slowRound (r .settings .rule) r)

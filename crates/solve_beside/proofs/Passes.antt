@@ -67,7 +67,7 @@ BuiltSame c n =
 module _ (c : Changes) (rules : RuleSame c) where
   pub failed-same : (r : Run) → failedOf (runBy c r) ≡ onStep c (failedOf r)
   unfolding failedOf
-  failed-same r = pick-maps (onStep c) _ refl refl
+  failed-same r = pick-maps (onStep c) _ refl (ap step.Main (rules .missed _))
 
   tried-failed : (r : Run) (f : Factors) (es : List Event)
       → logged (tried (failedOf (runBy c r)) f) es ≡ onCore (onTried c) (logged (tried (failedOf r) f) es)
