@@ -177,7 +177,7 @@ unfolding ruleFrom pick
 rule-back rule.Rust = refl
 rule-back rule.Book = refl
 
-reactions-back : (rs : List Reaction) → reactionsFrom (length rs) (listedOf rs) ≡ rs
+pub reactions-back : (rs : List Reaction) → reactionsFrom (length rs) (listedOf rs) ≡ rs
 unfolding reactionsFrom listedOf
 reactions-back [] = refl
 reactions-back (r ∷ rs) = ap (λ x. r ∷ x) (reactions-back rs)

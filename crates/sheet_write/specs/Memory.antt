@@ -1,9 +1,9 @@
 -- A model in memory, in the arrays that reading fills: its heading, its amounts, its rates, and four species for each
 -- reaction. Entries behind those are no part of it.
-use Prim.Native.Nat.{ℕ, zero, suc, _+_, _*_}
+use Prim.Native.Nat.{ℕ, zero, suc}
 use mathlib.Core.Path.{_≡_}
-use mathlib.Core.List.{List, [], _∷_, _++_}
-use lib.ListN.{length, getD, take}
+use mathlib.Core.List.{List, [], _∷_}
+use lib.ListN.{length, getD, take, drop}
 use Rattle.sheet.specs.declared.sheet.Heading.{Heading}
 use Rattle.sheet.specs.Sheet.{Model, ruleNumber}
 use Rattle.sheet.specs.Reader.{headingOf, over, ratesOf, speciesOf, reactionsFrom}
@@ -26,15 +26,12 @@ pub record Arrays (a r s : List ℕ) : Type 0 where
 abbrev pub settingsIn : Heading → List ℕ
 settingsIn h = 6 ∷ h .x0 ∷ h .xend ∷ h .rtol ∷ h .atol ∷ h .«max_steps» ∷ ruleNumber (h .rule) ∷ h .species ∷ []
 
--- reaction i: its rate and its four species
-abbrev pub fiveAt : List ℕ → List ℕ → ℕ → List ℕ
-fiveAt rates species i =
-    getD rates i 0 ∷ getD species (i * 4) 0 ∷ getD species (i * 4 + 1) 0 ∷ getD species (i * 4 + 2) 0
-    ∷ getD species (i * 4 + 3) 0 ∷ []
-
+-- five to a reaction: its rate and its four species
 unfoldable pub listedIn : ℕ → List ℕ → List ℕ → List ℕ
 listedIn zero rates species = []
-listedIn (suc n) rates species = listedIn n rates species ++ fiveAt rates species n
+listedIn (suc n) rates species =
+    getD rates 0 0 ∷ getD species 0 0 ∷ getD species 1 0 ∷ getD species 2 0 ∷ getD species 3 0
+    ∷ listedIn n (drop 1 rates) (drop 4 species)
 
 unfoldable pub modelIn : Heading → List ℕ → List ℕ → List ℕ → Model
 modelIn h amounts rates species =

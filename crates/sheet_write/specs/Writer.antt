@@ -36,6 +36,13 @@ pub record Fits (h a n r : List ℕ) : Type 0 where
   pub count : Fit (kindOf phase.Count 0) 0 n
   pub reactions : Fit (kindOf phase.Reactions (getD h 7 0)) 0 r
 
+-- a sheet is put over the first bytes where it fits; where it is longer, all is left as it was
+unfoldable pub answerFor : List ℕ → List ℕ → Writing
+answerFor sheet out = pick (ltb (length out) (length sheet)) TooShort (Written (length sheet))
+
+unfoldable pub leftFor : List ℕ → List ℕ → List ℕ
+leftFor sheet out = pick (ltb (length out) (length sheet)) out (over sheet out)
+
 module _ (h : Heading) (amounts rates species : List ℕ) where
   -- the settings, the counts, the amounts and the reactions, each number by its kind
   unfoldable pub heldIn : Bool
@@ -51,8 +58,7 @@ module _ (h : Heading) (amounts rates species : List ℕ) where
 
   module _ (out : List ℕ) where
     unfoldable pub answerOf : Writing
-    answerOf = pick heldIn (pick (ltb (length out) (length sheetIn)) TooShort (Written (length sheetIn))) NoModel
+    answerOf = pick heldIn (answerFor sheetIn out) NoModel
 
-    -- the sheet over the first bytes; a refusal leaves all as it was
     unfoldable pub bytesLeft : List ℕ
-    bytesLeft = pick heldIn (pick (ltb (length out) (length sheetIn)) out (over sheetIn out)) out
+    bytesLeft = pick heldIn (leftFor sheetIn out) out

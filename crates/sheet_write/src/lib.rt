@@ -4,6 +4,8 @@ mod copy;
 mod digits;
 mod listing;
 mod numbers;
+pub mod rewriting;
 pub mod writing;
 
+pub use rewriting::rewrite;
 pub use writing::write;

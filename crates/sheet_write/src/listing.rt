@@ -1,7 +1,7 @@
 // The numbers of a sheet in their order, out of the memory that reading fills.
 ghost use Prim.Native.Nat.{_*_, _≤_};
 ghost use mathlib.Core.Path.{_≡_};
-ghost use lib.ListN.{take};
+ghost use lib.ListN.{length, take};
 ghost use Rattle.sheet.specs.Sheet.{ruleNumber};
 ghost use Rattle.sheet_write.specs.Memory.{settingsIn, listedIn};
 use sheet::sheet::Heading;
@@ -34,8 +34,8 @@ pub fn settings_of(heading: Heading) -> [u64; 8]
 }
 
 // Five numbers to a reaction: its rate and its four species.
-pub fn list_reactions(rates: &[u64; 64], species: &[usize; 256], n: usize, listed: &mut [u64; 320])
-    requires { ⌜ n ≤ 64 ⌝ }
+pub fn list_reactions(rates: &[u64; 64], species: &[usize; 256], n: usize, listed: &mut [u64])
+    requires { ⌜ (n ≤ 64) × (length (now listed) ≡ 320) ⌝ }
     ensures { λ _. ⌜ take (n * 5) (now (listed .exit)) ≡ listedIn n (now (rates .entry)) (now (species .entry)) ⌝ }
 {
     for i in 0..n {

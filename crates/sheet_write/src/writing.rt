@@ -1,11 +1,12 @@
 // A sheet is written first into memory of the writer's own. Only what fits is put into lent memory.
 ghost use Prim.Native.Nat.{_*_, _≤_};
 ghost use mathlib.Core.Path.{_≡_};
-ghost use lib.ListN.{getD, take};
+ghost use lib.ListN.{length, getD, take};
 ghost use Rattle.sheet.specs.Sheet.{written};
 ghost use Rattle.sheet.specs.Reader.{modelFrom};
 ghost use Rattle.forecast_text.specs.Put.{Put};
-ghost use Rattle.sheet_write.specs.Writer.{Fits, answerOf, bytesLeft, numberOf};
+ghost use Rattle.sheet_write.specs.Writer.{Fits, answerFor, leftFor, answerOf, bytesLeft};
+ghost use Rattle.sheet_write.specs.Writer.{numberOf};
 use crate::copy::copy;
 use crate::digits::ROOM;
 use crate::listing::list_reactions;
@@ -27,11 +28,13 @@ pub enum Writing {
 // Puts the four parts of a sheet one behind the other, each of whose numbers is of its kind.
 fn put_sheet(
     sheet: &mut [u8; ROOM],
-    settings: &[u64; 8],
-    amounts: &[u64; 32],
-    count: &[u64; 1],
-    listed: &[u64; 320],
+    settings: &[u64],
+    amounts: &[u64],
+    count: &[u64],
+    listed: &[u64],
 ) -> usize
+    requires { ⌜ (length (now settings) ≡ 8) × (length (now amounts) ≡ 32)
+        × (length (now count) ≡ 1) × (length (now listed) ≡ 320) ⌝ }
     requires { ⌜ Fits (now settings) (take (getD (now settings) 7 0) (now amounts)) (now count)
         (take (getD (now count) 0 0 * 5) (now listed)) ⌝ }
     ensures { λ r. ⌜ Put 0 (written (modelFrom (now (settings .entry))
@@ -45,6 +48,28 @@ fn put_sheet(
     let given = put_numbers(sheet, head, Phase::Amounts, 0, species as usize, amounts);
     let counted = put_numbers(sheet, given, Phase::Count, 0, 1, count);
     put_numbers(sheet, counted, Phase::Reactions, species, numbered, listed)
+}
+
+// Writes the sheet of the four parts where it fits.
+fn write_parts(settings: &[u64], amounts: &[u64], count: &[u64], listed: &[u64], out: &mut [u8]) -> Writing
+    requires { ⌜ (length (now settings) ≡ 8) × (length (now amounts) ≡ 32)
+        × (length (now count) ≡ 1) × (length (now listed) ≡ 320) ⌝ }
+    requires { ⌜ Fits (now settings) (take (getD (now settings) 7 0) (now amounts)) (now count)
+        (take (getD (now count) 0 0 * 5) (now listed)) ⌝ }
+    ensures { λ r. ⌜ r ≡ answerFor (written (modelFrom (now (settings .entry))
+        (take (getD (now (settings .entry)) 7 0) (now (amounts .entry))) (now (count .entry))
+        (take (getD (now (count .entry)) 0 0 * 5) (now (listed .entry))))) (now (out .entry)) ⌝ }
+    ensures { λ r. ⌜ now (out .exit) ≡ leftFor (written (modelFrom (now (settings .entry))
+        (take (getD (now (settings .entry)) 7 0) (now (amounts .entry))) (now (count .entry))
+        (take (getD (now (count .entry)) 0 0 * 5) (now (listed .entry))))) (now (out .entry)) ⌝ }
+{
+    let mut sheet = [0u8; ROOM];
+    let length = put_sheet(&mut sheet, settings, amounts, count, listed);
+    if out.len() < length {
+        return Writing::TooShort;
+    }
+    copy(&sheet, length, out);
+    Writing::Written(length)
 }
 
 // Writes the sheet of the model that stands in memory over the first bytes of `out`, and tells how many they are; what
@@ -79,13 +104,7 @@ pub fn write(
     if !fits(Phase::Reactions, n as u64, reactions * 5, &listed) {
         return Writing::NoModel;
     }
-    let mut sheet = [0u8; ROOM];
-    let length = put_sheet(&mut sheet, &settings, amounts, &count, &listed);
-    if out.len() < length {
-        return Writing::TooShort;
-    }
-    copy(&sheet, length, out);
-    Writing::Written(length)
+    write_parts(&settings, amounts, &count, &listed, out)
 }
 
 // The number of a refusal; 0 of a sheet that was written.
