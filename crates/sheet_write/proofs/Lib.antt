@@ -5,6 +5,7 @@ pub mod MemoryLaws
 pub mod AnswerLaws
 pub mod HeldLaws
 pub mod RoundTripLaws
+pub mod RewriteLaws
 pub mod Theorems
 pub mod Determinism
 pub mod Refuted

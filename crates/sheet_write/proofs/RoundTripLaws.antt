@@ -66,7 +66,7 @@ module _ (h : Heading) (a r s out : List ℕ) where
   left-held e = pick-yes _ _ e
 
   module _ (long : Arrays a r s) where
-    pub held-readable : heldIn h a r s ≡ true → Readable h a r s
+    abbrev pub held-readable : heldIn h a r s ≡ true → Readable h a r s
     held-readable e =
         record {
           bytes = sheetIn h a r s;

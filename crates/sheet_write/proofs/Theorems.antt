@@ -11,9 +11,11 @@ use Rattle.sheet.specs.Reader.{headingOf, accepted, readOf, amountsLeft, ratesL
 use Rattle.sheet_write.specs.Memory.{Holds, Arrays, modelIn}
 use Rattle.sheet_write.specs.Writer.{answerOf, bytesLeft}
 use Rattle.sheet_write.specs.RoundTrips.{Readable, Longer}
+use Rattle.sheet_write.specs.Rewritten.{rewrittenOf}
 use Rattle.sheet_write.specs.declared.writing.Writing.the-variants.{Written, NoModel, TooShort}
 use Rattle.sheet_write.proofs.RoundTripLaws.{refused-exactly-proof, short-exactly-proof, written-back-proof}
 use Rattle.sheet_write.proofs.RoundTripLaws.{read-back-proof, nothing-written-proof, sheet-back-proof}
+use Rattle.sheet_write.proofs.RewriteLaws.{rewritten-same-proof}
 
 module _ (h : Heading) (a r s out : List ℕ) where
   -- Memory is refused by 23 exactly when no sheet reads to what it holds.
@@ -47,3 +49,7 @@ pub sheet-back : (bytes : List ℕ) (m : Model) → readOf bytes ≡ accepted m 
     × (bytesLeft (headingOf m) (amountsLeft (readOf bytes) a) (ratesLeft (readOf bytes) r)
     (speciesLeft (readOf bytes) s) out ≡ bytes ++ drop (length bytes) out)
 sheet-back = sheet-back-proof
+
+-- What is printed of an accepted sheet that is rewritten is that sheet.
+pub rewritten-same : (bytes : List ℕ) (m : Model) → readOf bytes ≡ accepted m → rewrittenOf (readOf bytes) ≡ bytes
+rewritten-same = rewritten-same-proof

@@ -1,6 +1,6 @@
 -- `write` meets its contract, way by way.
 use Prim.Native.Nat.{_≤_}
-use mathlib.Core.Path.{_≡_, refl, sym, _∙_}
+use mathlib.Core.Path.{_≡_, refl, ap}
 use mathlib.Core.Bool.{true}
 use native.Mathlib.Omega.{arith}
 use borrow.Author.Needs.{needs}
@@ -85,7 +85,6 @@ fits-requires-4 c κs =
       arith,
       few-reactions (args .heading) (args .amounts .now) (args .rates .now) (args .species .now)
           (said (at-if2 .before .fits3 .ensures) (not-false _ (at-if2 .if2 .left))),
-      c .listed3 .given,
       c .before .listed2 .given,
     )
 
@@ -106,7 +105,34 @@ returns-4 c =
 
 write-parts-requires : tie.Need-write-parts-requires
 write-parts-requires c κs =
-    let at-if4 = c .before .before .before .before in
+    let at-if4 = c .before .before .before .before .before in
+    let at-list = at-if4 .before .before .before .before in
+    let at-if3 = at-list .before .before in
+    let at-if2 = at-if3 .before .before .before in
+    let at-if1 = at-if2 .before .before .before in
+    let at-settings-of = at-if1 .before .before .before in
+    let args = at-settings-of .before .before .args in
+    let right : Right (args .heading) (args .amounts .now) (args .rates .now) (args .species .now) = record {
+      settings = said (rw (at-settings-of .settings-of .ensures) at (at-if1 .before .fits2 .ensures))
+          (not-false _ (at-if1 .if1 .left));
+      count = said (at-if2 .before .fits3 .ensures) (not-false _ (at-if2 .if2 .left));
+      amounts = said (at-if3 .before .fits4 .ensures) (not-false _ (at-if3 .if3 .left));
+      reactions = said (rw (at-list .list-reactions .ensures) at (at-if4 .before .fits5 .ensures))
+          (not-false _ (at-if4 .if4 .left));
+    } in (
+      (
+        ap length (at-settings-of .settings-of .ensures),
+        omega (arith, c .before .before .before .write-parts-arg .given),
+        refl,
+        omega (arith, at-if4 .before .before .before .listed2 .given),
+      ),
+      rw (at-settings-of .settings-of .ensures, at-list .list-reactions .ensures)
+          (right-fits (args .heading) (args .amounts .now) (args .rates .now) (args .species .now) right),
+    )
+
+returns-5 : tie.Need-returns-5
+returns-5 c =
+    let at-if4 = c .before .before .before .before .before .before .before .before in
     let at-list = at-if4 .before .before .before .before in
     let at-if3 = at-list .before .before in
     let at-if2 = at-if3 .before .before .before in
@@ -121,11 +147,12 @@ write-parts-requires c κs =
       reactions = said (rw (at-list .list-reactions .ensures) at (at-if4 .before .fits5 .ensures))
           (not-false _ (at-if4 .if4 .left));
     } in
-    (?, rw (at-settings-of .settings-of .ensures, at-list .list-reactions .ensures)
-          (right-fits (args .heading) (args .amounts .now) (args .rates .now) (args .species .now) right))
-
-returns-5 : tie.Need-returns-5
-returns-5 c = ?
+    outcome-held (args .heading) (args .amounts .now) (args .rates .now) (args .species .now) (args .out .now)
+    (right-held (args .heading) (args .amounts .now) (args .rates .now) (args .species .now) right) _
+    (parts-model (args .heading) (args .amounts .now) (args .rates .now) (args .species .now)
+    (at-settings-of .settings-of .result) (at-list .list-reactions .last .1 .1 .1 .0)
+    (at-settings-of .settings-of .ensures) (at-list .list-reactions .ensures))
+    (c .before .before .write-parts .ensures .0) (c .before .before .write-parts .ensures .1)
 
 pub write-spec : {M : Type 1} → statement M
 write-spec =
