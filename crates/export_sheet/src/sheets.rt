@@ -67,7 +67,13 @@ pub extern "C" fn elchepur_write_sheet(
     if LAST_RULE < rule {
         return writing_number(Writing::NoModel);
     }
-    let answer = write(heading_from(settings, counts), amounts, rates, species, sheet);
+    let answer = write(
+        heading_from(settings, counts),
+        amounts,
+        rates,
+        species,
+        sheet,
+    );
     match answer {
         Writing::Written(count) => {
             *length = count;

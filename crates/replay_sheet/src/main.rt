@@ -95,7 +95,11 @@ fn read_first(bytes: &mut [u8], count: usize) -> bool {
 // What was printed, held against the stored answer. Of what lies behind a reference the length is known.
 fn met_first(out: &[u8; OUT], printed: usize, wanted: &[u8]) -> Found {
     let bytes: &[u8] = out;
-    met(Found::nothing(), &bytes[0..within(printed, bytes.len())], wanted)
+    met(
+        Found::nothing(),
+        &bytes[0..within(printed, bytes.len())],
+        wanted,
+    )
 }
 
 // The same of a sheet that was rewritten.

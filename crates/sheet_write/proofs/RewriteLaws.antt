@@ -83,7 +83,7 @@ module _ (f : Forecast) where
   long-by tooLong q e = ap (λ x. endingText x (f .amounts)) e
 
   -- what was put of it is what is printed
-  module _ (out : List ℕ) {x : Read} {n : ℕ} {left : List ℕ} (p : left ≡ over (printedOf f) out)
+  module _ (out : List ℕ) (x : Read) {n : ℕ} {left : List ℕ} (p : left ≡ over (printedOf f) out)
       (c : n ≡ length (printedOf f)) where
     told : printedOf f ≡ rewrittenOf x → (left ≡ over (rewrittenOf x) out) × (n ≡ length (rewrittenOf x))
     told e = (p ∙ ap (λ b. over b out) e, c ∙ ap length e)

@@ -51,7 +51,13 @@ fn put_sheet(
 }
 
 // Writes the sheet of the four parts where it fits.
-fn write_parts(settings: &[u64], amounts: &[u64], count: &[u64], listed: &[u64], out: &mut [u8]) -> Writing
+fn write_parts(
+    settings: &[u64],
+    amounts: &[u64],
+    count: &[u64],
+    listed: &[u64],
+    out: &mut [u8],
+) -> Writing
     requires { ⌜ (length (now settings) ≡ 8) × (length (now amounts) ≡ 32)
         × (length (now count) ≡ 1) × (length (now listed) ≡ 320) ⌝ }
     requires { ⌜ Fits (now settings) (take (getD (now settings) 7 0) (now amounts)) (now count)

@@ -1,5 +1,5 @@
 -- `put_printed` meets its contract.
-use Prim.Native.Nat.{_≤_}
+use Prim.Native.Nat.{ℕ, _≤_}
 use mathlib.Core.Path.{_≡_, refl, sym, ap, _∙_}
 use native.Mathlib.Omega.{arith}
 use borrow.Author.Needs.{needs}
@@ -15,12 +15,12 @@ use Rattle.sheet_write.proofs.rewriting.put_printed.Lts as lts
 
 slice-aggregate-copy : tie.Need-slice-aggregate-copy
 slice-aggregate-copy c =
-    sym (ap length (c .before .print .ensures .0) ∙ length-over _ _ ∙ length-replicate 1024 0)
+    sym (ap length (c .before .print .ensures .0) ∙ length-over _ _ ∙ length-replicate {A = ℕ} 1024 0)
 
 copy-requires : tie.Need-copy-requires
 copy-requires c κs =
     let print = c .before .before .print in
-    let long = ap length (print .ensures .0) ∙ length-over _ _ ∙ length-replicate 1024 0 in
+    let long = ap length (print .ensures .0) ∙ length-over _ _ ∙ length-replicate {A = ℕ} 1024 0 in
     (omega (arith, print .ensures .1 .1, long), omega (arith, print .ensures .1 .1))
 
 returns : tie.Need-returns
@@ -28,7 +28,7 @@ returns c =
     let print = c .before .before .before .before .before .print in
     let args = c .before .before .before .before .before .before .before .before .args in
     let same = over-taken (printedOf (args .forecast)) _ (print .ensures .0) (print .ensures .1 .0)
-    (omega (arith, print .ensures .1 .0, print .ensures .1 .1, length-replicate 1024 0)) in
+    (omega (arith, print .ensures .1 .0, print .ensures .1 .1, length-replicate {A = ℕ} 1024 0)) in
     (c .before .before .copy .ensures ∙ ap (λ b. over b (args .out .now)) same, print .ensures .1 .0)
 
 pub put-printed-spec : {M : Type 1} → statement M

@@ -1,5 +1,5 @@
 -- `rewrite` meets its contract.
-use Prim.Native.Nat.{_≤_}
+use Prim.Native.Nat.{ℕ, _≤_}
 use mathlib.Core.Path.{_≡_, refl, sym, ap, _∙_}
 use native.Mathlib.Omega.{arith}
 use borrow.Author.Needs.{needs}
@@ -17,9 +17,9 @@ returns c =
     let args = c .before .before .before .before .before .before .before .before .before .before .before .before .before .args in
     rewrote-model (args .bytes .now) _ _ _ _ (args .out .now)
     (record {
-      amounts = length-replicate 32 0;
-      rates = length-replicate 64 0;
-      species = length-replicate 256 0;
+      amounts = length-replicate {A = ℕ} 32 0;
+      rates = length-replicate {A = ℕ} 64 0;
+      species = length-replicate {A = ℕ} 256 0;
     }) (omega (arith, c .before .put-model-arg .given)) _ _ _
     (sym (read .ensures .0) ∙ at-reading .reading .given .1) (read .ensures .1 .0) (read .ensures .1 .1 .0)
     (read .ensures .1 .1 .1) (c .put-model .ensures .0) (c .put-model .ensures .1)
@@ -28,14 +28,14 @@ returns-2 : tie.Need-returns-2
 returns-2 c =
     let at-reading = c .before .before .before .before in
     let read = at-reading .before .before .read in
-    rewrote-line _ (c .before .before .before .before .before .before .before .before .before .before .before .args .out .now) (c .put-printed .ensures .0) (c .put-printed .ensures .1) _
+    rewrote-line _ (c .before .before .before .before .before .before .before .before .before .before .before .args .out .now) _ (c .put-printed .ensures .0) (c .put-printed .ensures .1) _
     (sym (read .ensures .0) ∙ at-reading .reading2 .given .1) (c .before .before .refused .ensures)
 
 returns-3 : tie.Need-returns-3
 returns-3 c =
     let at-told = c .before .before .before in
     let read = at-told .before .before .read in
-    rewrote-long _ (c .before .before .before .before .before .before .before .before .before .before .args .out .now) (c .put-printed2 .ensures .0) (c .put-printed2 .ensures .1)
+    rewrote-long _ (c .before .before .before .before .before .before .before .before .before .before .args .out .now) _ (c .put-printed2 .ensures .0) (c .put-printed2 .ensures .1)
     (sym (read .ensures .0) ∙ at-told .enum-told .given .1) (c .before .before .refused2 .ensures)
 
 pub rewrite-spec : {M : Type 1} → statement M

@@ -1,5 +1,5 @@
 -- `write_parts` meets its contract.
-use Prim.Native.Nat.{_≤_}
+use Prim.Native.Nat.{ℕ, _≤_}
 use mathlib.Core.Path.{_≡_, refl, sym, ap, _∙_}
 use native.Mathlib.Omega.{arith}
 use borrow.Author.Needs.{needs}
@@ -17,27 +17,27 @@ returns : tie.Need-returns
 returns c =
     let put = c .before .put-sheet in
     parts-short (c .before .before .before .before .before .before .before .before .args .out .now) (put .ensures .0)
-    (omega (arith, put .ensures .1, length-replicate 6144 0)) (c .if1 .taken)
+    (omega (arith, put .ensures .1, length-replicate {A = ℕ} 6144 0)) (c .if1 .taken)
 
 slice-aggregate-copy : tie.Need-slice-aggregate-copy
 slice-aggregate-copy c =
     let put = c .before .before .put-sheet in
     sym (put-long (c .before .before .before .before .before .before .before .before .before .args .out .now)
-    (put .ensures .0) (omega (arith, put .ensures .1, length-replicate 6144 0)) ∙ length-replicate 6144 0)
+    (put .ensures .0) (omega (arith, put .ensures .1, length-replicate {A = ℕ} 6144 0)) ∙ length-replicate {A = ℕ} 6144 0)
 
 copy-requires : tie.Need-copy-requires
 copy-requires c κs =
     let put = c .before .before .before .put-sheet in
     let out = c .before .before .before .before .before .before .before .before .before .before .args .out .now in
     let room : put .result ≤ 6144 = put .ensures .1 in
-    let long = put-long out (put .ensures .0) (omega (arith, length-replicate 6144 0)) ∙ length-replicate 6144 0 in
+    let long = put-long out (put .ensures .0) (omega (arith, length-replicate {A = ℕ} 6144 0)) ∙ length-replicate {A = ℕ} 6144 0 in
     (omega (arith, long), c .before .before .if1 .left)
 
 returns-2 : tie.Need-returns-2
 returns-2 c =
     let put = c .before .before .before .before .before .before .put-sheet in
     parts-written (c .before .before .before .before .before .before .before .before .before .before .before .before
-    .before .args .out .now) (put .ensures .0) (omega (arith, put .ensures .1, length-replicate 6144 0)) _
+    .before .args .out .now) (put .ensures .0) (omega (arith, put .ensures .1, length-replicate {A = ℕ} 6144 0)) _
     (c .before .before .before .before .before .if1 .left) (c .before .before .copy .ensures)
 
 pub write-parts-spec : {M : Type 1} → statement M
