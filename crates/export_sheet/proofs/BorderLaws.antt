@@ -25,7 +25,7 @@ sets-over values memory = put-over (record { ends = refl; is = refl })
 
 -- ---- read
 
-module _ (settings counts amounts rates species : List ℕ) (line : ℕ) {amounts' rates' species' : List ℕ} where
+module _ (settings counts amounts rates species : List ℕ) (line : ℕ) (amounts' rates' species' : List ℕ) where
   abbrev pub LeftRead : Read → ℕ → List ℕ → List ℕ → ℕ → Type 0
   LeftRead x n settings' counts' line' =
       amounts' ≡ amountsLeft x amounts → rates' ≡ ratesLeft x rates → species' ≡ speciesLeft x species
