@@ -1,6 +1,7 @@
-// Runs stored sheets and compares what `decay` prints of each, byte by byte, with the stored answer. It tells the first
-// that do not agree, and then gives a summary, a line for each status and each refusal. tests/replays/replay_sheet.py,
-// which writes the sheets, says how the answers were made.
+// Runs stored sheets and compares what `decay` prints of each, byte by byte, with the stored answer; and writes each
+// once more through its model, which is to give the same bytes, or the answer where it is no sheet. It tells the first
+// that do not agree in both, and then gives a summary, a line for each status and each refusal.
+// tests/replays/replay_sheet.py, which writes the sheets, says how the answers were made.
 mod record;
 
 use forecast::forecast;
@@ -15,6 +16,7 @@ use replay::told::counted;
 use replay::told::malformed;
 use replay::told::write_summary;
 use replay::word::within;
+use sheet_write::rewrite;
 use state::run::Status;
 use state::talk::IntegrationResult;
 use state::talk::Refusal;
@@ -27,6 +29,12 @@ const ROOM: usize = 10_000;
 
 // Room for all that is printed of a sheet.
 const OUT: usize = 1024;
+
+// Room for every sheet that is written.
+const SHEET: usize = 4096;
+
+// From this row on bytes are no sheet.
+const NO_SHEET: usize = 7;
 
 // No row of the summary: a case of it is malformed.
 const NO_ROW: usize = 99;
@@ -69,9 +77,9 @@ fn number_of(byte: u8) -> u64 {
     byte as u64
 }
 
-// The lengths are compared first, and then the bytes.
-fn met(gave: &[u8], wanted: &[u8]) -> Found {
-    let mut found = Found::nothing().compared(gave.len() as u64, wanted.len() as u64);
+// The lengths are compared first, and then the bytes; `before` is what was found before.
+fn met(before: Found, gave: &[u8], wanted: &[u8]) -> Found {
+    let mut found = before.compared(gave.len() as u64, wanted.len() as u64);
     for i in 0..within(gave.len(), wanted.len()) {
         found = found.compared(number_of(gave[i]), number_of(wanted[i]));
     }
@@ -87,7 +95,27 @@ fn read_first(bytes: &mut [u8], count: usize) -> bool {
 // What was printed, held against the stored answer. Of what lies behind a reference the length is known.
 fn met_first(out: &[u8; OUT], printed: usize, wanted: &[u8]) -> Found {
     let bytes: &[u8] = out;
-    met(&bytes[0..within(printed, bytes.len())], wanted)
+    met(
+        Found::nothing(),
+        &bytes[0..within(printed, bytes.len())],
+        wanted,
+    )
+}
+
+// The same of a sheet that was rewritten.
+fn met_sheet(before: Found, out: &[u8; SHEET], count: usize, wanted: &[u8]) -> Found {
+    let bytes: &[u8] = out;
+    met(before, &bytes[0..within(count, bytes.len())], wanted)
+}
+
+// A sheet once more: the same bytes, or the stored answer where it is no sheet.
+fn rewritten(before: Found, row: usize, sheet: &[u8], wanted: &[u8]) -> Found {
+    let mut out = [0u8; SHEET];
+    let count = rewrite(sheet, &mut out);
+    if row < NO_SHEET {
+        return met_sheet(before, &out, count, sheet);
+    }
+    met_sheet(before, &out, count, wanted)
 }
 
 // The counts after one record more, whose sheet and answer were read.
@@ -96,12 +124,9 @@ fn with_answer(counts: Counts, names: &[u8], sheet: &[u8], wanted: &[u8]) -> Cou
     let told = forecast(sheet);
     let printed = print(told, &mut out);
     let ending = told.ending;
-    counted(
-        counts,
-        names,
-        row_of(ending),
-        met_first(&out, printed, wanted),
-    )
+    let row = row_of(ending);
+    let found = met_first(&out, printed, wanted);
+    counted(counts, names, row, rewritten(found, row, sheet, wanted))
 }
 
 // The counts after one record more, of which the head was read.
