@@ -1,16 +1,18 @@
 -- The estimate of the error, an acceptance and a rejection look at nothing that may differ.
 use Prim.Native.Nat.{ℕ}
 use mathlib.Core.Path.{_≡_, refl, ap}
+use mathlib.Core.Bool.{false}
 use mathlib.Core.List.{List}
 use lib.Ieee.{Float}
 use Rattle.words.specs.Words.{_⊘_}
 use Rattle.state.specs.declared.run.Run.{Run}
 use Rattle.state.specs.Memory.{Newton}
-use Rattle.solve_blocks.specs.Setters.{_▸_, inCounts, inNumbers, oneLu, setHnew}
+use Rattle.solve_blocks.specs.Setters.{_▸_, inCounts, inControl, inNumbers, oneLu, oneAccepted}
+use Rattle.solve_blocks.specs.Setters.{setFirst, setX, setXold, setHold, setHnew}
 use Rattle.solve_blocks.specs.Events.{error-solve, Logged, noted}
 use Rattle.solve_blocks.specs.Entries.{Three, three}
 use Rattle.solve_blocks.specs.Estimate.{defectOf, sides, sidesOf, solvedFirst, errorOf}
-use Rattle.solve_blocks.specs.Judge.{facOf, between, quotOf, predictiveQuot, remembered, acceptedOf}
+use Rattle.solve_blocks.specs.Judge.{facOf, between, quotOf, predictiveQuot, acceptedOf}
 use Rattle.solve_blocks.specs.Judge.{rejectedOf, Judged, judgedOf, withJudged, testedOf, estimateOf, refinedOf}
 use Rattle.solve_beside.specs.Changes.{Changes, runBy}
 use Rattle.solve_beside.proofs.Branches.{pick-maps, onCore}
@@ -20,10 +22,9 @@ module _ (c : Changes) (rules : RuleSame c) where
   accepted-same : (r : Run) (err quot : Float) → acceptedOf (runBy c r) err quot ≡ runBy c (acceptedOf r err quot)
   unfolding acceptedOf predictiveQuot between
   accepted-same r err quot =
-      let s = r ▸ inNumbers (setHnew (r .numbers .h ⊘ predictiveQuot r err quot)) in
-      let same : remembered err (runBy c s) ≡ runBy c (remembered err s) =
-      pick-maps (runBy c) (r .settings .predictive) refl refl in
-      rw same refl
+      ap (λ (s : Run). s ▸ inCounts oneAccepted ▸ inControl (setFirst false) ▸ inNumbers (setXold (r .numbers .x))
+      ▸ inNumbers (setHold (r .numbers .h)) ▸ inNumbers (setX (r .numbers .xph)))
+      (pick-maps (runBy c) (r .settings .predictive) refl refl)
 
   rejected-same : (r : Run) (hnew : Float) → rejectedOf (runBy c r) hnew ≡ runBy c (rejectedOf r hnew)
   unfolding rejectedOf
