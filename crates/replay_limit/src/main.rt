@@ -71,13 +71,24 @@ fn pair_row(first: usize, second: usize) -> usize {
     first
 }
 
+// That a byte fits is known of an argument.
+fn number_of(byte: u8) -> u64 {
+    byte as u64
+}
+
+// The lengths are compared first, and then the bytes.
+fn met(gave: &[u8], wanted: &[u8]) -> Found {
+    let mut found = Found::nothing().compared(gave.len() as u64, wanted.len() as u64);
+    for i in 0..within(gave.len(), wanted.len()) {
+        found = found.compared(number_of(gave[i]), number_of(wanted[i]));
+    }
+    found
+}
+
 // Whether two texts have the same bytes.
 fn alike(gave: &[u8], wanted: &[u8]) -> bool {
-    let mut same = gave.len() == wanted.len();
-    for i in 0..within(gave.len(), wanted.len()) {
-        same = same & (gave[i] == wanted[i]);
-    }
-    same
+    let found = met(gave, wanted);
+    found.differ == 0
 }
 
 // Whether what was printed is the stored answer. Of what lies behind a reference the length is known.

@@ -1,18 +1,18 @@
--- `alike` is safe and ends: `i` rises to a count that is no more than either has. Assumes nothing.
+-- `met` is safe and ends: `i` rises to a count that is no more than either has. Assumes nothing.
 use borrow.Author.Needs.{needs}
 use Prim.Native.Nat.{_-_, _≤_}
 use lib.ListN.{length}
-use Rattle.replay_limit.proofs.alike.Statement.{statement}
-use Rattle.replay_limit.proofs.alike.Tie as tie
+use Rattle.replay_limit.proofs.met.Statement.{statement}
+use Rattle.replay_limit.proofs.met.Tie as tie
 
 abbrev Inv-loop : tie.InvT-loop
-Inv-loop gave wanted same₀ i₀ i-end same i = (i-end ≤ length gave) × (i-end ≤ length wanted)
+Inv-loop gave wanted found₀ i₀ i-end found i = (i-end ≤ length gave) × (i-end ≤ length wanted)
 
 abbrev μ-loop : tie.MeasureT-loop
-μ-loop gave wanted same₀ i₀ i-end same i = i-end - i
+μ-loop gave wanted found₀ i₀ i-end found i = i-end - i
 
-pub alike-spec : {M : Type 1} → statement M
-alike-spec =
+pub met-spec : {M : Type 1} → statement M
+met-spec =
     tie.close
     (tie.spec
     Inv-loop
