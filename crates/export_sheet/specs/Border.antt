@@ -1,5 +1,5 @@
--- What the exported reader and writer of sheets answer and leave, on plain numbers: six settings (x0, xend, rtol and atol
--- by their bits, max_steps, the rule's number), and two counts (species, reactions).
+-- What the exported reader and writer of sheets answer and leave, on plain numbers: six settings (x0, xend, rtol and
+-- atol by their bits, max_steps, the rule's number), and two counts (species, reactions).
 use Prim.Native.Nat.{ℕ}
 use mathlib.Core.List.{List, [], _∷_}
 use lib.Dec.{ltb}

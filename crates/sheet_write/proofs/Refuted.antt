@@ -3,23 +3,21 @@
 --     not-what-fits      as much of a sheet as fits is written before it is refused by 24
 --     not-any-species    a reaction may name a species that the model doesn't have
 use Prim.Native.Nat.{ℕ}
-use mathlib.Core.Bool.{Bool, true}
-use mathlib.Core.Path.{_≡_, refl, sym, ap, _∙_}
-use mathlib.Core.List.{List, [], _∷_, _++_}
+use mathlib.Core.Path.{_≡_, ap}
+use mathlib.Core.List.{List, [], _∷_}
 use native.Mathlib.Omega.{arith}
-use lib.Dec.{eqb, ltb}
+use lib.Dec.{ltb}
 use lib.ListN.{length, getD, take, replicate}
 use Rattle.words.specs.Loop.{pick}
 use Rattle.state.specs.declared.settings.Rule.the-variants.{Rust}
 use Rattle.sheet.specs.declared.sheet.Heading.{Heading}
 use Rattle.sheet.specs.Digits.{byteOf, power, digits, widthOf}
-use Rattle.sheet.specs.Sheet.{Model, written}
+use Rattle.sheet.specs.Sheet.{written}
 use Rattle.sheet.specs.Kinds.{settingOf, reactionOf, kindOf}
-use Rattle.sheet.specs.Reader.{over, ruleFrom, reactionsFrom, modelFrom}
+use Rattle.sheet.specs.Reader.{over, reactionsFrom}
 use Rattle.sheet_write.specs.Memory.{listedIn, modelIn}
 use Rattle.sheet_write.specs.Writer.{numberOf, fitOf, heldIn, sheetIn, answerFor, leftFor, answerOf, bytesLeft}
 use Rattle.sheet_write.specs.declared.writing.Writing.{Writing}
-use Rattle.sheet_write.specs.declared.writing.Writing.the-variants.{Written, NoModel, TooShort}
 
 -- what a writer answers and leaves, of a heading, the three arrays and the lent bytes; and what the contract asks of it
 abbrev pub Answers : Type 0

@@ -7,7 +7,7 @@ use lib.ListN.{length, take}
 use lib.Seq.{take-append-seam}
 use Rattle.sheet.specs.declared.sheet.Heading.{Heading}
 use Rattle.sheet.specs.declared.sheet.Reading.the-variants as reading
-use Rattle.sheet.specs.Sheet.{Model, written}
+use Rattle.sheet.specs.Sheet.{Model}
 use Rattle.sheet.specs.Reader.{headingOf, over, Read, accepted, malformed, tooLong, readOf}
 use Rattle.sheet.specs.Reader.{amountsLeft, ratesLeft, speciesLeft}
 use Rattle.sheet.specs.Reader.{answerOf as readAnswerOf}
@@ -32,7 +32,8 @@ pub rewritten-same-proof : (bytes : List ℕ) (m : Model) → readOf bytes ≡ a
 unfolding rewrittenOf
 rewritten-same-proof bytes m e = ap rewrittenOf e ∙ sym (accepted-exactly bytes m .0 e .0)
 
-module _ (bytes : List ℕ) (h : Heading) (a₀ r₀ s₀ out : List ℕ) (long : Arrays a₀ r₀ s₀) (room : 4096 ≤ length out) where
+module _ (bytes : List ℕ) (h : Heading) (a₀ r₀ s₀ out : List ℕ) (long : Arrays a₀ r₀ s₀)
+    (room : 4096 ≤ length out) where
   abbrev Rewrote : List ℕ → List ℕ → List ℕ → Type 0
   Rewrote a r s =
       (bytesLeft h a r s out ≡ over (rewrittenOf (readOf bytes)) out)

@@ -1,5 +1,5 @@
--- What is promised of the writer, beside its contract: what a user cites, each theorem in words, its statement, and where
--- it is proved. Memory is the arrays that reading fills, of 32 amounts, 64 rates and 256 species.
+-- What is promised of the writer, beside its contract: what a user cites, each theorem in words, its statement, and
+-- where it is proved. Memory is the arrays that reading fills, of 32 amounts, 64 rates and 256 species.
 use Prim.Native.Nat.{ℕ, _≤_}
 use mathlib.Core.Path.{_≡_}
 use mathlib.Core.Logic.{_↔_}

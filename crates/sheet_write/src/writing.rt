@@ -39,7 +39,8 @@ fn put_sheet(
         (take (getD (now count) 0 0 * 5) (now listed)) ⌝ }
     ensures { λ r. ⌜ Put 0 (written (modelFrom (now (settings .entry))
         (take (getD (now (settings .entry)) 7 0) (now (amounts .entry))) (now (count .entry))
-        (take (getD (now (count .entry)) 0 0 * 5) (now (listed .entry))))) (now (sheet .entry)) (now (sheet .exit)) r ⌝ }
+        (take (getD (now (count .entry)) 0 0 * 5) (now (listed .entry)))))
+        (now (sheet .entry)) (now (sheet .exit)) r ⌝ }
     ensures { λ r. ⌜ r ≤ 6144 ⌝ }
 {
     let species = settings[7];

@@ -22,7 +22,8 @@ returns-2 c =
     left-written (args .settings .now) (args .counts .now) (args .amounts .now) (args .rates .now) (args .species .now)
     (args .sheet .now) (args .length .now) (at-heading .heading-from .result) (at-write .write .result)
     (at-heading .before .if1 .left) (at-heading .heading-from .ensures) (at-write .write .ensures .0)
-    (at-write .write .ensures .1) (c .writing-number2 .ensures ∙ ap numberOf (sym (c .before .before .answer .given .1)))
+    (at-write .write .ensures .1)
+    (c .writing-number2 .ensures ∙ ap numberOf (sym (c .before .before .answer .given .1)))
     (ap (λ a. lengthLeft a (args .length .now)) (sym (c .before .before .answer .given .1)))
 
 returns-3 : tie.Need-returns-3

@@ -1,7 +1,5 @@
 -- `write` meets its contract, way by way.
-use Prim.Native.Nat.{_≤_}
-use mathlib.Core.Path.{_≡_, refl, ap}
-use mathlib.Core.Bool.{true}
+use mathlib.Core.Path.{refl, ap}
 use native.Mathlib.Omega.{arith}
 use borrow.Author.Needs.{needs}
 use borrow.Author.Tests.{not-true, not-false}
@@ -11,8 +9,6 @@ use Rattle.sheet_write.proofs.AnswerLaws.{no-settings, no-count, no-amo
 use Rattle.sheet_write.proofs.AnswerLaws.{parts-model, outcome-held}
 use Rattle.sheet_write.proofs.writing.write.Statement.{statement}
 use Rattle.sheet_write.proofs.writing.write.Tie as tie
-use Rattle.sheet_write.proofs.writing.write.Reads as reads
-use Rattle.sheet_write.proofs.writing.write.Lts as lts
 
 returns : tie.Need-returns
 returns c =
@@ -29,7 +25,8 @@ returns-2 c =
     let at-settings-of = at-if1 .before .before .before in
     let args = at-settings-of .before .before .args in
     no-count (args .heading) (args .amounts .now) (args .rates .now) (args .species .now) (args .out .now)
-    (said (rw (at-settings-of .settings-of .ensures) at (at-if1 .before .fits2 .ensures)) (not-false _ (at-if1 .if1 .left)))
+    (said (rw (at-settings-of .settings-of .ensures) at (at-if1 .before .fits2 .ensures))
+    (not-false _ (at-if1 .if1 .left)))
     (said (at-fits3 .fits3 .ensures) (not-true _ (c .if2 .taken)))
 
 fits-requires-3 : tie.Need-fits-requires-3
@@ -54,7 +51,8 @@ returns-3 c =
     let at-settings-of = at-if1 .before .before .before in
     let args = at-settings-of .before .before .args in
     no-amounts (args .heading) (args .amounts .now) (args .rates .now) (args .species .now) (args .out .now)
-    (said (rw (at-settings-of .settings-of .ensures) at (at-if1 .before .fits2 .ensures)) (not-false _ (at-if1 .if1 .left)))
+    (said (rw (at-settings-of .settings-of .ensures) at (at-if1 .before .fits2 .ensures))
+    (not-false _ (at-if1 .if1 .left)))
     (said (at-if2 .before .fits3 .ensures) (not-false _ (at-if2 .if2 .left)))
     (said (at-fits4 .fits4 .ensures) (not-true _ (c .if3 .taken)))
 
@@ -98,7 +96,8 @@ returns-4 c =
     let at-settings-of = at-if1 .before .before .before in
     let args = at-settings-of .before .before .args in
     no-reactions (args .heading) (args .amounts .now) (args .rates .now) (args .species .now) (args .out .now)
-    (said (rw (at-settings-of .settings-of .ensures) at (at-if1 .before .fits2 .ensures)) (not-false _ (at-if1 .if1 .left)))
+    (said (rw (at-settings-of .settings-of .ensures) at (at-if1 .before .fits2 .ensures))
+    (not-false _ (at-if1 .if1 .left)))
     (said (at-if2 .before .fits3 .ensures) (not-false _ (at-if2 .if2 .left)))
     (said (at-if3 .before .fits4 .ensures) (not-false _ (at-if3 .if3 .left)))
     (said (rw (at-list .list-reactions .ensures) at (at-fits5 .fits5 .ensures)) (not-true _ (c .if4 .taken)))
