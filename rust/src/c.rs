@@ -227,7 +227,7 @@ pub(crate) fn read_sheet(sheet: &[u8]) -> Result<Arrays, (u64, usize)> {
 /// The sheet of a model, or the number that refuses.
 pub(crate) fn write_sheet(a: &Arrays) -> Result<Vec<u8>, u64> {
     let (mut sheet, mut length) = (vec![0; SHEET_MOST], 0);
-    // SAFETY: the pointer goes with the length of its slice; the arrays have the header's lengths and are apart from it.
+    // SAFETY: the pointer goes with its slice's length; the arrays have the header's lengths and are apart from it.
     let number = unsafe {
         elchepur_write_sheet(
             &a.settings,

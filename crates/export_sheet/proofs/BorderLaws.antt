@@ -1,20 +1,19 @@
 -- What the exported functions answer and leave, one law for each of their ways out.
 use Prim.Native.Nat.{ℕ, _≤_, _<_}
-use mathlib.Core.Path.{_≡_, refl, sym, ap, _∙_}
-use mathlib.Core.List.{List, [], _∷_}
+use mathlib.Core.Path.{_≡_, refl, sym}
+use mathlib.Core.List.{List}
 use native.Mathlib.Omega.{arith}
 use borrow.Author.Tests.{lt-ltb, le-ltb}
-use lib.ListN.{length, getD}
+use lib.ListN.{getD}
 use lib.Seq.{sets}
 use Rattle.words.proofs.Branch.{pick-yes, pick-no}
 use Rattle.sheet.specs.declared.sheet.Heading.{Heading}
-use Rattle.sheet.specs.declared.sheet.Reading.{Reading}
 use Rattle.sheet.specs.declared.sheet.Reading.the-variants as reading
 use Rattle.sheet.specs.Reader.{Read, accepted, malformed, tooLong, headingOf, over, answerOf}
 use Rattle.sheet.specs.Reader.{amountsLeft, ratesLeft, speciesLeft}
 use Rattle.forecast_text.proofs.PutLaws.{put-over}
 use Rattle.sheet_write.specs.declared.writing.Writing.{Writing}
-use Rattle.sheet_write.specs.declared.writing.Writing.the-variants.{Written, NoModel, TooShort}
+use Rattle.sheet_write.specs.declared.writing.Writing.the-variants.{NoModel}
 use Rattle.sheet_write.specs.Writer.{numberOf, bytesLeft, answerOf as writeAnswerOf}
 use Rattle.export_sheet.specs.Border.{settingWords, countWords, sheetRead, readLeft}
 use Rattle.export_sheet.specs.Border.{sheetWritten, headingGiven, lengthLeft, writtenLeft}

@@ -77,9 +77,9 @@ fn number_of(byte: u8) -> u64 {
     byte as u64
 }
 
-// The lengths are compared first, and then the bytes; `before` is what was found before.
-fn met(before: Found, gave: &[u8], wanted: &[u8]) -> Found {
-    let mut found = before.compared(gave.len() as u64, wanted.len() as u64);
+// The lengths are compared first, and then the bytes.
+fn met(gave: &[u8], wanted: &[u8]) -> Found {
+    let mut found = Found::nothing().compared(gave.len() as u64, wanted.len() as u64);
     for i in 0..within(gave.len(), wanted.len()) {
         found = found.compared(number_of(gave[i]), number_of(wanted[i]));
     }
@@ -95,27 +95,31 @@ fn read_first(bytes: &mut [u8], count: usize) -> bool {
 // What was printed, held against the stored answer. Of what lies behind a reference the length is known.
 fn met_first(out: &[u8; OUT], printed: usize, wanted: &[u8]) -> Found {
     let bytes: &[u8] = out;
-    met(
-        Found::nothing(),
-        &bytes[0..within(printed, bytes.len())],
-        wanted,
-    )
+    met(&bytes[0..within(printed, bytes.len())], wanted)
 }
 
 // The same of a sheet that was rewritten.
-fn met_sheet(before: Found, out: &[u8; SHEET], count: usize, wanted: &[u8]) -> Found {
+fn met_sheet(out: &[u8; SHEET], count: usize, wanted: &[u8]) -> Found {
     let bytes: &[u8] = out;
-    met(before, &bytes[0..within(count, bytes.len())], wanted)
+    met(&bytes[0..within(count, bytes.len())], wanted)
 }
 
 // A sheet once more: the same bytes, or the stored answer where it is no sheet.
-fn rewritten(before: Found, row: usize, sheet: &[u8], wanted: &[u8]) -> Found {
+fn rewritten(row: usize, sheet: &[u8], wanted: &[u8]) -> Found {
     let mut out = [0u8; SHEET];
     let count = rewrite(sheet, &mut out);
     if row < NO_SHEET {
-        return met_sheet(before, &out, count, sheet);
+        return met_sheet(&out, count, sheet);
     }
-    met_sheet(before, &out, count, wanted)
+    met_sheet(&out, count, wanted)
+}
+
+// Of two comparisons the first that differs.
+fn both(first: Found, second: Found) -> Found {
+    if first.differ == 0 {
+        return second;
+    }
+    first
 }
 
 // The counts after one record more, whose sheet and answer were read.
@@ -126,7 +130,12 @@ fn with_answer(counts: Counts, names: &[u8], sheet: &[u8], wanted: &[u8]) -> Cou
     let ending = told.ending;
     let row = row_of(ending);
     let found = met_first(&out, printed, wanted);
-    counted(counts, names, row, rewritten(found, row, sheet, wanted))
+    counted(
+        counts,
+        names,
+        row,
+        both(found, rewritten(row, sheet, wanted)),
+    )
 }
 
 // The counts after one record more, of which the head was read.

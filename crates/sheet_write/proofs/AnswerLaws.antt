@@ -1,9 +1,9 @@
 -- What the writer answers, and what it leaves in lent memory, is what the definition says: one law for each of its ways
 -- out.
-use Prim.Native.Nat.{ℕ, _+_, _*_, _≤_, _<_}
+use Prim.Native.Nat.{ℕ, _*_, _≤_, _<_}
 use mathlib.Core.Path.{_≡_, refl, sym, ap, _∙_}
 use mathlib.Core.Bool.{Bool, true, false}
-use mathlib.Core.List.{List, [], _∷_, _++_}
+use mathlib.Core.List.{List, [], _∷_}
 use native.Mathlib.Omega.{arith}
 use borrow.Author.Tests.{lt-ltb, le-ltb}
 use lib.ListN.{length, getD, take}
@@ -12,12 +12,12 @@ use Rattle.words.specs.Loop.{pick}
 use Rattle.words.proofs.Branch.{pick-yes, pick-no}
 use Rattle.sheet.specs.declared.kind.Phase.the-variants as phase
 use Rattle.sheet.specs.declared.sheet.Heading.{Heading}
-use Rattle.sheet.specs.Sheet.{Model, Valid, written, ruleNumber}
+use Rattle.sheet.specs.Sheet.{written}
 use Rattle.sheet.specs.Kinds.{settingOf, kindOf}
 use Rattle.sheet.specs.Reader.{over, modelFrom}
 use Rattle.sheet.specs.Writes.{writes, Fit}
 use Rattle.sheet.proofs.FillLaws.{over-room}
-use Rattle.sheet.proofs.Accepted.{Fitting, text, text-written, fitting-valid, rule-back}
+use Rattle.sheet.proofs.Accepted.{Fitting, text-written, rule-back}
 use Rattle.forecast_text.specs.Put.{Put}
 use Rattle.forecast_text.proofs.PutLaws.{put-then, put-over}
 use Rattle.sheet_write.specs.Memory.{settingsIn, listedIn, modelIn}
@@ -26,7 +26,6 @@ use Rattle.sheet_write.specs.Writer.{answerOf, bytesLeft}
 use Rattle.sheet_write.specs.declared.writing.Writing.{Writing}
 use Rattle.sheet_write.specs.declared.writing.Writing.the-variants.{Written, NoModel, TooShort}
 use Rattle.sheet_write.proofs.KindLaws.{true-fit, fit-at}
-use Rattle.sheet_write.proofs.MemoryLaws.{length-listed}
 
 -- ---- four parts whose numbers are of their kinds
 

@@ -1,17 +1,15 @@
 -- Memory that the test lets pass holds one model, which is valid; and memory that holds a valid model passes.
-use Prim.Native.Nat.{ℕ, zero, suc, _+_, _*_, _≤_, _<_}
+use Prim.Native.Nat.{ℕ, zero, suc, _+_, _*_, _≤_}
 use mathlib.Core.Path.{_≡_, refl, sym, ap, _∙_}
 use mathlib.Core.Bool.{Bool, true, false, true≢false}
 use mathlib.Core.List.{List, [], _∷_, _++_}
 use native.Mathlib.Omega.{arith}
-use lib.ListN.{length, getD, take, drop}
+use lib.ListN.{length, take, drop}
 use lib.Seq.{take-append-seam, length-take-le}
 use Rattle.words.specs.Loop.{pick}
-use Rattle.sheet.specs.declared.kind.Phase.the-variants as phase
 use Rattle.sheet.specs.declared.sheet.Heading.{Heading}
-use Rattle.sheet.specs.Sheet.{Reaction, Model, Valid, written}
-use Rattle.sheet.specs.Kinds.{kindOf}
-use Rattle.sheet.specs.Reader.{headingOf, over, ratesOf, speciesOf, reactionsFrom, modelFrom}
+use Rattle.sheet.specs.Sheet.{Reaction, Model, Valid}
+use Rattle.sheet.specs.Reader.{headingOf, over, ratesOf, speciesOf, reactionsFrom}
 use Rattle.sheet.proofs.FillLaws.{over-room, length-reactions}
 use Rattle.sheet.proofs.Sheets.{settingsOf, listedOf, valid-fits}
 use Rattle.sheet.proofs.Accepted.{fitting-valid, reactions-back}
@@ -19,8 +17,8 @@ use Rattle.sheet_write.specs.Memory.{Holds, Arrays, settingsIn, listedIn
 use Rattle.sheet_write.specs.Writer.{heldIn}
 use Rattle.sheet_write.proofs.KindLaws.{fit-true}
 use Rattle.sheet_write.proofs.MemoryLaws.{length-listed}
-use Rattle.sheet_write.proofs.AnswerLaws.{fitting, model-same, few-species}
-use Rattle.sheet_write.proofs.AnswerLaws.{few-reactions, Right, right-held, right-fits}
+use Rattle.sheet_write.proofs.AnswerLaws.{fitting, model-same, few-species, few-reactions}
+use Rattle.sheet_write.proofs.AnswerLaws.{Right, right-held, right-fits}
 
 -- ---- values over a memory
 

@@ -1,18 +1,12 @@
 -- The numbers of a model in memory: put in their order, they are those of the model that memory holds.
-use Prim.Native.Nat.{ℕ, zero, suc, _+_, _*_, _≤_, _<_}
+use Prim.Native.Nat.{ℕ, zero, suc, _+_, _*_, _≤_}
 use mathlib.Core.Path.{_≡_, refl, sym, ap, _∙_}
 use mathlib.Core.List.{List, [], _∷_, _++_, append-assoc}
 use native.Mathlib.Numerals.{add-one}
 use native.Mathlib.Omega.{arith}
 use lib.ListN.{length, getD, take, drop, set, length-append}
-use lib.Seq.{sets, sets-eq, getD-drop, take-at, length-take-le, take-length}
-use Rattle.sheet.specs.declared.sheet.Heading.{Heading}
-use Rattle.sheet.specs.Sheet.{Reaction, Model}
-use Rattle.sheet.specs.Reader.{headingOf, over, ratesOf, speciesOf, reactionsFrom, modelFrom}
-use Rattle.sheet.proofs.FillLaws.{over-room, length-reactions}
-use Rattle.sheet.proofs.Sheets.{listedOf}
-use Rattle.sheet.proofs.Accepted.{rule-back}
-use Rattle.sheet_write.specs.Memory.{settingsIn, listedIn, modelIn, Holds, Arrays}
+use lib.Seq.{sets-eq, getD-drop, take-at, length-take-le}
+use Rattle.sheet_write.specs.Memory.{listedIn}
 
 -- ---- five numbers to a reaction
 

@@ -7,7 +7,7 @@ use lib.ListN.{length, take}
 use lib.Seq.{take-append-seam}
 use Rattle.sheet.specs.declared.sheet.Heading.{Heading}
 use Rattle.sheet.specs.declared.sheet.Reading.the-variants as reading
-use Rattle.sheet.specs.Sheet.{Model, written}
+use Rattle.sheet.specs.Sheet.{Model}
 use Rattle.sheet.specs.Reader.{headingOf, over, Read, accepted, malformed, tooLong, readOf}
 use Rattle.sheet.specs.Reader.{amountsLeft, ratesLeft, speciesLeft}
 use Rattle.sheet.specs.Reader.{answerOf as readAnswerOf}

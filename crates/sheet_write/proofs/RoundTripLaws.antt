@@ -9,18 +9,16 @@ use borrow.Author.Tests.{lt-ltb, le-ltb, ltb-true, ltb-false}
 use lib.Dec.{ltb}
 use lib.ListN.{length, take, drop}
 use lib.Seq.{take-append-seam}
-use Rattle.words.specs.Loop.{pick}
 use Rattle.words.proofs.Branch.{pick-yes, pick-no, pick-all}
 use Rattle.sheet.specs.declared.sheet.Heading.{Heading}
-use Rattle.sheet.specs.Sheet.{Model, Valid, written}
-use Rattle.sheet.specs.Reader.{headingOf, over, ratesOf, speciesOf, accepted}
-use Rattle.sheet.specs.Reader.{readOf, amountsLeft, ratesLeft, speciesLeft}
+use Rattle.sheet.specs.Sheet.{Model, written}
+use Rattle.sheet.specs.Reader.{headingOf, over, ratesOf, speciesOf, accepted, readOf}
+use Rattle.sheet.specs.Reader.{amountsLeft, ratesLeft, speciesLeft}
 use Rattle.sheet.proofs.FillLaws.{over-room}
 use Rattle.sheet.proofs.Theorems.{accepted-exactly}
 use Rattle.sheet_write.specs.Memory.{Holds, Arrays, modelIn}
 use Rattle.sheet_write.specs.Writer.{heldIn, sheetIn, answerFor, leftFor, answerOf, bytesLeft}
 use Rattle.sheet_write.specs.RoundTrips.{Readable, Longer}
-use Rattle.sheet_write.specs.declared.writing.Writing.{Writing}
 use Rattle.sheet_write.specs.declared.writing.Writing.the-variants.{Written, NoModel, TooShort}
 use Rattle.sheet_write.proofs.HeldLaws.{length-over, over-twice, held-valid, held-holds, holds-model, holds-held}
 

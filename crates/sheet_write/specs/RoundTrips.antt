@@ -4,7 +4,7 @@ use mathlib.Core.Path.{_≡_}
 use mathlib.Core.List.{List}
 use lib.ListN.{length}
 use Rattle.sheet.specs.declared.sheet.Heading.{Heading}
-use Rattle.sheet.specs.Sheet.{Model, written}
+use Rattle.sheet.specs.Sheet.{Model}
 use Rattle.sheet.specs.Reader.{readOf, accepted}
 use Rattle.sheet_write.specs.Memory.{Holds}
 

@@ -9,9 +9,9 @@ use Rattle.export_sheet.proofs.sheets.elchepur_read_sheet.Tie as tie
 returns : tie.Need-returns
 returns c =
     let at-reading = c .before .before .before .before .before in
-    let read = at-reading .before .before .read in
-    let args =
-    c .before .before .before .before .before .before .before .before .before .before .before .before .args in
+    let at-read = at-reading .before .before in
+    let read = at-read .read in
+    let args = at-read .before .before .before .before .before .args in
     left-read (args .settings .now) (args .counts .now) (args .amounts .now) (args .rates .now) (args .species .now)
     (args .line .now) _ _ _ (readOf (args .sheet .now)) _ (sym (read .ensures .0) ∙ at-reading .reading .given .1)
     (c .before .before .put-settings .ensures) (c .put-counts .ensures) (read .ensures .1 .0)

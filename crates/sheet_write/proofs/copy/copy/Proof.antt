@@ -1,17 +1,14 @@
 -- `copy` meets its contract: the bytes passed stand over the first ones.
 use Prim.Native.Nat.{_-_, _≤_}
-use mathlib.Core.Path.{_≡_, refl, sym, ap, _∙_}
+use mathlib.Core.Path.{_≡_, refl, ap, _∙_}
 use native.Mathlib.Nat.{le-antisymm}
 use native.Mathlib.Numerals.{add-one}
 use native.Mathlib.Omega.{arith}
-use borrow.Author.Needs.{needs}
 use lib.ListN.{length, getD, take, set, length-set}
 use Rattle.sheet.specs.Reader.{over}
 use Rattle.sheet.proofs.FillLaws.{set-over}
 use Rattle.sheet_write.proofs.copy.copy.Statement.{statement}
 use Rattle.sheet_write.proofs.copy.copy.Tie as tie
-use Rattle.sheet_write.proofs.copy.copy.Reads as reads
-use Rattle.sheet_write.proofs.copy.copy.Lts as lts
 
 abbrev Inv-loop : tie.InvT-loop
 Inv-loop from count out₀ i₀ out i =

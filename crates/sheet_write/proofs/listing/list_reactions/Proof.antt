@@ -1,6 +1,6 @@
 -- `list_reactions` meets its contract: the numbers of the reactions passed are listed.
 use Prim.Native.Nat.{_-_, _*_, _≤_}
-use mathlib.Core.Path.{_≡_, refl, ap, _∙_}
+use mathlib.Core.Path.{_≡_, refl}
 use native.Mathlib.Nat.{le-antisymm}
 use native.Mathlib.Omega.{arith}
 use lib.ListN.{length, take, length-set}
@@ -8,8 +8,6 @@ use Rattle.sheet_write.specs.Memory.{listedIn}
 use Rattle.sheet_write.proofs.MemoryLaws.{listed-more}
 use Rattle.sheet_write.proofs.listing.list_reactions.Statement.{statement}
 use Rattle.sheet_write.proofs.listing.list_reactions.Tie as tie
-use Rattle.sheet_write.proofs.listing.list_reactions.Reads as reads
-use Rattle.sheet_write.proofs.listing.list_reactions.Lts as lts
 
 abbrev Inv-loop : tie.InvT-loop
 Inv-loop rates species n listed₀ i₀ listed i =

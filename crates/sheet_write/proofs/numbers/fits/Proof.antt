@@ -1,6 +1,6 @@
 -- `fits` meets its contract: what is left to test decides.
 use Prim.Native.Nat.{_-_, _≤_}
-use mathlib.Core.Path.{_≡_, refl, sym, _∙_}
+use mathlib.Core.Path.{_≡_, refl}
 use native.Mathlib.Omega.{arith}
 use borrow.Author.Needs.{needs}
 use lib.ListN.{take, drop}
@@ -9,8 +9,6 @@ use Rattle.sheet_write.specs.Writer.{fitOf}
 use Rattle.sheet_write.proofs.KindLaws.{test-below, test-above, test-on, test-all}
 use Rattle.sheet_write.proofs.numbers.fits.Statement.{statement}
 use Rattle.sheet_write.proofs.numbers.fits.Tie as tie
-use Rattle.sheet_write.proofs.numbers.fits.Reads as reads
-use Rattle.sheet_write.proofs.numbers.fits.Lts as lts
 
 abbrev Inv-loop : tie.InvT-loop
 Inv-loop phase species count values i₀ i =

@@ -1,6 +1,4 @@
 -- `put_number` meets its contract.
-use Prim.Native.Nat.{_+_, _≤_}
-use mathlib.Core.Path.{_≡_, refl}
 use native.Mathlib.Omega.{arith}
 use borrow.Author.Needs.{needs}
 use Rattle.sheet.specs.Writes.{spellOf}
@@ -10,8 +8,6 @@ use Rattle.forecast_text.proofs.PutLaws.{put-then}
 use Rattle.sheet_write.proofs.KindLaws.{base-two, put-one}
 use Rattle.sheet_write.proofs.numbers.put_number.Statement.{statement}
 use Rattle.sheet_write.proofs.numbers.put_number.Tie as tie
-use Rattle.sheet_write.proofs.numbers.put_number.Reads as reads
-use Rattle.sheet_write.proofs.numbers.put_number.Lts as lts
 
 put-digits-requires : tie.Need-put-digits-requires
 put-digits-requires c κs =

@@ -1,10 +1,9 @@
 -- `put_numbers` meets its contract: the numbers passed are put.
 use Prim.Native.Nat.{_+_, _-_, _*_, _≤_, _<_}
-use mathlib.Core.Path.{_≡_, ap, _∙_}
 use native.Mathlib.Nat.{le-antisymm}
 use native.Mathlib.Omega.{arith}
 use borrow.Author.Needs.{needs}
-use lib.ListN.{length, getD, take}
+use lib.ListN.{length, take}
 use Rattle.sheet.specs.Kinds.{kindOf}
 use Rattle.sheet.specs.Writes.{writes}
 use Rattle.forecast_text.specs.Put.{Put}
@@ -12,8 +11,6 @@ use Rattle.forecast_text.proofs.PutLaws.{put-none, put-then}
 use Rattle.sheet_write.proofs.KindLaws.{taken-of, writes-more, kind-spells}
 use Rattle.sheet_write.proofs.numbers.put_numbers.Statement.{statement}
 use Rattle.sheet_write.proofs.numbers.put_numbers.Tie as tie
-use Rattle.sheet_write.proofs.numbers.put_numbers.Reads as reads
-use Rattle.sheet_write.proofs.numbers.put_numbers.Lts as lts
 
 abbrev Inv-loop : tie.InvT-loop
 Inv-loop out₀ from phase species count values at₀ i₀ out at i =

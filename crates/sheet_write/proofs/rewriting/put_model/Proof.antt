@@ -1,13 +1,9 @@
 -- `put_model` meets its contract.
-use Prim.Native.Nat.{_≤_}
-use mathlib.Core.Path.{_≡_, refl, sym, ap, _∙_}
-use native.Mathlib.Omega.{arith}
+use mathlib.Core.Path.{sym, ap, _∙_}
 use borrow.Author.Needs.{needs}
 use Rattle.sheet_write.specs.Rewritten.{countFor}
 use Rattle.sheet_write.proofs.rewriting.put_model.Statement.{statement}
 use Rattle.sheet_write.proofs.rewriting.put_model.Tie as tie
-use Rattle.sheet_write.proofs.rewriting.put_model.Reads as reads
-use Rattle.sheet_write.proofs.rewriting.put_model.Lts as lts
 
 returns : tie.Need-returns
 unfolding countFor

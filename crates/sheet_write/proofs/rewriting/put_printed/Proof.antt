@@ -1,6 +1,6 @@
 -- `put_printed` meets its contract.
-use Prim.Native.Nat.{ℕ, _≤_}
-use mathlib.Core.Path.{_≡_, refl, sym, ap, _∙_}
+use Prim.Native.Nat.{ℕ}
+use mathlib.Core.Path.{sym, ap, _∙_}
 use native.Mathlib.Omega.{arith}
 use borrow.Author.Needs.{needs}
 use lib.ListN.{length, length-replicate}
@@ -10,8 +10,6 @@ use Rattle.sheet_write.proofs.HeldLaws.{length-over}
 use Rattle.sheet_write.proofs.RewriteLaws.{over-taken}
 use Rattle.sheet_write.proofs.rewriting.put_printed.Statement.{statement}
 use Rattle.sheet_write.proofs.rewriting.put_printed.Tie as tie
-use Rattle.sheet_write.proofs.rewriting.put_printed.Reads as reads
-use Rattle.sheet_write.proofs.rewriting.put_printed.Lts as lts
 
 slice-aggregate-copy : tie.Need-slice-aggregate-copy
 slice-aggregate-copy c =

@@ -1,21 +1,19 @@
 -- `rewrite` meets its contract.
-use Prim.Native.Nat.{ℕ, _≤_}
-use mathlib.Core.Path.{_≡_, refl, sym, ap, _∙_}
+use Prim.Native.Nat.{ℕ}
+use mathlib.Core.Path.{sym, _∙_}
 use native.Mathlib.Omega.{arith}
 use borrow.Author.Needs.{needs}
-use lib.ListN.{length, length-replicate}
+use lib.ListN.{length-replicate}
 use Rattle.sheet_write.proofs.RewriteLaws.{rewrote-model, rewrote-line, rewrote-long}
 use Rattle.sheet_write.proofs.rewriting.rewrite.Statement.{statement}
 use Rattle.sheet_write.proofs.rewriting.rewrite.Tie as tie
-use Rattle.sheet_write.proofs.rewriting.rewrite.Reads as reads
-use Rattle.sheet_write.proofs.rewriting.rewrite.Lts as lts
 
 returns : tie.Need-returns
 returns c =
     let at-reading = c .before .before .before .before .before .before in
-    let read = at-reading .before .before .read in
-    let args =
-    c .before .before .before .before .before .before .before .before .before .before .before .before .before .args in
+    let at-read = at-reading .before .before in
+    let args = at-read .before .before .before .before .before .args in
+    let read = at-read .read in
     rewrote-model (args .bytes .now) _ _ _ _ (args .out .now)
     (record {
       amounts = length-replicate {A = ℕ} 32 0;
@@ -28,19 +26,18 @@ returns c =
 returns-2 : tie.Need-returns-2
 returns-2 c =
     let at-reading = c .before .before .before .before in
-    let read = at-reading .before .before .read in
-    rewrote-line _
-    (c .before .before .before .before .before .before .before .before .before .before .before .args .out .now) _
-    (c .put-printed .ensures .0) (c .put-printed .ensures .1) _
-    (sym (read .ensures .0) ∙ at-reading .reading2 .given .1) (c .before .before .refused .ensures)
+    let at-read = at-reading .before .before in
+    let args = at-read .before .before .before .before .before .args in
+    rewrote-line _ (args .out .now) _ (c .put-printed .ensures .0) (c .put-printed .ensures .1) _
+    (sym (at-read .read .ensures .0) ∙ at-reading .reading2 .given .1) (c .before .before .refused .ensures)
 
 returns-3 : tie.Need-returns-3
 returns-3 c =
     let at-told = c .before .before .before in
-    let read = at-told .before .before .read in
-    rewrote-long _ (c .before .before .before .before .before .before .before .before .before .before .args .out .now) _
-    (c .put-printed2 .ensures .0) (c .put-printed2 .ensures .1)
-    (sym (read .ensures .0) ∙ at-told .enum-told .given .1) (c .before .before .refused2 .ensures)
+    let at-read = at-told .before .before in
+    let args = at-read .before .before .before .before .before .args in
+    rewrote-long _ (args .out .now) _ (c .put-printed2 .ensures .0) (c .put-printed2 .ensures .1)
+    (sym (at-read .read .ensures .0) ∙ at-told .enum-told .given .1) (c .before .before .refused2 .ensures)
 
 pub rewrite-spec : {M : Type 1} → statement M
 rewrite-spec =

@@ -1,15 +1,11 @@
 -- `put_sheet` meets its contract: the four parts, one behind the other, are the sheet.
-use mathlib.Core.Path.{_≡_}
 use native.Mathlib.Omega.{arith}
-use borrow.Author.Needs.{needs}
 use Prim.Native.Nat.{_*_, _≤_}
 use lib.ListN.{length, getD, take}
 use lib.Seq.{take-all, length-take-le}
 use Rattle.sheet_write.proofs.AnswerLaws.{settings-few, count-few, sheet-put}
 use Rattle.sheet_write.proofs.writing.put_sheet.Statement.{statement}
 use Rattle.sheet_write.proofs.writing.put_sheet.Tie as tie
-use Rattle.sheet_write.proofs.writing.put_sheet.Reads as reads
-use Rattle.sheet_write.proofs.writing.put_sheet.Lts as lts
 
 mul-numbered : tie.Need-mul-numbered
 mul-numbered c =
@@ -43,8 +39,8 @@ put-numbers-requires-3 c κs =
 
 put-numbers-requires-4 : tie.Need-put-numbers-requires-4
 put-numbers-requires-4 c κs =
-    let start =
-    c .before .before .before .before .before .before .before .before .before .before .before .before .before in
+    let at-put = c .before .before .before .before .before in
+    let start = at-put .before .before .before .before .before .before .before .before in
     let few = settings-few (start .args .settings .now) (start .pre .0 .0) (start .pre .1 .settings) .1 in
     let most = count-few (start .args .count .now) (start .pre .0 .2) (start .pre .1 .count) in (
       (
@@ -62,8 +58,8 @@ put-numbers-requires-4 c κs =
 
 returns : tie.Need-returns
 returns c =
-    let start =
-    c .before .before .before .before .before .before .before .before .before .before .before .before .before .before in
+    let at-put = c .before .before .before .before .before .before in
+    let start = at-put .before .before .before .before .before .before .before .before in
     let settings = start .args .settings .now in
     let amounts = start .args .amounts .now in
     let count = start .args .count .now in

@@ -1,7 +1,5 @@
 -- `write` meets its contract, way by way.
-use Prim.Native.Nat.{_≤_}
-use mathlib.Core.Path.{_≡_, refl, ap}
-use mathlib.Core.Bool.{true}
+use mathlib.Core.Path.{refl, ap}
 use native.Mathlib.Omega.{arith}
 use borrow.Author.Needs.{needs}
 use borrow.Author.Tests.{not-true, not-false}
@@ -11,8 +9,6 @@ use Rattle.sheet_write.proofs.AnswerLaws.{no-settings, no-count, no-amo
 use Rattle.sheet_write.proofs.AnswerLaws.{parts-model, outcome-held}
 use Rattle.sheet_write.proofs.writing.write.Statement.{statement}
 use Rattle.sheet_write.proofs.writing.write.Tie as tie
-use Rattle.sheet_write.proofs.writing.write.Reads as reads
-use Rattle.sheet_write.proofs.writing.write.Lts as lts
 
 returns : tie.Need-returns
 returns c =
