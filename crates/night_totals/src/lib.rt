@@ -1,0 +1,12 @@
+// The totals of a night: reads status lines as `decay` prints them, in pieces of any size, and gives the runs per
+// status, the sums of the six counts, and the largest ode with the number of its first line (02, [12]).
+pub mod entry;
+pub mod filling;
+mod form;
+mod lines;
+pub mod night;
+pub mod totals;
+
+pub use night::fed;
+pub use night::start;
+pub use night::told;
