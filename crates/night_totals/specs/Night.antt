@@ -90,11 +90,12 @@ fullOf q t = pick (eqb (q .at) 0) (leb 65535 (t .lines)) false
 -- a line that has come whole is added, where it is fit
 unfoldable pub judgedOf : Totals → Filling → Night
 judgedOf t q =
-    pick (eqb (q .at) 56)
+    pick (q .wrong) (nightAt spoiltOf t false)
+    (pick (eqb (q .at) 56)
     (pick (fitEntry (entryFrom (q .values)))
     (nightAt (blankOf false) (addedOf t (entryFrom (q .values))) false)
     (nightAt spoiltOf t false))
-    (nightAt q t false)
+    (nightAt q t false))
 
 unfoldable pub stepOf : Night → ℕ → Night
 stepOf n b =

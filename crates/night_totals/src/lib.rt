@@ -1,5 +1,6 @@
 // The totals of a night: reads status lines as `decay` prints them, in pieces of any size, and gives the runs per
 // status, the sums of the six counts, and the largest ode with the number of its first line (02, [12]).
+mod adding;
 pub mod entry;
 pub mod filling;
 mod form;

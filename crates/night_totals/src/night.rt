@@ -1,6 +1,8 @@
 // The lines of a night, taken in pieces of any size: a record goes in by value, and the next comes back.
 ghost use mathlib.Core.Path.{_≡_};
 ghost use Rattle.night_totals.specs.Night.{startOf, fullOf, judgedOf, stepOf, fedOf, toldOf};
+use crate::adding::added;
+use crate::adding::none;
 use crate::filling::Filling;
 use crate::form::blank;
 use crate::form::filled;
@@ -8,8 +10,6 @@ use crate::form::spoilt;
 use crate::lines::entry_from;
 use crate::lines::fit;
 use crate::totals::Totals;
-use crate::totals::added;
-use crate::totals::none;
 use std::num::wrapping_add_u64;
 
 // The most lines of a night.
@@ -63,6 +63,9 @@ fn judged(totals: Totals, filling: Filling) -> Night
     ensures { λ r. ⌜ r ≡ judgedOf totals filling ⌝ }
 {
     let values = filling.values;
+    if filling.wrong {
+        return made(spoilt(), totals, false);
+    }
     if filling.at != FORM {
         return made(filling, totals, false);
     }

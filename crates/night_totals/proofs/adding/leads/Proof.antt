@@ -3,8 +3,8 @@ use borrow.Author.Tests.{eq-eqb, ne-eqb}
 use mathlib.Core.Path.{refl}
 use Rattle.night_totals.specs.Night.{leadsOf}
 use Rattle.words.proofs.Branch.{yes, no}
-use Rattle.night_totals.proofs.totals.leads.Statement.{statement}
-use Rattle.night_totals.proofs.totals.leads.Tie as tie
+use Rattle.night_totals.proofs.adding.leads.Statement.{statement}
+use Rattle.night_totals.proofs.adding.leads.Tie as tie
 
 returns : tie.Need-returns
 unfolding leadsOf

@@ -4,8 +4,8 @@ use borrow.Author.Tests.{eq-eqb, ne-eqb}
 use mathlib.Core.Path.{refl}
 use Rattle.night_totals.specs.Night.{raisedOf}
 use Rattle.words.proofs.Branch.{yes, no}
-use Rattle.night_totals.proofs.totals.raised.Statement.{statement}
-use Rattle.night_totals.proofs.totals.raised.Tie as tie
+use Rattle.night_totals.proofs.adding.raised.Statement.{statement}
+use Rattle.night_totals.proofs.adding.raised.Tie as tie
 
 wrapping-add-u64-requires : tie.Need-wrapping-add-u64-requires
 wrapping-add-u64-requires c κs = search needs

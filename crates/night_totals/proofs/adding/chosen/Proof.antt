@@ -1,8 +1,8 @@
 -- `chosen` meets its contract.
 use mathlib.Core.Path.{refl}
 use Rattle.words.proofs.Branch.{yes, no}
-use Rattle.night_totals.proofs.totals.chosen.Statement.{statement}
-use Rattle.night_totals.proofs.totals.chosen.Tie as tie
+use Rattle.night_totals.proofs.adding.chosen.Statement.{statement}
+use Rattle.night_totals.proofs.adding.chosen.Tie as tie
 
 returns : tie.Need-returns
 returns c = yes _ _ _ (c .if1 .taken) refl

@@ -1,7 +1,7 @@
 -- `added` meets its contract.
 use borrow.Author.Needs.{needs}
-use Rattle.night_totals.proofs.totals.added.Statement.{statement}
-use Rattle.night_totals.proofs.totals.added.Tie as tie
+use Rattle.night_totals.proofs.adding.added.Statement.{statement}
+use Rattle.night_totals.proofs.adding.added.Tie as tie
 
 wrapping-add-u64-requires : tie.Need-wrapping-add-u64-requires
 wrapping-add-u64-requires c κs = search needs
