@@ -18,7 +18,7 @@ use Rattle.night_totals.specs.Filling.{blankOf, spoiltOf, numberedAt, on
 use Rattle.night_totals.specs.Filling.{passedOf, digitOf, storedOf, behindOf, numberOf, filledOf}
 use Rattle.night_totals.specs.declared.filling.Filling.{Filling}
 use Rattle.night_totals.proofs.NumeralLaws.{numeral-one, numeral-more}
-use Rattle.night_totals.proofs.FormLaws.{slotsIn}
+use Rattle.night_totals.proofs.FormLaws.{slotsIn, spelt-byte, spelt-number, split}
 
 -- bytes one after the other
 unfoldable pub fillOf : List ℕ → Filling → List ℕ → Filling
@@ -88,7 +88,17 @@ properFrom false (x ∷ form) = properFrom (eqb x 35) form
 unfoldable pub setIn : List ℕ → ℕ → List ℕ → List ℕ → List ℕ
 setIn [] k vs ws = vs
 setIn (x ∷ form) k vs ws =
-    pick (eqb x 35) (setIn form (suc k) (set vs k (getD ws k 0)) ws) (setIn form k vs ws)
+    setIn form (k + pick (eqb x 35) 1 0) (pick (eqb x 35) (set vs k (getD ws k 0)) vs) ws
+
+set-byte : (x : ℕ) (f : List ℕ) (k : ℕ) (vs ws : List ℕ) → eqb x 35 ≡ false → setIn (x ∷ f) k vs ws ≡ setIn f k vs ws
+unfolding setIn
+set-byte x f k vs ws e =
+    let z : k + pick (eqb x 35) 1 0 ≡ k = omega (arith, pick-no {A = ℕ} 1 0 e) in
+    ap (λ us. setIn f (k + pick (eqb x 35) 1 0) us ws) (pick-no _ _ e) ∙ ap (λ j. setIn f j vs ws) z
+
+set-number : (f : List ℕ) (k : ℕ) (vs ws : List ℕ) → setIn (35 ∷ f) k vs ws ≡ setIn f (suc k) (set vs k (getD ws k 0)) ws
+unfolding setIn pick
+set-number f k vs ws = let z : k + 1 ≡ suc k = omega arith in ap (λ j. setIn f j (set vs k (getD ws k 0)) ws) z
 
 abbrev pub stateAt : List ℕ → ℕ → List ℕ → Filling
 stateAt done k vs =
@@ -117,11 +127,6 @@ passed-seam done f x q e =
     pick-no _ _ (lt-leb _ _ l)
     ∙ pick-yes _ _ (eq-eqb _ _ (ap (λ k. getD (done ++ (x ∷ f)) k 0) e ∙ getD-append-seam done x f 0))
 
-module _ {G : Type 0} where
-  pub split : (b : Bool) → (b ≡ true → G) → (b ≡ false → G) → G
-  split true p q = p refl
-  split false p q = q refl
-
 pub both-true : (b x : Bool) → pick b x false ≡ true → (b ≡ true) × (x ≡ true)
 unfolding pick
 both-true true x e = (refl, e)
@@ -145,7 +150,7 @@ module _ (ws : List ℕ) (few : (k : ℕ) → getD ws k 0 < 10000000000000000) w
       ≡ stateAt (done ++ (35 ∷ f)) (suc k + slotsIn f) (setIn f (suc k) (set vs k (getD ws k 0)) ws)
 
   byte-case : (x : ℕ) (f : List ℕ) → eqb x 35 ≡ false → Goal false f → Goal false (x ∷ f)
-  unfolding spelt slotsIn setIn properFrom fillOf filledOf
+  unfolding slotsIn properFrom fillOf filledOf
   byte-case x f e g done vs k p l h =
       let form = done ++ (x ∷ f) in
       let q = stateAt done k vs in
@@ -162,28 +167,30 @@ module _ (ws : List ℕ) (few : (k : ℕ) → getD ws k 0 < 10000000000000000) w
         wrong = false;
       }) (length-one done x) in
       let z : k + slotsIn f ≡ k + (pick (eqb x 35) 1 0 + slotsIn f) = omega (arith, pick-no {A = ℕ} 1 0 e) in
-      ap (fillOf form q) (pick-no _ _ e)
+      ap (fillOf form q) (spelt-byte x f k ws e)
       ∙ ap (λ (r : Filling). fillOf form r rest) step
       ∙ rw (append-assoc done (x ∷ []) f) at
       (g more vs k (ap (λ b. properFrom b f) (sym e) ∙ p) (omega arith) (rw (append-assoc done (x ∷ []) f) h))
       ∙ ap (λ n. stateAt form n (setIn f k vs ws)) z
-      ∙ ap (λ us. stateAt form (k + (pick (eqb x 35) 1 0 + slotsIn f)) us) (sym (pick-no _ _ e))
+      ∙ ap (λ us. stateAt form (k + (pick (eqb x 35) 1 0 + slotsIn f)) us) (sym (set-byte x f k vs ws e))
 
   number-case : (f : List ℕ) → Goal true f → Goal false (35 ∷ f)
-  unfolding spelt slotsIn setIn properFrom fillOf pick
+  unfolding slotsIn properFrom fillOf pick
   number-case f g done vs k p l h =
       let form = done ++ (35 ∷ f) in
       let q = stateAt done k vs in
       let v = getD ws k 0 in
       let z : suc k + slotsIn f ≡ k + (1 + slotsIn f) = omega arith in
-      fill-append form q (numeralOf v) (spelt f (suc k) ws)
+      ap (fillOf form q) (spelt-number f k ws)
+      ∙ fill-append form q (numeralOf v) (spelt f (suc k) ws)
       ∙ ap (λ (r : Filling). fillOf form r (spelt f (suc k) ws))
       (numeral-filled form q refl refl (numbered-seam done f 35) v (few k))
       ∙ g done vs k p (omega arith) h
       ∙ ap (λ n. stateAt form n (setIn f (suc k) (set vs k v) ws)) z
+      ∙ ap (λ us. stateAt form (k + (1 + slotsIn f)) us) (sym (set-number f k vs ws))
 
   after-case : (y : ℕ) (f : List ℕ) → Goal false f → Goal true (y ∷ f)
-  unfolding spelt slotsIn setIn properFrom fillOf filledOf numberOf behindOf storedOf
+  unfolding slotsIn properFrom fillOf filledOf numberOf behindOf storedOf
   after-case y f g done vs k p l h =
       let form = done ++ (35 ∷ y ∷ f) in
       let v = getD ws k 0 in
@@ -210,12 +217,12 @@ module _ (ws : List ℕ) (few : (k : ℕ) → getD ws k 0 < 10000000000000000) w
       ∙ ap (λ j. record { at = j; begun = false; value = 0; filled = k + 1; values = us; wrong = false }) at
       ∙ ap (λ j. stateAt more j us) n in
       let z : suc k + slotsIn f ≡ suc k + (pick (eqb y 35) 1 0 + slotsIn f) = omega (arith, pick-no {A = ℕ} 1 0 e) in
-      ap (fillOf form q) (pick-no _ _ e)
+      ap (fillOf form q) (spelt-byte y f (suc k) ws e)
       ∙ ap (λ (r : Filling). fillOf form r (spelt f (suc k) ws)) step
       ∙ rw (append-assoc done (35 ∷ y ∷ []) f) at
       (g more us (suc k) right (omega arith) (rw (append-assoc done (35 ∷ y ∷ []) f) h))
       ∙ ap (λ n. stateAt form n (setIn f (suc k) us ws)) z
-      ∙ ap (λ rs. stateAt form (suc k + (pick (eqb y 35) 1 0 + slotsIn f)) rs) (sym (pick-no _ _ e))
+      ∙ ap (λ rs. stateAt form (suc k + (pick (eqb y 35) 1 0 + slotsIn f)) rs) (sym (set-byte y f (suc k) us ws e))
 
   complete : (after : Bool) (f : List ℕ) → Goal after f
   unfolding properFrom fillOf spelt slotsIn setIn pick

@@ -1,7 +1,7 @@
 -- Texts of a form, part by part.
 use Prim.Native.Nat.{ℕ, zero, suc, _+_, _≤_, _<_}
 use mathlib.Core.Path.{_≡_, refl, sym, ap, _∙_}
-use mathlib.Core.Bool.{Bool, true, false, false≢true}
+use mathlib.Core.Bool.{Bool, true, false}
 use mathlib.Core.List.{List, [], _∷_, _++_, append-assoc}
 use native.Mathlib.Omega.{arith}
 use lib.Dec.{eqb, ltb}
@@ -12,53 +12,53 @@ use Rattle.words.proofs.Branch.{pick-yes, pick-no}
 use Rattle.forecast_text.specs.Printed.{numeralOf}
 use Rattle.night_totals.specs.Form.{spelt}
 
+module _ {G : Type 0} where
+  pub split : (b : Bool) → (b ≡ true → G) → (b ≡ false → G) → G
+  split true p q = p refl
+  split false p q = q refl
+
 -- how many numbers a form has
 unfoldable pub slotsIn : List ℕ → ℕ
 slotsIn [] = 0
 slotsIn (x ∷ form) = pick (eqb x 35) 1 0 + slotsIn form
-
-append-one : (b : Bool) (x k : ℕ) (f g vs n a c : List ℕ) (r : ℕ → List ℕ)
-    → a ≡ spelt f (suc k) vs ++ r (suc k + slotsIn f) → c ≡ spelt f k vs ++ r (k + slotsIn f)
-    → pick b (n ++ a) (x ∷ c)
-    ≡ pick b (n ++ spelt f (suc k) vs) (x ∷ spelt f k vs) ++ r (k + (pick b 1 0 + slotsIn f))
-unfolding pick
-append-one true x k f g vs n a c r p q =
-    let z : suc k + slotsIn f ≡ k + (1 + slotsIn f) = omega arith in
-    ap (λ l. n ++ l) (p ∙ ap (λ j. spelt f (suc k) vs ++ r j) z) ∙ sym (append-assoc n (spelt f (suc k) vs) _)
-append-one false x k f g vs n a c r p q =
-    let z : k + slotsIn f ≡ k + (0 + slotsIn f) = omega arith in
-    ap (λ l. x ∷ l) (q ∙ ap (λ j. spelt f k vs ++ r j) z)
 
 pub spelt-append : (f g : List ℕ) (k : ℕ) (vs : List ℕ)
     → spelt (f ++ g) k vs ≡ spelt f k vs ++ spelt g (k + slotsIn f) vs
 unfolding spelt slotsIn
 spelt-append [] g k vs = let z : k ≡ k + 0 = omega arith in ap (λ j. spelt g j vs) z
 spelt-append (x ∷ f) g k vs =
-    append-one (eqb x 35) x k f g vs (numeralOf (getD vs k 0)) _ _ (λ j. spelt g j vs)
-    (spelt-append f g (suc k) vs) (spelt-append f g k vs)
-
-set-one : (b : Bool) (n n' a a' c c' : List ℕ) (x : ℕ) → (b ≡ true → (n ≡ n') × (a ≡ a')) → (b ≡ false → c ≡ c')
-    → pick b (n ++ a) (x ∷ c) ≡ pick b (n' ++ a') (x ∷ c')
-unfolding pick
-set-one true n n' a a' c c' x p q = rw (p refl .0, p refl .1)
-set-one false n n' a a' c c' x p q = ap (λ l. x ∷ l) (q refl)
-
-fewer : (b : Bool) (k s j : ℕ) → b ≡ true → k + (pick b 1 0 + s) ≤ j → suc k + s ≤ j
-unfolding pick
-fewer true k s j e h = omega arith
-fewer false k s j e h = absurd (false≢true e)
+    let piece = pick (eqb x 35) (numeralOf (getD vs k 0)) (x ∷ []) in
+    let next = k + pick (eqb x 35) 1 0 in
+    let z : next + slotsIn f ≡ k + (pick (eqb x 35) 1 0 + slotsIn f) = omega arith in
+    ap (λ l. piece ++ l) (spelt-append f g next vs ∙ ap (λ j. spelt f next vs ++ spelt g j vs) z)
+    ∙ sym (append-assoc piece (spelt f next vs) (spelt g (k + (pick (eqb x 35) 1 0 + slotsIn f)) vs))
 
 -- a number that is set behind those of the form is not seen
 pub spelt-set : (f : List ℕ) (k j v : ℕ) (vs : List ℕ) → k + slotsIn f ≤ j → spelt f k (set vs j v) ≡ spelt f k vs
 unfolding spelt slotsIn
 spelt-set [] k j v vs h = refl
 spelt-set (x ∷ f) k j v vs h =
-    set-one (eqb x 35) _ _ _ _ _ _ x
-    (λ e. let l : suc k + slotsIn f ≤ j = fewer (eqb x 35) k (slotsIn f) j e h in (
-      ap numeralOf (getD-set-other vs j k v 0 (λ q. omega arith)),
-      spelt-set f (suc k) j v vs l
-    ))
-    (λ e. spelt-set f k j v vs (omega arith))
+    let next = k + pick (eqb x 35) 1 0 in
+    let same : pick (eqb x 35) (numeralOf (getD (set vs j v) k 0)) (x ∷ [])
+    ≡ pick (eqb x 35) (numeralOf (getD vs k 0)) (x ∷ []) =
+    split (eqb x 35)
+    (λ e. let l : k < j = omega (arith, pick-yes {A = ℕ} 1 0 e) in
+    ap (λ n. pick (eqb x 35) (numeralOf n) (x ∷ [])) (getD-set-other vs j k v 0 (λ q. omega arith)))
+    (λ e. pick-no _ _ e ∙ sym (pick-no _ _ e)) in
+    ap (λ l. l ++ spelt f next (set vs j v)) same
+    ∙ ap (λ l. pick (eqb x 35) (numeralOf (getD vs k 0)) (x ∷ []) ++ l) (spelt-set f next j v vs (omega arith))
+
+-- a byte of the form, and a number's place
+pub spelt-byte : (x : ℕ) (f : List ℕ) (k : ℕ) (vs : List ℕ) → eqb x 35 ≡ false → spelt (x ∷ f) k vs ≡ x ∷ spelt f k vs
+unfolding spelt
+spelt-byte x f k vs e =
+    let z : k + pick (eqb x 35) 1 0 ≡ k = omega (arith, pick-no {A = ℕ} 1 0 e) in
+    ap (λ l. l ++ spelt f (k + pick (eqb x 35) 1 0) vs) (pick-no _ _ e) ∙ ap (λ j. x ∷ spelt f j vs) z
+
+pub spelt-number : (f : List ℕ) (k : ℕ) (vs : List ℕ)
+    → spelt (35 ∷ f) k vs ≡ numeralOf (getD vs k 0) ++ spelt f (suc k) vs
+unfolding spelt pick
+spelt-number f k vs = let z : k + 1 ≡ suc k = omega arith in ap (λ j. numeralOf (getD vs k 0) ++ spelt f j vs) z
 
 slots-append : (f g : List ℕ) → slotsIn (f ++ g) ≡ slotsIn f + slotsIn g
 unfolding slotsIn

@@ -5,3 +5,5 @@ pub mod FormLaws
 pub mod SoundLaws
 pub mod CompleteLaws
 pub mod TotalsLaws
+pub mod LineLaws
+pub mod StandLaws

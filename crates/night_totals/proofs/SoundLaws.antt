@@ -89,7 +89,7 @@ module _ (form : List ℕ) (short : length form < 2 ^ 32) where
           rw (idle, pick-no {A = List ℕ} (numeralOf (q .value)) [] refl)
               (append-nil _ ∙ ap (λ f. spelt f 0 (q .values)) t
               ∙ spelt-append (take (q .at) form) (b ∷ []) 0 (q .values)
-              ∙ ap (λ l. spelt (take (q .at) form) 0 (q .values) ++ l) (pick-no _ _ n)
+              ∙ ap (λ l. spelt (take (q .at) form) 0 (q .values) ++ l) (append-nil _ ∙ pick-no _ _ n)
               ∙ ap (λ l. l ++ (b ∷ [])) (sym (append-nil (spelt (take (q .at) form) 0 (q .values))))),
         )
 
@@ -143,7 +143,7 @@ module _ (form : List ℕ) (short : length form < 2 ^ 32) where
         ∙ ap (λ l. l ++ spelt (35 ∷ []) (0 + slotsIn f) vs) (spelt-set f 0 (q .filled) (q .value) (q .values)
         (omega (arith, s .counted)))
         ∙ ap (λ l. spelt f 0 (q .values) ++ l)
-        (pick-yes _ _ refl ∙ append-nil _
+        (append-nil _ ∙ pick-yes _ _ refl
         ∙ ap (λ k. numeralOf (getD vs k 0)) z
         ∙ ap numeralOf (getD-set-same (q .values) (q .filled) (q .value) 0 (omega (arith, s .room)))))
 

@@ -15,7 +15,8 @@ use Rattle.night_totals.specs.Totals.{sumOf, runsOf, largestOf, firstOf,
 use Rattle.night_totals.specs.Night.{plus, raisedOf, leadsOf, addedOf}
 use Rattle.night_totals.specs.declared.entry.Entry.{Entry}
 use Rattle.night_totals.specs.declared.totals.Totals.{Totals}
-use Rattle.night_totals.proofs.CompleteLaws.{both-true, split}
+use Rattle.night_totals.proofs.FormLaws.{split}
+use Rattle.night_totals.proofs.CompleteLaws.{both-true}
 
 -- ---- one after the other
 
@@ -235,11 +236,11 @@ module _ (es : List Entry) (fit : AllFit es) (few : length es < 65535) (e : Entr
 
   pub added-is : addedOf (totalsOf es) e ≡ totalsOf more
   added-is =
-      rw (lines-more, runs-more 0, runs-more 1, runs-more 2, runs-more 3, runs-more 5, runs-more 7,
+      rw (place-more, lines-more, runs-more 0, runs-more 1, runs-more 2, runs-more 3, runs-more 5, runs-more 7,
       sum-more (λ e. e .accepted) (λ e f. counted e f .accepted),
       sum-more (λ e. e .rejected) (λ e f. counted e f .rejected),
       sum-more (λ e. e .total) (λ e f. counted e f .total),
       sum-more (λ e. e .ode) (λ e f. counted e f .ode),
       sum-more (λ e. e .jac) (λ e f. counted e f .jac),
       sum-more (λ e. e .lu) (λ e f. counted e f .lu),
-      largest-more, place-more)
+      largest-more)
