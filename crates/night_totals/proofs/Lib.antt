@@ -7,3 +7,4 @@ pub mod CompleteLaws
 pub mod TotalsLaws
 pub mod LineLaws
 pub mod StandLaws
+pub mod TellLaws

@@ -259,7 +259,7 @@ stand-step es s n b (going x) =
       by = longer b (x .by);
       q = x .q;
       at = pick-no _ _ refl ∙ pick-yes _ _ full;
-      all = le-antisymm (x .few) (full-lines (x .q) _ full);
+      all = le-antisymm (x .few) (full-lines (x .q) (totalsOf (es ++ x .by .fs)) full);
       some = longer-some (x .by .c) b;
     }))
     (λ room. steps es s b (x .by) (room-left x room) (x .q) (x .come) (x .sound)))

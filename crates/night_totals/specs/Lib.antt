@@ -3,5 +3,6 @@ pub mod Form
 pub mod Entries
 pub mod Totals
 pub mod Reads
+pub mod Printed
 pub mod Filling
 pub mod Night
