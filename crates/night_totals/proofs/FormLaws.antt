@@ -60,7 +60,7 @@ pub spelt-number : (f : List ℕ) (k : ℕ) (vs : List ℕ)
 unfolding spelt pick
 spelt-number f k vs = let z : k + 1 ≡ suc k = omega arith in ap (λ j. numeralOf (getD vs k 0) ++ spelt f j vs) z
 
-slots-append : (f g : List ℕ) → slotsIn (f ++ g) ≡ slotsIn f + slotsIn g
+pub slots-append : (f g : List ℕ) → slotsIn (f ++ g) ≡ slotsIn f + slotsIn g
 unfolding slotsIn
 slots-append [] g = let z : slotsIn g ≡ 0 + slotsIn g = omega arith in z
 slots-append (x ∷ f) g = omega (arith, slots-append f g)

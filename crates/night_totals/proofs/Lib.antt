@@ -1,4 +1,4 @@
--- In order of reading: laws, what users cite (Theorems), claims that are refuted.
+-- In order of reading: laws, then what users cite (Theorems).
 pub mod FedLaws
 pub mod NumeralLaws
 pub mod FormLaws
@@ -8,3 +8,7 @@ pub mod TotalsLaws
 pub mod LineLaws
 pub mod StandLaws
 pub mod TellLaws
+pub mod ReadsLaws
+pub mod WrittenLaws
+pub mod Theorems
+pub mod Determinism
