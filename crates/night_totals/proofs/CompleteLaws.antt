@@ -25,7 +25,8 @@ unfoldable pub fillOf : List ℕ → Filling → List ℕ → Filling
 fillOf form q [] = q
 fillOf form q (b ∷ s) = fillOf form (filledOf form q b) s
 
-pub fill-append : (form : List ℕ) (q : Filling) (s t : List ℕ) → fillOf form q (s ++ t) ≡ fillOf form (fillOf form q s) t
+pub fill-append : (form : List ℕ) (q : Filling) (s t : List ℕ) → fillOf form q (s ++ t) ≡ fillOf form (fillOf form q
+    s) t
 unfolding fillOf
 fill-append form q [] t = refl
 fill-append form q (b ∷ s) t = fill-append form (filledOf form q b) s t
@@ -96,7 +97,8 @@ set-byte x f k vs ws e =
     let z : k + pick (eqb x 35) 1 0 ≡ k = omega (arith, pick-no {A = ℕ} 1 0 e) in
     ap (λ us. setIn f (k + pick (eqb x 35) 1 0) us ws) (pick-no _ _ e) ∙ ap (λ j. setIn f j vs ws) z
 
-set-number : (f : List ℕ) (k : ℕ) (vs ws : List ℕ) → setIn (35 ∷ f) k vs ws ≡ setIn f (suc k) (set vs k (getD ws k 0)) ws
+set-number : (f : List ℕ) (k : ℕ) (vs ws : List ℕ) → setIn (35 ∷ f) k vs ws ≡ setIn f (suc k) (set vs k (getD ws k
+    0)) ws
 unfolding setIn pick
 set-number f k vs ws = let z : k + 1 ≡ suc k = omega arith in ap (λ j. setIn f j (set vs k (getD ws k 0)) ws) z
 
@@ -235,7 +237,8 @@ module _ (ws : List ℕ) (few : (k : ℕ) → getD ws k 0 < 10000000000000000) w
 
   -- from the beginning
   pub filled-whole : (form : List ℕ) → properFrom false form ≡ true → slotsIn form ≤ 16 → length form < 2 ^ 32
-      → fillOf form (blankOf false) (spelt form 0 ws) ≡ stateAt form (slotsIn form) (setIn form 0 (blankOf false .values) ws)
+      → fillOf form (blankOf false) (spelt form 0 ws) ≡ stateAt form (slotsIn form) (setIn form 0 (blankOf false
+      .values) ws)
   filled-whole form p l h =
       let z : 0 + slotsIn form ≡ slotsIn form = omega arith in
       rw z at (complete false form [] (blankOf false .values) 0 p (omega arith) h)

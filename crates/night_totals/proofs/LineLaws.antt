@@ -55,7 +55,8 @@ past-filled form q b h =
 spoilt-stays : (form s : List ℕ) → fillOf form spoiltOf s ≡ spoiltOf
 unfolding fillOf
 spoilt-stays form [] = refl
-spoilt-stays form (b ∷ s) = ap (λ (r : Filling). fillOf form r s) (spoilt-filled form spoiltOf b refl) ∙ spoilt-stays form s
+spoilt-stays form (b ∷ s) = ap (λ (r : Filling). fillOf form r s) (spoilt-filled form spoiltOf b refl) ∙ spoilt-stays
+    form s
 
 ends-wrong : (form : List ℕ) (q : Filling) (b : ℕ) (s : List ℕ) → filledOf form q b ≡ spoiltOf
     → fillOf form (filledOf form q b) s .wrong ≡ true

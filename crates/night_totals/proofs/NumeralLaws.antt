@@ -1,4 +1,5 @@
--- Numerals digit by digit, the last one last: a number below ten has one digit, and v * 10 + d has those of v and then d.
+-- Numerals digit by digit, the last one last: a number below ten has one digit, and v * 10 + d has those of v and
+-- then d.
 use Prim.Native.Nat.{ℕ, zero, suc, _+_, _-_, _*_, _/_, _%_, _^_, _≤_, _<_}
 use mathlib.Core.Path.{_≡_, refl, sym, ap, _∙_}
 use mathlib.Core.List.{List, [], _∷_, _++_}

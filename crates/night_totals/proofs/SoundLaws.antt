@@ -171,7 +171,8 @@ module _ (form : List ℕ) (short : length form < 2 ^ 32) where
     unfolding digitOf past
     digit-next d h =
         pick-all (Next (past form q) (48 + d)) (q .begun) _ (valuedOf q d)
-        (λ going. pick-all (Next (past form q) (48 + d)) (eqb (q .value) 0) spoiltOf _ (λ e. none-next (past form q) (48 + d))
+        (λ going. pick-all (Next (past form q) (48 + d)) (eqb (q .value) 0) spoiltOf _ (λ e. none-next (past form q)
+        (48 + d))
         (λ some. pick-all (Next (past form q) (48 + d)) (leb 1000000000000000 (q .value)) spoiltOf _
         (λ e. none-next (past form q) (48 + d))
         (λ e. let l : q .value < 1000000000000000 = leb-false _ _ e in

@@ -179,7 +179,8 @@ module _ (es : List Entry) (s : List ℕ) (b : ℕ) where
               fit = rw one (fit-one e (x .fit) f);
             };
             q = blankOf false;
-            at = ap (λ u. nightAt (blankOf false) u false) (added-is (es ++ x .fs) (x .fit) few e f ∙ ap totalsOf (sym one));
+            at = ap (λ u. nightAt (blankOf false) u false) (added-is (es ++ x .fs) (x .fit) few e f ∙ ap totalsOf
+                (sym one));
             few = rw one (omega (arith, length-append (es ++ x .fs) (e ∷ [])));
             sound = blank-sound lineForm;
             right = refl;
@@ -240,7 +241,8 @@ room-left {es} x room =
     split (eqb (x .q .at) 0) (λ y. room-lines (x .q) (totalsOf (es ++ x .by .fs)) room (eqb-true _ _ y))
     (λ n. x .inside (begun-some x n))
 
-pub stand-step : (es : List Entry) (s : List ℕ) (n : Night) (b : ℕ) → Stand es s n → Stand es (s ++ (b ∷ [])) (stepOf n b)
+pub stand-step : (es : List Entry) (s : List ℕ) (n : Night) (b : ℕ) → Stand es s n → Stand es (s ++ (b ∷ [])) (stepOf
+    n b)
 unfolding longer stepOf fullOf
 stand-step es s n b (beyond x) =
     beyond (record {

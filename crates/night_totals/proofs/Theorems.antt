@@ -1,5 +1,5 @@
--- What a user cites: each theorem in words, its statement, and where it is proved. What lines are read is `written` with
--- `Fit` (specs/Entries.antt), their totals `totalsOf` (specs/Totals.antt), and what a text comes to
+-- What a user cites: each theorem in words, its statement, and where it is proved. What lines are read is `written`
+-- with `Fit` (specs/Entries.antt), their totals `totalsOf` (specs/Totals.antt), and what a text comes to
 -- `Reads` (specs/Reads.antt).
 use Prim.Native.Nat.{ℕ, _+_, _*_, _≤_}
 use mathlib.Core.Path.{_≡_}

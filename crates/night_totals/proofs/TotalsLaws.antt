@@ -225,22 +225,33 @@ module _ (es : List Entry) (fit : AllFit es) (few : length es < 65535) (e : Entr
       let p : plus (length es) 1 ≡ length es + 1 = mod-eq-of-lt (omega arith) in
       leads-by ℕ (plus (length es) 1) (placeOf es)
       ∙ sym (place-append es (e ∷ [])
-      ∙ ap (λ x. pick (eqb (length es) 0) x (pick (ltb (largestOf es) (largestOf (e ∷ []))) (length es + x) (placeOf es)))
+      ∙ ap (λ x. pick (eqb (length es) 0) x (pick (ltb (largestOf es) (largestOf (e ∷ []))) (length es + x) (placeOf
+      es)))
       place-one
       ∙ ap (λ x. pick (eqb (length es) 0) 1 (pick (ltb (largestOf es) x) (length es + 1) (placeOf es))) largest-one
       ∙ ap (λ x. pick (eqb (length es) 0) 1 (pick (ltb (largestOf es) (e .ode)) x (placeOf es))) (sym p)
-      ∙ pick-all (λ x. pick (eqb (length es) 0) 1 (pick (ltb (largestOf es) (e .ode)) (plus (length es) 1) (placeOf es)) ≡ x)
+      ∙ pick-all (λ x. pick (eqb (length es) 0) 1 (pick (ltb (largestOf es) (e .ode)) (plus (length es) 1) (placeOf
+      es)) ≡ x)
       (eqb (length es) 0) (plus (length es) 1) _
       (λ t. pick-yes _ _ t ∙ (let z : length es ≡ 0 = eqb-true _ _ t in omega arith))
       (λ t. pick-no _ _ t))
 
   pub added-is : addedOf (totalsOf es) e ≡ totalsOf more
   added-is =
-      rw (place-more, lines-more, runs-more 0, runs-more 1, runs-more 2, runs-more 3, runs-more 5, runs-more 7,
-      sum-more (λ e. e .accepted) (λ e f. counted e f .accepted),
-      sum-more (λ e. e .rejected) (λ e f. counted e f .rejected),
-      sum-more (λ e. e .total) (λ e f. counted e f .total),
-      sum-more (λ e. e .ode) (λ e f. counted e f .ode),
-      sum-more (λ e. e .jac) (λ e f. counted e f .jac),
-      sum-more (λ e. e .lu) (λ e f. counted e f .lu),
-      largest-more)
+      rw (
+        place-more,
+        lines-more,
+        runs-more 0,
+        runs-more 1,
+        runs-more 2,
+        runs-more 3,
+        runs-more 5,
+        runs-more 7,
+        sum-more (λ e. e .accepted) (λ e f. counted e f .accepted),
+        sum-more (λ e. e .rejected) (λ e f. counted e f .rejected),
+        sum-more (λ e. e .total) (λ e f. counted e f .total),
+        sum-more (λ e. e .ode) (λ e f. counted e f .ode),
+        sum-more (λ e. e .jac) (λ e f. counted e f .jac),
+        sum-more (λ e. e .lu) (λ e f. counted e f .lu),
+        largest-more,
+      )

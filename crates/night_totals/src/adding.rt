@@ -32,14 +32,22 @@ pub fn none() -> Totals
 fn raised(runs: u64, status: u64, of: u64) -> u64
     ensures { λ r. ⌜ r ≡ raisedOf runs status of ⌝ }
 {
-    if status == of { wrapping_add_u64(runs, 1) } else { runs }
+    if status == of {
+        wrapping_add_u64(runs, 1)
+    } else {
+        runs
+    }
 }
 
 // Whether a further line has the largest ode. Of equal ones the first has it.
 fn leads(totals: Totals, ode: u64) -> bool
     ensures { λ r. ⌜ r ≡ leadsOf totals ode ⌝ }
 {
-    if totals.lines == 0 { true } else { totals.largest < ode }
+    if totals.lines == 0 {
+        true
+    } else {
+        totals.largest < ode
+    }
 }
 
 fn chosen(first: bool, one: u64, other: u64) -> u64

@@ -3,9 +3,9 @@
 ghost use Prim.Native.Nat.{_<_};
 ghost use mathlib.Core.Bool.{false};
 ghost use mathlib.Core.Path.{_≡_};
-
 ghost use lib.ListN.{getD};
-ghost use Rattle.night_totals.specs.Filling.{blankOf, spoiltOf, numberedAt, passedOf, valuedOf, digitOf, storedOf, behindOf, numberOf, filledOf};
+ghost use Rattle.night_totals.specs.Filling.{blankOf, spoiltOf, numberedAt, passedOf, valuedOf, digitOf};
+ghost use Rattle.night_totals.specs.Filling.{storedOf, behindOf, numberOf, filledOf};
 use crate::filling::Filling;
 
 pub const SLOT: u8 = 35;
@@ -46,7 +46,11 @@ pub fn spoilt() -> Filling
 fn numbered(form: &[u8], at: usize) -> bool
     ensures { λ r. ⌜ r ≡ numberedAt (now (form .entry)) at ⌝ }
 {
-    if at < form.len() { form[at] == SLOT } else { false }
+    if at < form.len() {
+        form[at] == SLOT
+    } else {
+        false
+    }
 }
 
 // The byte that stands in the form, or the text is wrong.

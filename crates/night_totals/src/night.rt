@@ -55,7 +55,11 @@ pub fn start() -> Night
 fn full(filling: Filling, totals: Totals) -> bool
     ensures { λ r. ⌜ r ≡ fullOf filling totals ⌝ }
 {
-    if filling.at == 0 { MOST_LINES <= totals.lines } else { false }
+    if filling.at == 0 {
+        MOST_LINES <= totals.lines
+    } else {
+        false
+    }
 }
 
 // A line that has come whole is judged.
@@ -87,7 +91,11 @@ fn step(night: Night, byte: u8) -> Night
     if full(filling, totals) {
         return made(filling, totals, true);
     }
-    let next = filled(b"status # accepted # rejected # total # ode # jac # lu #\n", filling, byte);
+    let next = filled(
+        b"status # accepted # rejected # total # ode # jac # lu #\n",
+        filling,
+        byte,
+    );
     judged(totals, next)
 }
 

@@ -21,7 +21,8 @@ fn value_at(values: [u64; 16], place: usize) -> u64
 // A byte of the form, or the number that stands there.
 fn put_piece(out: &mut [u8; ROOM], at: usize, byte: u8, value: u64) -> usize
     requires { ⌜ at + 20 ≤ 4096 ⌝ }
-    ensures { λ r. ⌜ Put at (pick (eqb byte 35) (numeralOf value) (byte ∷ [])) (now (out .entry)) (now (out .exit)) r ⌝ }
+    ensures { λ r. ⌜ Put at (pick (eqb byte 35) (numeralOf value) (byte ∷ []))
+        (now (out .entry)) (now (out .exit)) r ⌝ }
     ensures { λ r. ⌜ r ≤ at + 20 ⌝ }
 {
     if byte == SLOT {

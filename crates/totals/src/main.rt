@@ -49,7 +49,7 @@ fn read_some(piece: &mut [u8; PIECE]) -> Came {
     Came::Bytes(io::count(got, room))
 }
 
-fn taken(night: Night, piece: &[u8; PIECE], count: usize) -> Night {
+fn extended(night: Night, piece: &[u8; PIECE], count: usize) -> Night {
     let bytes: &[u8] = piece;
     fed(night, &bytes[0..within(count, bytes.len())])
 }
@@ -59,7 +59,7 @@ fn read_all(piece: &mut [u8; PIECE]) -> Taken {
     let mut night = start();
     for _ in 0..MOST_READS {
         match read_some(piece) {
-            Came::Bytes(count) => night = taken(night, piece, count),
+            Came::Bytes(count) => night = extended(night, piece, count),
             Came::End => {
                 return Taken {
                     night: night,

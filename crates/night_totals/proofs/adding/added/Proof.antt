@@ -52,7 +52,35 @@ chosen-requires-2 : tie.Need-chosen-requires-2
 chosen-requires-2 c κs = search needs
 
 returns : tie.Need-returns
-returns c = rw (c .chosen2 .ensures, c .before .chosen .ensures, c .before .before .wrapping-add-u647 .ensures, c .before .before .before .wrapping-add-u646 .ensures, c .before .before .before .before .wrapping-add-u645 .ensures, c .before .before .before .before .before .wrapping-add-u644 .ensures, c .before .before .before .before .before .before .wrapping-add-u643 .ensures, c .before .before .before .before .before .before .before .wrapping-add-u642 .ensures, c .before .before .before .before .before .before .before .before .raised6 .ensures, c .before .before .before .before .before .before .before .before .before .raised5 .ensures, c .before .before .before .before .before .before .before .before .before .before .raised4 .ensures, c .before .before .before .before .before .before .before .before .before .before .before .raised3 .ensures, c .before .before .before .before .before .before .before .before .before .before .before .before .raised2 .ensures, c .before .before .before .before .before .before .before .before .before .before .before .before .before .raised .ensures, c .before .before .before .before .before .before .before .before .before .before .before .before .before .before .leads .ensures, c .before .before .before .before .before .before .before .before .before .before .before .before .before .before .before .wrapping-add-u64 .ensures)
+returns c = rw (
+  c .chosen2 .ensures,
+  c .before .chosen .ensures,
+  c .before .before .wrapping-add-u647 .ensures,
+  c
+      .before .before .before .wrapping-add-u646 .ensures,
+  c .before .before .before .before .wrapping-add-u645
+      .ensures,
+  c .before .before .before .before .before .wrapping-add-u644 .ensures,
+  c .before .before .before
+      .before .before .before .wrapping-add-u643 .ensures,
+  c .before .before .before .before .before .before .before
+      .wrapping-add-u642 .ensures,
+  c .before .before .before .before .before .before .before .before .raised6 .ensures,
+  c .before .before .before .before .before .before .before .before .before .raised5 .ensures,
+  c .before .before
+      .before .before .before .before .before .before .before .before .raised4 .ensures,
+  c .before .before .before
+      .before .before .before .before .before .before .before .before .raised3 .ensures,
+  c .before .before .before
+      .before .before .before .before .before .before .before .before .before .raised2 .ensures,
+  c .before .before
+      .before .before .before .before .before .before .before .before .before .before .before .raised .ensures,
+  c
+      .before .before .before .before .before .before .before .before .before .before .before .before .before .before
+      .leads .ensures,
+  c .before .before .before .before .before .before .before .before .before .before .before
+      .before .before .before .before .wrapping-add-u64 .ensures,
+)
 
 pub added-spec : {M : Type 1} → statement M
 added-spec =

@@ -18,7 +18,8 @@ behind-requires-2 c κs = search needs
 
 returns-2 : tie.Need-returns-2
 unfolding numberOf
-returns-2 c = no _ _ _ (le-ltb _ _ (c .before .before .if1 .left)) (yes _ _ _ (lt-ltb _ _ (c .before .if2 .taken)) (c .behind2 .ensures))
+returns-2 c = no _ _ _ (le-ltb _ _ (c .before .before .if1 .left)) (yes _ _ _ (lt-ltb _ _ (c .before .if2 .taken)) (c
+    .behind2 .ensures))
 
 sub-digit : tie.Need-sub-digit
 sub-digit c = search needs
@@ -28,7 +29,8 @@ digit-requires c κs = search needs
 
 returns-3 : tie.Need-returns-3
 unfolding numberOf
-returns-3 c = no _ _ _ (le-ltb _ _ (c .before .before .if1 .left)) (no _ _ _ (le-ltb _ _ (c .before .if2 .left)) (c .digit .ensures))
+returns-3 c = no _ _ _ (le-ltb _ _ (c .before .before .if1 .left)) (no _ _ _ (le-ltb _ _ (c .before .if2 .left)) (c
+    .digit .ensures))
 
 pub at-number-spec : {M : Type 1} → statement M
 at-number-spec =

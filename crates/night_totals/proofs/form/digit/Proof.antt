@@ -18,14 +18,16 @@ spoilt-requires c κs = search needs
 
 returns-2 : tie.Need-returns-2
 unfolding digitOf
-returns-2 c = yes _ _ _ (not-false _ (c .before .before .before .if1 .left)) (yes _ _ _ (eq-eqb _ _ (c .before .if2 .taken)) (c .spoilt .ensures))
+returns-2 c = yes _ _ _ (not-false _ (c .before .before .before .if1 .left)) (yes _ _ _ (eq-eqb _ _ (c .before .if2
+    .taken)) (c .spoilt .ensures))
 
 spoilt-requires-2 : tie.Need-spoilt-requires-2
 spoilt-requires-2 c κs = search needs
 
 returns-3 : tie.Need-returns-3
 unfolding digitOf
-returns-3 c = yes _ _ _ (not-false _ (c .before .before .before .before .before .if1 .left)) (no _ _ _ (ne-eqb _ _ (c .before .before .before .if2 .left)) (yes _ _ _ (le-leb _ _ (c .before .if3 .taken)) (c .spoilt2 .ensures)))
+returns-3 c = yes _ _ _ (not-false _ (c .before .before .before .before .before .if1 .left)) (no _ _ _ (ne-eqb _ _ (c
+    .before .before .before .if2 .left)) (yes _ _ _ (le-leb _ _ (c .before .if3 .taken)) (c .spoilt2 .ensures)))
 
 mul-valued : tie.Need-mul-valued
 mul-valued c = search needs
@@ -38,7 +40,9 @@ valued-requires-2 c κs = search needs
 
 returns-4 : tie.Need-returns-4
 unfolding digitOf
-returns-4 c = yes _ _ _ (not-false _ (c .before .before .before .before .before .before .if1 .left)) (no _ _ _ (ne-eqb _ _ (c .before .before .before .before .if2 .left)) (no _ _ _ (lt-leb _ _ (c .before .before .if3 .left)) (c .valued2 .ensures)))
+returns-4 c = yes _ _ _ (not-false _ (c .before .before .before .before .before .before .if1 .left)) (no _ _ _
+    (ne-eqb _ _ (c .before .before .before .before .if2 .left)) (no _ _ _ (lt-leb _ _ (c .before .before .if3 .left))
+    (c .valued2 .ensures)))
 
 pub digit-spec : {M : Type 1} → statement M
 digit-spec =

@@ -19,7 +19,8 @@ spoilt-requires-2 c κs = search needs
 
 returns-2 : tie.Need-returns-2
 unfolding filledOf
-returns-2 c = no _ _ _ (c .before .before .if1 .left) (yes _ _ _ (eq-eqb _ _ (c .before .if2 .taken)) (c .spoilt2 .ensures))
+returns-2 c = no _ _ _ (c .before .before .if1 .left) (yes _ _ _ (eq-eqb _ _ (c .before .if2 .taken)) (c .spoilt2
+    .ensures))
 
 numbered-requires : tie.Need-numbered-requires
 numbered-requires c κs = search needs
@@ -29,14 +30,18 @@ at-number-requires c κs = search needs
 
 returns-3 : tie.Need-returns-3
 unfolding filledOf
-returns-3 c = no _ _ _ (c .before .before .before .before .if1 .left) (no _ _ _ (ne-eqb _ _ (c .before .before .before .if2 .left)) (yes _ _ _ (sym (c .before .before .numbered .ensures) ∙ c .before .if3 .taken) (c .at-number .ensures)))
+returns-3 c = no _ _ _ (c .before .before .before .before .if1 .left) (no _ _ _ (ne-eqb _ _ (c .before .before
+    .before .if2 .left)) (yes _ _ _ (sym (c .before .before .numbered .ensures) ∙ c .before .if3 .taken) (c
+    .at-number .ensures)))
 
 passed-requires : tie.Need-passed-requires
 passed-requires c κs = search needs
 
 returns-4 : tie.Need-returns-4
 unfolding filledOf
-returns-4 c = no _ _ _ (c .before .before .before .before .if1 .left) (no _ _ _ (ne-eqb _ _ (c .before .before .before .if2 .left)) (no _ _ _ (sym (c .before .before .numbered .ensures) ∙ c .before .if3 .left) (c .passed .ensures)))
+returns-4 c = no _ _ _ (c .before .before .before .before .if1 .left) (no _ _ _ (ne-eqb _ _ (c .before .before
+    .before .if2 .left)) (no _ _ _ (sym (c .before .before .numbered .ensures) ∙ c .before .if3 .left) (c .passed
+    .ensures)))
 
 pub filled-spec : {M : Type 1} → statement M
 filled-spec =

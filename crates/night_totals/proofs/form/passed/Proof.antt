@@ -22,7 +22,8 @@ spoilt-requires-2 c κs = search needs
 
 returns-2 : tie.Need-returns-2
 unfolding passedOf
-returns-2 c = no _ _ _ (lt-leb _ _ (c .before .before .before .if1 .left)) (no _ _ _ (ne-eqb _ _ (c .before .if2 .taken)) (c .spoilt2 .ensures))
+returns-2 c = no _ _ _ (lt-leb _ _ (c .before .before .before .if1 .left)) (no _ _ _ (ne-eqb _ _ (c .before .if2
+    .taken)) (c .spoilt2 .ensures))
 
 add-t6 : tie.Need-add-t6
 add-t6 c = search needs

@@ -45,7 +45,29 @@ both-requires-6 c κs = search needs
 
 returns : tie.Need-returns
 unfolding fitEntry
-returns c = rw (c .both6 .ensures, c .before .known .ensures, c .before .before .both5 .ensures, c .before .before .before .small6 .ensures, c .before .before .before .before .both4 .ensures, c .before .before .before .before .before .small5 .ensures, c .before .before .before .before .before .before .both3 .ensures, c .before .before .before .before .before .before .before .small4 .ensures, c .before .before .before .before .before .before .before .before .both2 .ensures, c .before .before .before .before .before .before .before .before .before .small3 .ensures, c .before .before .before .before .before .before .before .before .before .before .both .ensures, c .before .before .before .before .before .before .before .before .before .before .before .small2 .ensures, c .before .before .before .before .before .before .before .before .before .before .before .before .small .ensures)
+returns c = rw (
+  c .both6 .ensures,
+  c .before .known .ensures,
+  c .before .before .both5 .ensures,
+  c .before .before
+      .before .small6 .ensures,
+  c .before .before .before .before .both4 .ensures,
+  c .before .before .before .before
+      .before .small5 .ensures,
+  c .before .before .before .before .before .before .both3 .ensures,
+  c .before .before
+      .before .before .before .before .before .small4 .ensures,
+  c .before .before .before .before .before .before
+      .before .before .both2 .ensures,
+  c .before .before .before .before .before .before .before .before .before
+      .small3 .ensures,
+  c .before .before .before .before .before .before .before .before .before .before .both
+      .ensures,
+  c .before .before .before .before .before .before .before .before .before .before .before .small2
+      .ensures,
+  c .before .before .before .before .before .before .before .before .before .before .before .before
+      .small .ensures,
+)
 
 pub fit-spec : {M : Type 1} → statement M
 fit-spec =

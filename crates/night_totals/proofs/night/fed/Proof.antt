@@ -31,10 +31,16 @@ loop-less : tie.Need-loop-less Inv-loop μ-loop
 loop-less c = omega arith
 
 loop-again : tie.Need-loop-again Inv-loop μ-loop
-loop-again c = (omega arith, rw (c .step .ensures) (sym (fed-more (c .before .before .before .loop .next) (c .before .before .before .before .before .args .piece .now) (c .before .before .before .loop .i) (c .before .before .loop-test .taken)) ∙ c .before .before .before .loop .inv .1))
+loop-again c = (
+  omega arith,
+  rw (c .step .ensures) (sym (fed-more (c .before .before .before .loop .next) (c .before
+      .before .before .before .before .args .piece .now) (c .before .before .before .loop .i) (c .before .before
+      .loop-test .taken)) ∙ c .before .before .before .loop .inv .1),
+)
 
 returns : tie.Need-returns Inv-loop μ-loop
-returns c = fed-all (c .before .loop .next) (c .before .before .before .args .piece .now) (c .before .loop .i) (c .loop-test .left) ∙ c .before .loop .inv .1
+returns c = fed-all (c .before .loop .next) (c .before .before .before .args .piece .now) (c .before .loop .i) (c
+    .loop-test .left) ∙ c .before .loop .inv .1
 
 pub fed-spec : {M : Type 1} → statement M
 fed-spec =

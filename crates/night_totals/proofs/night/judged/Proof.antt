@@ -23,7 +23,8 @@ made-requires-2 c κs = search needs
 
 returns-2 : tie.Need-returns-2
 unfolding judgedOf
-returns-2 c = no _ _ _ (c .before .before .before .if1 .left) (no _ _ _ (ne-eqb _ _ (c .before .if2 .taken)) (c .made2 .ensures))
+returns-2 c = no _ _ _ (c .before .before .before .if1 .left) (no _ _ _ (ne-eqb _ _ (c .before .if2 .taken)) (c
+    .made2 .ensures))
 
 entry-from-requires : tie.Need-entry-from-requires
 entry-from-requires c κs = search needs
@@ -42,7 +43,16 @@ made-requires-3 c κs = search needs
 
 returns-3 : tie.Need-returns-3
 unfolding judgedOf
-returns-3 c = no _ _ _ (c .before .before .before .before .before .before .before .before .if1 .left) (yes _ _ _ (eq-eqb _ _ (c .before .before .before .before .before .before .if2 .left)) (yes _ _ _ (ap fitEntry (sym (c .before .before .before .before .before .entry-from .ensures)) ∙ sym (c .before .before .before .before .fit .ensures) ∙ c .before .before .before .if3 .taken) (rw (c .made3 .ensures, c .before .added .ensures, c .before .before .blank .ensures, c .before .before .before .before .before .entry-from .ensures))))
+returns-3 c = no _ _ _ (c .before .before .before .before .before .before .before .before .if1 .left) (yes _ _ _
+    (eq-eqb _ _ (c .before .before .before .before .before .before .if2 .left)) (yes _ _ _ (ap fitEntry (sym (c
+    .before .before .before .before .before .entry-from .ensures)) ∙ sym (c .before .before .before .before .fit
+    .ensures) ∙ c .before .before .before .if3 .taken) (rw (
+      c .made3 .ensures,
+      c .before .added .ensures,
+      c .before
+          .before .blank .ensures,
+      c .before .before .before .before .before .entry-from .ensures,
+    ))))
 
 spoilt-requires-2 : tie.Need-spoilt-requires-2
 spoilt-requires-2 c κs = search needs
@@ -52,7 +62,10 @@ made-requires-4 c κs = search needs
 
 returns-4 : tie.Need-returns-4
 unfolding judgedOf
-returns-4 c = no _ _ _ (c .before .before .before .before .before .before .before .if1 .left) (yes _ _ _ (eq-eqb _ _ (c .before .before .before .before .before .if2 .left)) (no _ _ _ (ap fitEntry (sym (c .before .before .before .before .entry-from .ensures)) ∙ sym (c .before .before .before .fit .ensures) ∙ c .before .before .if3 .left) (rw (c .made4 .ensures, c .before .spoilt2 .ensures))))
+returns-4 c = no _ _ _ (c .before .before .before .before .before .before .before .if1 .left) (yes _ _ _ (eq-eqb _ _
+    (c .before .before .before .before .before .if2 .left)) (no _ _ _ (ap fitEntry (sym (c .before .before .before
+    .before .entry-from .ensures)) ∙ sym (c .before .before .before .fit .ensures) ∙ c .before .before .if3 .left)
+    (rw (c .made4 .ensures, c .before .spoilt2 .ensures))))
 
 pub judged-spec : {M : Type 1} → statement M
 judged-spec =

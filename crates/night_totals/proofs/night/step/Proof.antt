@@ -19,7 +19,8 @@ made-requires c κs = search needs
 
 returns-2 : tie.Need-returns-2
 unfolding stepOf
-returns-2 c = no _ _ _ (c .before .before .before .if1 .left) (yes _ _ _ (sym (c .before .before .full .ensures) ∙ c .before .if2 .taken) (c .made .ensures))
+returns-2 c = no _ _ _ (c .before .before .before .if1 .left) (yes _ _ _ (sym (c .before .before .full .ensures) ∙ c
+    .before .if2 .taken) (c .made .ensures))
 
 slice-aggregate-filled : tie.Need-slice-aggregate-filled
 slice-aggregate-filled c = search needs
@@ -32,7 +33,9 @@ judged-requires c κs = search needs
 
 returns-3 : tie.Need-returns-3
 unfolding stepOf text
-returns-3 c = no _ _ _ (c .before .before .before .before .before .if1 .left) (no _ _ _ (sym (c .before .before .before .before .full .ensures) ∙ c .before .before .before .if2 .left) (rw (c .before .filled .ensures) at (c .judged .ensures)))
+returns-3 c = no _ _ _ (c .before .before .before .before .before .if1 .left) (no _ _ _ (sym (c .before .before
+    .before .before .full .ensures) ∙ c .before .before .before .if2 .left) (rw (c .before .filled .ensures) at (c
+    .judged .ensures)))
 
 pub step-spec : {M : Type 1} → statement M
 step-spec =

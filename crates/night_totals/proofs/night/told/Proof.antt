@@ -16,18 +16,21 @@ wrapping-add-u64-requires c κs = search needs
 
 returns-2 : tie.Need-returns-2
 unfolding toldOf
-returns-2 c = no _ _ _ (c .before .before .if1 .left) (yes _ _ _ (c .before .if2 .taken) (rw (c .wrapping-add-u64 .ensures)))
+returns-2 c = no _ _ _ (c .before .before .if1 .left) (yes _ _ _ (c .before .if2 .taken) (rw (c .wrapping-add-u64
+    .ensures)))
 
 wrapping-add-u64-requires-2 : tie.Need-wrapping-add-u64-requires-2
 wrapping-add-u64-requires-2 c κs = search needs
 
 returns-3 : tie.Need-returns-3
 unfolding toldOf
-returns-3 c = no _ _ _ (c .before .before .before .before .if1 .left) (no _ _ _ (c .before .before .before .if2 .left) (no _ _ _ (ne-eqb _ _ (c .before .if3 .taken)) (rw (c .wrapping-add-u642 .ensures))))
+returns-3 c = no _ _ _ (c .before .before .before .before .if1 .left) (no _ _ _ (c .before .before .before .if2
+    .left) (no _ _ _ (ne-eqb _ _ (c .before .if3 .taken)) (rw (c .wrapping-add-u642 .ensures))))
 
 returns-4 : tie.Need-returns-4
 unfolding toldOf
-returns-4 c = no _ _ _ (c .before .before .before .if1 .left) (no _ _ _ (c .before .before .if2 .left) (yes _ _ _ (eq-eqb _ _ (c .if3 .left)) refl))
+returns-4 c = no _ _ _ (c .before .before .before .if1 .left) (no _ _ _ (c .before .before .if2 .left) (yes _ _ _
+    (eq-eqb _ _ (c .if3 .left)) refl))
 
 pub told-spec : {M : Type 1} → statement M
 told-spec =

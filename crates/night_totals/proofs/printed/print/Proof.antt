@@ -44,15 +44,21 @@ put-form-requires-3 c κs = search needs
 
 returns : tie.Need-returns
 unfolding printedOf text
-returns c = printed-put (c .before .before .before .before .before .before .before .args .outcome) _ (c .before .before .before .before .before .outcome .given .1) (rw (c .before .numbers-of .ensures) at (c .put-form .ensures .0)) (c .put-form .ensures .1)
+returns c = printed-put (c .before .before .before .before .before .before .before .args .outcome) _ (c .before
+    .before .before .before .before .outcome .given .1) (rw (c .before .numbers-of .ensures) at (c .put-form .ensures
+    .0)) (c .put-form .ensures .1)
 
 returns-2 : tie.Need-returns-2
 unfolding printedOf text
-returns-2 c = printed-put (c .before .before .before .before .before .before .before .args .outcome) _ (c .before .before .before .before .before .outcome2 .given .1) (rw (c .before .one-number .ensures) at (c .put-form2 .ensures .0)) (c .put-form2 .ensures .1)
+returns-2 c = printed-put (c .before .before .before .before .before .before .before .args .outcome) _ (c .before
+    .before .before .before .before .outcome2 .given .1) (rw (c .before .one-number .ensures) at (c .put-form2
+    .ensures .0)) (c .put-form2 .ensures .1)
 
 returns-3 : tie.Need-returns-3
 unfolding printedOf text
-returns-3 c = printed-put (c .before .before .before .before .before .before .args .outcome) _ (c .before .before .before .before .enum-told .given .1) (rw (c .before .one-number2 .ensures) at (c .put-form3 .ensures .0)) (c .put-form3 .ensures .1)
+returns-3 c = printed-put (c .before .before .before .before .before .before .args .outcome) _ (c .before .before
+    .before .before .enum-told .given .1) (rw (c .before .one-number2 .ensures) at (c .put-form3 .ensures .0)) (c
+    .put-form3 .ensures .1)
 
 pub print-spec : {M : Type 1} → statement M
 print-spec =

@@ -45,17 +45,26 @@ loop-less c = omega arith
 
 loop-again : tie.Need-loop-again Inv-loop μ-loop
 loop-again c = let inv = c .before .before .before .before .before .before .loop .inv in
-    let more = piece-more (c .before .before .before .before .before .before .before .before .args .form .now) (c .before .before .before .before .before .before .loop .i) (c .before .before .before .before .before .loop-test .taken) (c .before .before .before .before .before .before .before .before .args .values) in
-    let slots = slots-more (c .before .before .before .before .before .before .before .before .args .form .now) (c .before .before .before .before .before .before .loop .i) (c .before .before .before .before .before .loop-test .taken) in (
+    let more = piece-more (c .before .before .before .before .before .before .before .before .args .form .now) (c
+    .before .before .before .before .before .before .loop .i) (c .before .before .before .before .before .loop-test
+    .taken) (c .before .before .before .before .before .before .before .before .args .values) in
+    let slots = slots-more (c .before .before .before .before .before .before .before .before .args .form .now) (c
+    .before .before .before .before .before .before .loop .i) (c .before .before .before .before .before .loop-test
+    .taken) in (
       omega arith,
       omega arith,
       omega arith,
       c .counted .ensures .0 ∙ rw (inv .3) (sym slots),
-      rw more (rw (c .before .before .value-at .ensures, inv .3) at (put-then (inv .4) (c .before .put-piece .ensures .0))),
+      rw more (rw (c .before .before .value-at .ensures, inv .3) at (put-then (inv .4) (c .before .put-piece .ensures
+          .0))),
     )
 
 returns : tie.Need-returns Inv-loop μ-loop
-returns c = (rw (take-all (c .before .loop .i) (c .before .before .before .args .form .now) (c .loop-test .left)) at (c .before .loop .inv .4), omega arith)
+returns c = (
+  rw (take-all (c .before .loop .i) (c .before .before .before .args .form .now) (c .loop-test .left)) at
+      (c .before .loop .inv .4),
+  omega arith,
+)
 
 pub put-form-spec : {M : Type 1} → statement M
 put-form-spec =
