@@ -44,9 +44,9 @@ def entry_of(line):
 
 def answer_to(text):
     """What is to be printed of a text."""
-    entries = []
+    entries, ended = [], text.count(b"\n")
     for number, line in enumerate(text.split(b"\n"), 1):
-        whole = number <= text.count(b"\n")
+        whole = number <= ended
         if not whole and not line:
             break
         if number > MOST_LINES:
@@ -129,9 +129,10 @@ def tried(program):
     runs = 0
     for name, text in texts():
         pieces = (1, 7, 64, max(1, len(text))) if len(text) < 2000 else (4095, len(text))
+        wanted = answer_to(text)
         for piece in pieces:
             runs += 1
-            got, wanted = ran(program, text, piece), answer_to(text)
+            got = ran(program, text, piece)
             if got != wanted:
                 print(f"{name}, in pieces of {piece}: {got[:200]!r}, where {wanted[:200]!r} is right")
                 sys.exit(1)
