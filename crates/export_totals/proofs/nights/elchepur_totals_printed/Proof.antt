@@ -16,7 +16,10 @@ print-requires : tie.Need-print-requires
 print-requires c κs = search needs
 
 returns : tie.Need-returns
-returns c = ?
+returns c = (
+  rw (c .before .before .told .ensures, c .before .before .before .fed .ensures, c .before .before .before .before .start .ensures) at (c .print .ensures .0),
+  rw (c .before .before .told .ensures, c .before .before .before .fed .ensures, c .before .before .before .before .start .ensures) at (c .print .ensures .1 .0),
+)
 
 pub elchepur-totals-printed-spec : {M : Type 1} → statement M
 elchepur-totals-printed-spec =
