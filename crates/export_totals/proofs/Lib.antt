@@ -1,0 +1,2 @@
+-- The contract settles its call.
+pub mod Determinism
