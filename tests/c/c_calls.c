@@ -214,7 +214,7 @@ static void sheets(void) {
     same("the line after the last", line, 2);
 }
 
-// Hands lines over in pieces of a length and sees what is answered; `place` is what stands in the totals or as the line.
+// Hands lines over in pieces of a length and sees what is answered; `place` stands in the totals, or is the wrong line.
 static void night(const char *words, const char *lines, size_t step, uint64_t number, uint64_t place) {
     uint64_t night[ELCHEPUR_NIGHT], totals[ELCHEPUR_TOTALS], line = 7;
     size_t count = strlen(lines);
@@ -253,8 +253,10 @@ static void nights(void) {
     elchepur_totals_fed(forged, (const uint8_t *)two, strlen(two));
     same("words that no call made", elchepur_totals_told(forged, totals, &line), ELCHEPUR_REFUSED_MANY_LINES);
     forged[15] = forged[20] = 0;
+    forged[0] = 3;
     elchepur_totals_fed(forged, (const uint8_t *)two, strlen(two));
     same("a place outside the line", elchepur_totals_told(forged, totals, &line), ELCHEPUR_REFUSED_SHEET_LINE);
+    same("the line behind those that are said to be there", line, 4);
 }
 
 int main(void) {

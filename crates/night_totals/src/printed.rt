@@ -45,7 +45,8 @@ pub fn print(outcome: Outcome, out: &mut [u8; 4096]) -> usize
     match outcome {
         Outcome::Totals(totals) => put_form(
             out,
-            b"lines #\nstatus 0 #\nstatus 1 #\nstatus 2 #\nstatus 3 #\nstatus 5 #\nstatus 7 #\naccepted #\nrejected #\ntotal #\node #\njac #\nlu #\nlargest # line #\n",
+            b"lines #\nstatus 0 #\nstatus 1 #\nstatus 2 #\nstatus 3 #\nstatus 5 #\nstatus 7 #\naccepted #\nrejected #\n\
+            total #\node #\njac #\nlu #\nlargest # line #\n",
             numbers_of(totals),
         ),
         Outcome::Malformed(line) => put_form(out, b"refused 20 #\n", one_number(line)),
