@@ -22,7 +22,15 @@ pub enum Joining {
 }
 
 // Whether the runs per status sum to the lines.
-fn summed(lines: u64, runs0: u64, runs1: u64, runs2: u64, runs3: u64, runs5: u64, runs7: u64) -> bool
+fn summed(
+    lines: u64,
+    runs0: u64,
+    runs1: u64,
+    runs2: u64,
+    runs3: u64,
+    runs5: u64,
+    runs7: u64,
+) -> bool
     ensures { λ r. ⌜ r ≡ eqb (runs0 + runs1 + runs2 + runs3 + runs5 + runs7) lines ⌝ }
 {
     if lines < runs0 {
@@ -61,7 +69,15 @@ fn both(first: bool, second: bool) -> bool
 }
 
 // Whether each sum is one that so many lines can have.
-fn all_within(lines: u64, accepted: u64, rejected: u64, total: u64, ode: u64, jac: u64, lu: u64) -> bool
+fn all_within(
+    lines: u64,
+    accepted: u64,
+    rejected: u64,
+    total: u64,
+    ode: u64,
+    jac: u64,
+    lu: u64,
+) -> bool
     requires { ⌜ lines ≤ 65535 ⌝ }
     ensures { λ r. ⌜ r ≡ bothOf (sumWithin lines accepted)
         (bothOf (sumWithin lines rejected)
@@ -95,7 +111,15 @@ fn fit(t: Totals) -> bool
     if MOST_LINES < t.lines {
         return false;
     }
-    let runs = summed(t.lines, t.status0, t.status1, t.status2, t.status3, t.status5, t.status7);
+    let runs = summed(
+        t.lines,
+        t.status0,
+        t.status1,
+        t.status2,
+        t.status3,
+        t.status5,
+        t.status7,
+    );
     let sums = all_within(t.lines, t.accepted, t.rejected, t.total, t.ode, t.jac, t.lu);
     let counts = both(runs, sums);
     both(counts, both(t.largest <= t.ode, placed(t.lines, t.place)))
