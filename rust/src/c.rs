@@ -95,6 +95,8 @@ extern "C" {
     fn elchepur_totals_told(night: &[u64; NIGHT], totals: &mut [u64; TOTALS], line: &mut u64) -> u64;
 
     fn elchepur_totals_printed(night: &[u64; NIGHT], printed: &mut [u8; TOTALS_PRINTED]) -> u64;
+
+    fn elchepur_totals_join(first: &[u64; TOTALS], second: &[u64; TOTALS], joined: &mut [u64; TOTALS]) -> u64;
 }
 
 /// A night as the header's words hold it.
@@ -284,4 +286,12 @@ pub(crate) fn totals_printed(night: &NightWords) -> Vec<u8> {
     // SAFETY: the arrays have the header's lengths, each lent by itself.
     let count = unsafe { elchepur_totals_printed(night, &mut printed) };
     printed.iter().copied().take(usize::try_from(count).unwrap_or(TOTALS_PRINTED)).collect()
+}
+
+/// Two totals joined, or the number that refuses.
+pub(crate) fn totals_join(first: &[u64; TOTALS], second: &[u64; TOTALS]) -> Result<[u64; TOTALS], u64> {
+    let mut joined = [0; TOTALS];
+    // SAFETY: the arrays have the header's lengths, and what is written is lent by itself.
+    let number = unsafe { elchepur_totals_join(first, second, &mut joined) };
+    answered(number, joined)
 }

@@ -16,7 +16,8 @@ use Rattle.night_totals.proofs.FormLaws.{split}
 use Rattle.night_totals.proofs.CompleteLaws.{both-true}
 use Rattle.night_join.specs.declared.joining.Joining.{Joining}
 use Rattle.night_join.specs.declared.joining.Joining.the-variants as joining
-use Rattle.night_join.specs.Join.{runsIn, sumWithin, sumsWithin, placeIn, fitTotals, Fit, placeOfBoth, sumTotals, joinOf}
+use Rattle.night_join.specs.Join.{runsIn, sumWithin, sumsWithin, placeIn, fitTotals, Fit}
+use Rattle.night_join.specs.Join.{placeOfBoth, sumTotals, joinOf}
 use Rattle.night_join.specs.Words.{placeWord, sumWords}
 
 -- ---- what fit totals have

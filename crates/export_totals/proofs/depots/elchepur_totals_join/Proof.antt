@@ -9,21 +9,24 @@ returns : tie.Need-returns
 returns c =
     let at-join = c .before .before .before .before in
     joined-totals _ _ _
-    (sym (rw (at-join .before .totals-given2 .ensures, at-join .before .before .totals-given .ensures) at (at-join .join .ensures))
+    (sym (rw (at-join .before .totals-given2 .ensures, at-join .before .before .totals-given .ensures)
+    at (at-join .join .ensures))
     ∙ c .before .before .all .given .1) (c .totals-words .ensures)
 
 returns-2 : tie.Need-returns-2
 returns-2 c =
     let at-join = c .before .before in
     joined-unfit _ _
-    (sym (rw (at-join .before .totals-given2 .ensures, at-join .before .before .totals-given .ensures) at (at-join .join .ensures))
+    (sym (rw (at-join .before .totals-given2 .ensures, at-join .before .before .totals-given .ensures)
+    at (at-join .join .ensures))
     ∙ c .enum-told .given .1)
 
 returns-3 : tie.Need-returns-3
 returns-3 c =
     let at-join = c .before .before in
     joined-many _ _
-    (sym (rw (at-join .before .totals-given2 .ensures, at-join .before .before .totals-given .ensures) at (at-join .join .ensures))
+    (sym (rw (at-join .before .totals-given2 .ensures, at-join .before .before .totals-given .ensures)
+    at (at-join .join .ensures))
     ∙ c .enum-told2 .given .1)
 
 pub elchepur-totals-join-spec : {M : Type 1} → statement M

@@ -11,20 +11,23 @@ returns c = left-first _ _ (sym (c .before .fit .ensures) ∙ not-true _ (c .if1
 
 returns-2 : tie.Need-returns-2
 returns-2 c =
-    left-second _ _ (sym (c .before .before .before .fit .ensures) ∙ not-false _ (c .before .before .if1 .left))
+    left-second _ _ (sym (c .before .before .before .fit .ensures)
+    ∙ not-false _ (c .before .before .if1 .left))
     (sym (c .before .fit2 .ensures) ∙ not-true _ (c .if2 .taken))
 
 returns-3 : tie.Need-returns-3
 returns-3 c =
     left-many _ _
-    (sym (c .before .before .before .before .before .fit .ensures) ∙ not-false _ (c .before .before .before .before .if1 .left))
+    (sym (c .before .before .before .before .before .fit .ensures)
+    ∙ not-false _ (c .before .before .before .before .if1 .left))
     (sym (c .before .before .before .fit2 .ensures) ∙ not-false _ (c .before .before .if2 .left))
     (sym (c .before .beyond .ensures) ∙ c .if3 .taken)
 
 returns-4 : tie.Need-returns-4
 returns-4 c =
     left-joined _ _
-    (sym (c .before .before .before .before .before .before .fit .ensures) ∙ not-false _ (c .before .before .before .before .before .if1 .left))
+    (sym (c .before .before .before .before .before .before .fit .ensures)
+    ∙ not-false _ (c .before .before .before .before .before .if1 .left))
     (sym (c .before .before .before .before .fit2 .ensures) ∙ not-false _ (c .before .before .before .if2 .left))
     (sym (c .before .before .beyond .ensures) ∙ c .before .if3 .left)
     (c .sum .ensures)

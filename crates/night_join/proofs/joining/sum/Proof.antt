@@ -16,10 +16,14 @@ returns c = rw (
   c .before .before .before .before .before .before .before .before .wrapping-add-u647 .ensures,
   c .before .before .before .before .before .before .before .before .before .wrapping-add-u646 .ensures,
   c .before .before .before .before .before .before .before .before .before .before .wrapping-add-u645 .ensures,
-  c .before .before .before .before .before .before .before .before .before .before .before .wrapping-add-u644 .ensures,
-  c .before .before .before .before .before .before .before .before .before .before .before .before .wrapping-add-u643 .ensures,
-  c .before .before .before .before .before .before .before .before .before .before .before .before .before .wrapping-add-u642 .ensures,
-  c .before .before .before .before .before .before .before .before .before .before .before .before .before .before .wrapping-add-u64 .ensures,
+  c .before .before .before .before .before .before .before .before .before .before .before .wrapping-add-u644
+      .ensures,
+  c .before .before .before .before .before .before .before .before .before .before .before .before
+      .wrapping-add-u643 .ensures,
+  c .before .before .before .before .before .before .before .before .before .before .before .before .before
+      .wrapping-add-u642 .ensures,
+  c .before .before .before .before .before .before .before .before .before .before .before .before .before .before
+      .wrapping-add-u64 .ensures,
 )
 
 pub sum-spec : {M : Type 1} → statement M
