@@ -1,0 +1,2 @@
+-- Laws of totals that are read one after another.
+pub mod FedLaws

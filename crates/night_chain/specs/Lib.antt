@@ -1,0 +1,2 @@
+-- What the code does byte by byte.
+pub mod Chain
