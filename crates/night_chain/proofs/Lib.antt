@@ -1,2 +1,3 @@
 -- Laws of totals that are read one after another.
 pub mod FedLaws
+pub mod ChainLaws
