@@ -14,6 +14,7 @@ mod opening;
 mod ours;
 #[path = "../../tests/support/powers.rs"]
 mod plain;
+mod raised;
 mod routines;
 mod rust;
 mod side;
@@ -28,6 +29,7 @@ use case::{Case, Runs};
 use draw::Draw;
 use memory::Memory;
 use ours::Ours;
+use raised::Trace;
 use side::Side;
 use stop::{at_case, insist, stop, tell};
 use tally::count;
@@ -35,10 +37,14 @@ use tally::count;
 // Most runs of a case that is broken off at each report in turn: later reports are like these.
 const MOST_INTERRUPTS: usize = 10;
 
-// How a run went.
+// One case in so many is run under two limits of steps besides.
+const PAIR_EACH: u64 = 4;
+
+// How a run went, and what was asked in it where that is wanted.
 struct Went {
     interrupted: bool,
     way: u64,
+    trace: Option<Trace>,
 }
 
 // Memory as it may be before an opening, with a part of the wrong length if the case wants one.
@@ -64,6 +70,10 @@ fn refused(case: &Case, ours: &Ours, before: &Memory, number: u64) {
 
 // One run of a case.
 fn run(case: &Case, d: &mut Draw) -> Went {
+    run_with(case, d, None)
+}
+
+fn run_with(case: &Case, d: &mut Draw, trace: Option<Trace>) -> Went {
     branches::forget();
     let memory = memory_for(case, d);
     let before = memory.clone();
@@ -72,14 +82,17 @@ fn run(case: &Case, d: &mut Draw) -> Went {
     insist(number == wanted, || format!("an opening is answered by {number} and is to be by {wanted}"));
     if number != 0 {
         refused(case, &ours, &before, number);
-        return Went { interrupted: false, way: number };
+        return Went { interrupted: false, way: number, trace: None };
     }
     count(|t| t.run(case.opening.n));
-    called::begin(Side::new(&case.opening, ours, case.host.clone(), d.clone()));
+    let mut side = Side::new(&case.opening, ours, case.host.clone(), d.clone());
+    side.trace = trace;
+    called::begin(side);
     if let Err(error) = rust::solve(&case.opening) {
         stop(format!("the Rust refuses an opening that ours takes: {error}"));
     }
-    Went { interrupted: called::over().interrupted(), way: branches::way() }
+    let side = called::over();
+    Went { interrupted: side.interrupted(), way: branches::way(), trace: side.trace }
 }
 
 // Broken off at the first report, then at the second, and so on.
@@ -104,6 +117,9 @@ fn compare(seed: u64, number: u64) {
         Runs::SeekEdge => edge::seek(&mut case, &mut d, |case, d| run(case, d).way),
     }
     routines::compare(&mut d);
+    if number % PAIR_EACH == 0 {
+        raised::compare(&mut case, &mut d, |case, d| run_with(case, d, Some(Trace::default())).trace);
+    }
     count(|t| t.cases += 1);
 }
 

@@ -5,6 +5,7 @@ use super::host::{Host, Told};
 use super::memory::{bits, difference, Memory};
 use super::opening::Opening;
 use super::ours::{Ours, CONTINUE, DERIVATIVE, ENDED, FILLED, INTERRUPT, JACOBIAN, MARK, MODIFIED, REPORT};
+use super::raised::Trace;
 use super::stop::{at_request, insist, none};
 use super::tally::{self, count, CLASSES};
 use crate::dense::StepInterpolant;
@@ -23,6 +24,8 @@ pub struct Side {
     classes: [bool; CLASSES.len()],
     requests: u64,
     interrupted: bool,
+    // What was asked so far, where it is wanted.
+    pub trace: Option<Trace>,
 }
 
 impl Side {
@@ -37,7 +40,8 @@ impl Side {
         classes[tally::HOST] = opening.settings.host_jacobian;
         classes[tally::BOOK] = opening.settings.book;
         classes[tally::BACKWARD] = opening.xend < opening.x0;
-        Side { ours, theirs, scalars: None, place: 0, host, draw, classes, requests: 0, interrupted: false }
+        let (requests, interrupted) = (0, false);
+        Side { ours, theirs, scalars: None, place: 0, host, draw, classes, requests, interrupted, trace: None }
     }
 
     pub fn interrupted(&self) -> bool {
@@ -57,6 +61,9 @@ impl Side {
             let ours = self.ours.scalars();
             let theirs = (bits(rtol), bits(atol));
             insist(ours == theirs, || format!("scalar tolerances: ours {ours:x?}, the Rust's {theirs:x?}"));
+        }
+        if let Some(trace) = &mut self.trace {
+            trace.note(&self.ours);
         }
         count(|t| (0..CLASSES.len()).for_each(|class| t.classes[class] += self.classes[class] as u64));
         if self.draw.below(16) == 0 {
@@ -174,6 +181,9 @@ impl Side {
         insist(ours == theirs,
             || format!("ode, jac, lu, total, accepted, rejected: ours {ours:?}, the Rust's {theirs:?}"));
         none(difference("h and x of the result", &floats, &[result.h, x]));
+        if let Some(trace) = &mut self.trace {
+            trace.end(numbers, floats);
+        }
         count(|t| {
             t.ends[status as usize] += 1;
             t.classes[tally::BROKEN_OFF] += if self.interrupted { self.requests } else { 0 };

@@ -38,6 +38,7 @@ pub const WAS_NOT_FINITE: usize = 7;
 pub const BACKWARD: usize = 8;
 pub const BROKEN_OFF: usize = 9;
 
+const PAIRS: [&str; 3] = ["the same", "2 and then 2", "2 and then another"];
 const ORDERS: [&str; 5] = ["1", "2 to 4", "5 to 8", "9 to 16", "17 to 32"];
 const REPLIES: [&str; 5] = ["filled", "continue", "interrupt", "modified", "mark"];
 
@@ -47,6 +48,8 @@ pub struct Tally {
     pub runs: u64,
     // Pairs of neighbours between which a run goes another way.
     pub edges: u64,
+    // Pairs of limits: the run is the same under the larger; it ended with 2 under both; under the smaller alone.
+    pub pairs: [u64; PAIRS.len()],
     pub requests: [u64; KINDS.len()],
     pub classes: [u64; CLASSES.len()],
     // By their numbers, from 1.
@@ -81,6 +84,14 @@ pub fn count(act: impl FnOnce(&mut Tally)) {
     TALLY.with(|t| act(&mut t.borrow_mut()));
 }
 
+// What is done here is counted apart and forgotten.
+pub fn aside<T>(act: impl FnOnce() -> T) -> T {
+    let kept = TALLY.take();
+    let made = act();
+    TALLY.set(kept);
+    made
+}
+
 // Names with their counts, those of 0 too.
 fn row(head: &str, names: &[&str], counts: &[u64]) -> String {
     let cells: Vec<String> = names.iter().zip(counts).map(|(name, count)| format!("{name} {count}")).collect();
@@ -106,6 +117,7 @@ fn lines(t: &Tally) -> Vec<String> {
         format!("replies with a NaN or an infinity: {}", t.not_finite),
         numbered("ends by status", &t.ends),
         row("runs by n", &ORDERS, &t.orders),
+        row("pairs of limits by their runs", &PAIRS, &t.pairs),
         numbered("openings refused by number", &t.refused),
         format!("openings that the Rust refuses too: {}", t.refused_by_both),
         numbered("advances refused by number", &t.unmoved),

@@ -106,7 +106,7 @@ def compared(program, kinds=""):
 def figures():
     """The numbers that a document must have, each with where it is from."""
     readme = [(name, "") for name in ("replay_scalar", "replay_matrix", "replay_opening", "replay_admission",
-                                      "replay_sheet")]
+                                      "replay_sheet", "replay_limit")]
     readme += [("replay_run", "runs"), ("replay_sheet", "status"), ("replay_sheet", "refused")]
     promises = [("replay_scalar", kinds)
                 for kinds in ("abs", "max,min", "clamp", "signum", "sqrt", "root", "inverse_root,two,four,quarter",

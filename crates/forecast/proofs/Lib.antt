@@ -6,6 +6,7 @@ pub mod ModelRead
 pub mod HostsAgree
 pub mod Solves
 pub mod Accounts
+pub mod Raised
 pub mod Samples
 pub mod Theorems
 pub mod Refuted

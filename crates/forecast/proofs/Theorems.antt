@@ -1,6 +1,8 @@
 -- What is promised of a forecast: what a user cites, each theorem in words, its statement, and where it is proved.
--- `Forecasts` stands in specs/Forecast.antt, `Accounts` in specs/Account.antt.
+-- `Forecasts` stands in specs/Forecast.antt, `Accounts` in specs/Account.antt, `Raised` in
+-- specs/Raised.antt.
 use Prim.Native.Nat.{ℕ}
+use mathlib.Core.Bool.{false}
 use mathlib.Core.Path.{_≡_}
 use mathlib.Core.List.{List}
 use lib.Ieee.{Float}
@@ -13,9 +15,11 @@ use Rattle.model_run.specs.declared.run.Task.{Task}
 use Rattle.forecast.specs.Forecast.{Forecasts}
 use Rattle.forecast.specs.Told.{Ends}
 use Rattle.forecast.specs.Account.{Accounts}
+use Rattle.forecast.specs.Raised.{endsOver, Raised, SameForecast}
 use Rattle.forecast.proofs.BudgetLasts.{run-ends-proof}
 use Rattle.forecast.proofs.Solves.{one-forecast-proof}
 use Rattle.forecast.proofs.Accounts.{tells, forecast-accounts-proof}
+use Rattle.forecast.proofs.Raised.{raised-forecast-proof}
 use Rattle.forecast.proofs.Samples.{still, stillForecast, still-forecast-proof}
 
 -- Of what was read there is one forecast only.
@@ -31,6 +35,11 @@ run-ends = run-ends-proof
 pub forecast-accounts : (bytes : List ℕ) (e : Reached) (y : List Float) → Forecasts (readOf bytes) (tells e y)
     → Accounts bytes e y
 forecast-accounts = forecast-accounts-proof
+
+-- A sheet with a larger limit of steps has the same forecast, byte for byte, unless the first ended with 2.
+pub raised-forecast : (sheet raised : List ℕ) → Raised sheet raised → (f : Forecast) → Forecasts (readOf sheet) f
+    → endsOver (f .ending) ≡ false → SameForecast raised f
+raised-forecast = raised-forecast-proof
 
 -- There is a forecast that tells an end: that of a sheet with one species and no reaction, which ends with 3.
 pub still-forecast : Forecasts (readOf (written still)) stillForecast

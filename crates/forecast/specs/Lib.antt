@@ -2,3 +2,4 @@
 pub mod Forecast
 pub mod Account
 pub mod Told
+pub mod Raised

@@ -50,7 +50,7 @@ hosts-alike advance f g (suc k) t same =
 -- ---- past the end
 
 -- the talk after l and d more advances
-talk-more : (advance : Advance) (host : Host) (l d : ℕ) (t : Talk)
+pub talk-more : (advance : Advance) (host : Host) (l d : ℕ) (t : Talk)
     → talkBy advance host (l + d) t ≡ talkBy advance host d (talkBy advance host l t)
 unfolding talkBy
 talk-more advance host zero d t = let e : 0 + d ≡ d = omega arith in ap (λ (k : ℕ). talkBy advance host k t) e

@@ -46,7 +46,7 @@ answered-passed verdict.Passed r a m e q p is = refl
 answered-passed (verdict.Refused x) r a m e q p is = let no : _≡_ {A = ℕ} 0 1 = cc in absurd (omega arith)
 
 -- the last of the advances apart
-last-advance : (advance : Advance) (host : Host) (k : ℕ) (t : Talk)
+pub last-advance : (advance : Advance) (host : Host) (k : ℕ) (t : Talk)
     → talkBy advance host (suc k) t ≡ advancedBy advance host (talkBy advance host k t)
 unfolding talkBy
 last-advance advance host zero t = refl
@@ -128,6 +128,11 @@ module _ (host : Host) (o : Opening) (r : Run) (q : Request) (p : Place) (m : Me
 
   ended : EndedAt offered host start (account .advances) true
   ended = to-talk host start (λ here a. isEnd (here .request) ≡ true) (account .advances) (account .ended)
+
+  -- before the end what the host replies is admitted
+  pub admitted-before : (k : ℕ) → ((i : ℕ) → i < suc k → EndedAt offered host start i false)
+      → Admits host (talkAt host start k)
+  admitted-before k going = admits k (first-end offered host start (account .advances) (suc k) ended going)
 
   ended-admitted : EndedAt admitted host start (account .advances) true
   ended-admitted = subst (λ (t : Talk). isEnd (t .point .request) ≡ true) (same (account .advances) (omega arith)) ended

@@ -102,7 +102,7 @@ module _ (advance : Advance) (host : Host) (start : Point) where
   pub first-end : (k l : ℕ) → EndedAt k true → ((j : ℕ) → j < l → EndedAt j false) → l ≤ k
   first-end k l ended before = ltb-false k l (never (ltb k l) (λ h. clash ended (before k (ltb-true k l h))))
 
-  at-end : (e : Run) (w : World) → TalksTo advance host start e w → EndedAt (length (w .exchanges)) true
+  pub at-end : (e : Run) (w : World) → TalksTo advance host start e w → EndedAt (length (w .exchanges)) true
   unfolding isEnd
   at-end e w a = ap (λ (t : Talk). isEnd (t .point .request)) (a .talks)
 

@@ -1,0 +1,2 @@
+-- In order of reading.
+pub mod Changes
