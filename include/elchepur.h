@@ -46,6 +46,10 @@ enum {
     ELCHEPUR_REFUSED_SINGULAR = 17,       /* the matrix is singular */
     ELCHEPUR_REFUSED_PIVOT = 18,          /* one of the first n - 1 pivots is n or more */
     ELCHEPUR_REFUSED_TARGET = 19,         /* the target is shorter than a quarter of the coefficients */
+    ELCHEPUR_REFUSED_SHEET_LINE = 20,     /* the sheet is wrong in a line, which is told */
+    ELCHEPUR_REFUSED_SHEET_LONG = 21,     /* the sheet has more than 4,096 bytes */
+    ELCHEPUR_REFUSED_MODEL = 23,          /* it is no model of document 01 */
+    ELCHEPUR_REFUSED_BUFFER = 24,         /* the sheet is longer than the memory */
     ELCHEPUR_REFUSED_NOT_ENDED = 29,      /* there is no result yet */
     ELCHEPUR_REFUSED_OUTSIDE = 30         /* the table has no such entry */
 };
@@ -310,6 +314,32 @@ enum {
  * printed, as in `refused 20 7`. It runs the model to its end, which may take as many steps as the sheet permits, up
  * to 1,000,000. */
 uint64_t elchepur_forecast(const uint8_t *sheet, size_t sheet_count, uint8_t printed[ELCHEPUR_PRINTED]);
+
+/* ---- Sheets: read into plain arrays, and written out of them ---- */
+
+enum {
+    ELCHEPUR_SHEET_SETTINGS = 6,      /* x0, xend, rtol and atol by their bits, max_steps, the rule's number */
+    ELCHEPUR_SHEET_COUNTS = 2,        /* how many species and how many reactions there are */
+    ELCHEPUR_SHEET_AMOUNTS = 32,      /* the amounts, by their bits */
+    ELCHEPUR_SHEET_RATES = 64,        /* the rates, by their bits */
+    ELCHEPUR_SHEET_SPECIES = 256,     /* four to a reaction, two reactants and two products: from 1, 0 is none */
+    ELCHEPUR_SHEET_MOST = 4096        /* no sheet has more bytes */
+};
+
+/* Reads a sheet, which is any bytes at all, into the arrays; entries behind those that it has stay as they were.
+ * Refuses with 21, then 20; with 20 `line` becomes the first wrong line, from 1, and all else stays. */
+uint64_t elchepur_read_sheet(
+    const uint8_t *sheet, size_t sheet_count, uint64_t settings[ELCHEPUR_SHEET_SETTINGS],
+    size_t counts[ELCHEPUR_SHEET_COUNTS], uint64_t amounts[ELCHEPUR_SHEET_AMOUNTS],
+    uint64_t rates[ELCHEPUR_SHEET_RATES], size_t species[ELCHEPUR_SHEET_SPECIES], size_t *line);
+
+/* Writes the sheet of the model in the arrays over the first of `sheet_count` bytes and makes `length` how many these
+ * are; no zero byte ends them, and the others stay as they were. A sheet that was read is written back byte for byte,
+ * a NaN's payload too. Refuses with 23 what no sheet reads to, then with 24 a sheet that is longer than the memory. */
+uint64_t elchepur_write_sheet(
+    const uint64_t settings[ELCHEPUR_SHEET_SETTINGS], const size_t counts[ELCHEPUR_SHEET_COUNTS],
+    const uint64_t amounts[ELCHEPUR_SHEET_AMOUNTS], const uint64_t rates[ELCHEPUR_SHEET_RATES],
+    const size_t species[ELCHEPUR_SHEET_SPECIES], uint8_t *sheet, size_t sheet_count, size_t *length);
 
 #ifdef __cplusplus
 }

@@ -36,7 +36,10 @@ The readable form, a line at a time; a # and what comes after it is a comment:
 A float is a decimal number, read as the nearest double, and written with the fewest digits that are read as the same
 double. What has no such number, an infinity or any of the NaNs, is written by its bits, 0x and 16 lowercase hex
 digits; all doubles may be. So every sheet that document 01's rules allow has a readable form, and comes back from it
-byte for byte. Names and comments are not in a sheet: out of one the species are called s1, s2 and so on."""
+byte for byte. Names and comments are not in a sheet: out of one the species are called s1, s2 and so on.
+
+Where the proved library is at hand (python/README.md says where it is looked for), a sheet goes through its reader and
+writer as well, and what is written is what the proved writer gives."""
 
 import pathlib
 import re
@@ -168,6 +171,35 @@ def model_of(data):
     reactions = [lines.reaction(species) for _ in range(count)]
     lines.end()
     return Model(x0, xend, rtol, atol, max_steps, rule, amounts, reactions)
+
+
+# --- The proved reader and writer ----------------------------------------------------------------
+
+
+def proved():
+    """`Sheet` of python/elchepur, where its library is at hand and proved; else None."""
+    sys.path.append(str(pathlib.Path(__file__).resolve().parents[1] / "python"))
+    try:
+        import elchepur
+
+        elchepur.load(unproved=False)
+        return elchepur.Sheet
+    except Exception as trouble:
+        if type(trouble).__name__ in ("NoLibrary", "Unproved", "ModuleNotFoundError"):
+            return None
+        raise
+
+
+def through_proved(model, data):
+    """The sheet of a model as the proved writer gives it; what is written here stands where there is none."""
+    sheet = proved()
+    if sheet is None:
+        return data
+    given = sheet(**{**vars(model), "amounts": tuple(model.amounts), "reactions": tuple(model.reactions)})
+    again = given.write()
+    if again != data or sheet.read(again) != given:
+        raise Refused(None, None, "the proved writer gives another sheet: this is a fault of tools/sheet.py")
+    return again
 
 
 # --- The readable form ---------------------------------------------------------------------------
@@ -408,9 +440,13 @@ def made(act, words):
         data = read(words)
         if is_sheet(data):
             raise Refused(None, 1, "this is a sheet already: write `tools/sheet.py text` for its readable form")
-        return sheet_of(model_of_text(data.decode("utf-8"))), 0
+        model = model_of_text(data.decode("utf-8"))
+        return through_proved(model, sheet_of(model)), 0
     if act == "text":
-        return text_of(model_of(read(words))).encode("ascii"), 0
+        data = read(words)
+        model = model_of(data)
+        through_proved(model, data)
+        return text_of(model).encode("ascii"), 0
     _, names = model_and_names(read(words[:1]))
     lines, status = answer_in_words(read(words[1:]).decode("ascii", "replace"), names)
     return "".join(line + "\n" for line in lines).encode("ascii"), status

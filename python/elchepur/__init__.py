@@ -1,13 +1,13 @@
 """The stiff solver RADAU (Radau IIA, order 5), proved in Rattle: the library behind include/elchepur.h, for Python.
 
-`solve` runs a problem of one's own, `forecast` a model sheet. A result is a run that succeeded: every other end
-raises, unless one asks with `check=False` to be told by the result. README.md beside this folder says how to get the
-library."""
+`solve` runs a problem of one's own, `forecast` a model sheet, which `Sheet` reads and writes. A result is a run that
+succeeded: every other end raises, unless one asks with `check=False` to be told by the result. README.md
+beside this folder says how to get the library."""
 
 from ._errors import BrokenOff, Error, NoLibrary, Refused, ShortenedStep, Unproved
 from ._library import load
 from ._run import Step
-from ._sheets import Forecast, forecast
+from ._sheets import Forecast, Sheet, bits_of, double_of, forecast
 from ._solving import INTERRUPT, Mark, Modified, Result, Solution, solve
 
 __all__ = [
@@ -20,10 +20,13 @@ __all__ = [
     "NoLibrary",
     "Refused",
     "Result",
+    "Sheet",
     "ShortenedStep",
     "Solution",
     "Step",
     "Unproved",
+    "bits_of",
+    "double_of",
     "forecast",
     "load",
     "solve",

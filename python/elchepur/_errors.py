@@ -2,7 +2,7 @@
 
 from . import _numbers as numbers
 
-# Of a sheet alone: document 01's numbers that the header needs no name for.
+# Of a sheet alone, in words that a line can stand behind.
 OF_SHEETS = {20: "the sheet is wrong in its line", 21: "the sheet is too long"}
 
 ENDINGS = {
@@ -50,7 +50,7 @@ class ShortenedStep(UserWarning):
 
 
 def refusal_words(number, line=None):
-    words = numbers.REFUSALS.get(number) or OF_SHEETS.get(number) or "a number of document 01"
+    words = OF_SHEETS.get(number) or numbers.REFUSALS.get(number) or "a number of document 01"
     return f"refused ({number}): {words}" + (f" {line}" if line is not None else "")
 
 

@@ -22,6 +22,10 @@ REFUSED_LENGTH = 16
 REFUSED_SINGULAR = 17
 REFUSED_PIVOT = 18
 REFUSED_TARGET = 19
+REFUSED_SHEET_LINE = 20
+REFUSED_SHEET_LONG = 21
+REFUSED_MODEL = 23
+REFUSED_BUFFER = 24
 REFUSED_NOT_ENDED = 29
 REFUSED_OUTSIDE = 30
 MOST = 32
@@ -94,6 +98,12 @@ RESULT_H = 0
 RESULT_X = 1
 PRINTED = 1024
 PRINTED_MOST = 735
+SHEET_SETTINGS = 6
+SHEET_COUNTS = 2
+SHEET_AMOUNTS = 32
+SHEET_RATES = 64
+SHEET_SPECIES = 256
+SHEET_MOST = 4096
 
 # The header's words for each number that refuses.
 REFUSALS = {
@@ -116,6 +126,10 @@ REFUSALS = {
     17: "the matrix is singular",
     18: "one of the first n - 1 pivots is n or more",
     19: "the target is shorter than a quarter of the coefficients",
+    20: "the sheet is wrong in a line, which is told",
+    21: "the sheet has more than 4,096 bytes",
+    23: "it is no model of document 01",
+    24: "the sheet is longer than the memory",
     29: "there is no result yet",
     30: "the table has no such entry",
 }
@@ -233,5 +247,13 @@ FUNCTIONS = {
     ),
     "elchepur_forecast": (
         "uint64_t", "const uint8_t *", "size_t", "uint8_t *",
+    ),
+    "elchepur_read_sheet": (
+        "uint64_t", "const uint8_t *", "size_t", "uint64_t *", "size_t *", "uint64_t *", "uint64_t *", "size_t *",
+        "size_t *",
+    ),
+    "elchepur_write_sheet": (
+        "uint64_t", "const uint64_t *", "const size_t *", "const uint64_t *", "const uint64_t *", "const size_t *",
+        "uint8_t *", "size_t", "size_t *",
     ),
 }

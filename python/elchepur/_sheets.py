@@ -1,4 +1,4 @@
-"""What the program `decay` makes of a model sheet."""
+"""What the program `decay` makes of a model sheet; and a sheet's model, read and written."""
 
 import ctypes
 import dataclasses
@@ -34,7 +34,9 @@ class Forecast:
 
 
 def double_of(word):
-    return struct.unpack(">d", bytes.fromhex(word))[0]
+    """The double of 64 bits, given as a number or as 16 hex digits."""
+    bits = bytes.fromhex(word) if isinstance(word, str) else word.to_bytes(8, "big")
+    return struct.unpack(">d", bits)[0]
 
 
 def read(printed):
@@ -79,3 +81,70 @@ def forecast(sheet, check=True):
     if check and not found.success:
         raise BrokenOff(found)
     return found
+
+
+@dataclasses.dataclass(frozen=True)
+class Sheet:
+    """The model of a sheet. Floats stand here by their 64 bits, so that a NaN keeps its payload; `bits_of` and
+    `double_of` go from one to the other. A reaction is its rate and four species, two reactants and two products,
+    counted from 1, 0 for none."""
+
+    x0: int
+    xend: int
+    rtol: int
+    atol: int
+    max_steps: int
+    rule: int
+    amounts: tuple
+    reactions: tuple
+
+    @classmethod
+    def read(cls, sheet):
+        """The model of a sheet, which is given as for `forecast`. Raises Refused with 21, or with 20 and the line."""
+        given = bytes_of(sheet)
+        data = (ctypes.c_uint8 * max(1, len(given))).from_buffer_copy(given or b"\0")
+        settings, counts, amounts, rates, species = arrays()
+        line = ctypes.c_size_t()
+        number = library().read_sheet(data, len(given), settings, counts, amounts, rates, species, ctypes.byref(line))
+        if number:
+            raise Refused(number, line.value if number == numbers.REFUSED_SHEET_LINE else None)
+        reactions = ((rates[k], *species[4 * k : 4 * k + 4]) for k in range(counts[1]))
+        return cls(*settings, tuple(amounts[: counts[0]]), tuple(reactions))
+
+    def write(self):
+        """The bytes of the sheet. Raises Refused with 23 where no sheet reads to this model."""
+        words = (self.x0, self.xend, self.rtol, self.atol, self.max_steps, self.rule)
+        listed = [*self.amounts, *(rate for rate, *_ in self.reactions)]
+        places = [place for _, *four in self.reactions for place in four]
+        short = len(self.amounts) <= numbers.SHEET_AMOUNTS and len(self.reactions) <= numbers.SHEET_RATES
+        fit = all(0 <= word < 2**64 for word in [*words, *listed, *places])
+        if not (short and fit and all(len(reaction) == 5 for reaction in self.reactions)):
+            raise Refused(numbers.REFUSED_MODEL)
+        settings, counts, amounts, rates, species = arrays()
+        settings[:], counts[:] = words, (len(self.amounts), len(self.reactions))
+        amounts[: len(self.amounts)] = self.amounts
+        rates[: len(self.reactions)] = listed[len(self.amounts) :]
+        species[: len(places)] = places
+        room, length = (ctypes.c_uint8 * numbers.SHEET_MOST)(), ctypes.c_size_t()
+        number = library().write_sheet(
+            settings, counts, amounts, rates, species, room, len(room), ctypes.byref(length)
+        )
+        if number:
+            raise Refused(number)
+        return bytes(room[: length.value])
+
+
+def arrays():
+    """Memory for a model, as the header has it."""
+    return (
+        (ctypes.c_uint64 * numbers.SHEET_SETTINGS)(),
+        (ctypes.c_size_t * numbers.SHEET_COUNTS)(),
+        (ctypes.c_uint64 * numbers.SHEET_AMOUNTS)(),
+        (ctypes.c_uint64 * numbers.SHEET_RATES)(),
+        (ctypes.c_size_t * numbers.SHEET_SPECIES)(),
+    )
+
+
+def bits_of(value):
+    """The 64 bits of a double."""
+    return struct.unpack(">Q", struct.pack(">d", value))[0]

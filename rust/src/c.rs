@@ -4,6 +4,7 @@
 
 use crate::memory::Memory;
 use crate::numbers::{AT, FLOATS, NUMBERS, PRINTED, RESULT_FLOATS, RESULT_NUMBERS, STATE, TOLD};
+use crate::numbers::{SHEET_AMOUNTS, SHEET_COUNTS, SHEET_MOST, SHEET_RATES, SHEET_SETTINGS, SHEET_SPECIES};
 
 /// What is handed to an opening besides memory.
 #[derive(Clone)]
@@ -73,6 +74,39 @@ extern "C" {
     fn elchepur_bounds(xold: f64, h: f64, ends: &mut [f64; 2]);
 
     fn elchepur_forecast(sheet: *const u8, sheet_count: usize, printed: &mut [u8; PRINTED]) -> u64;
+
+    fn elchepur_read_sheet(
+        sheet: *const u8, sheet_count: usize, settings: &mut [u64; SHEET_SETTINGS],
+        counts: &mut [usize; SHEET_COUNTS], amounts: &mut [u64; SHEET_AMOUNTS], rates: &mut [u64; SHEET_RATES],
+        species: &mut [usize; SHEET_SPECIES], line: &mut usize,
+    ) -> u64;
+
+    fn elchepur_write_sheet(
+        settings: &[u64; SHEET_SETTINGS], counts: &[usize; SHEET_COUNTS], amounts: &[u64; SHEET_AMOUNTS],
+        rates: &[u64; SHEET_RATES], species: &[usize; SHEET_SPECIES],
+        sheet: *mut u8, sheet_count: usize, length: &mut usize,
+    ) -> u64;
+}
+
+/// A model as the arrays of the header hold it.
+pub(crate) struct Arrays {
+    pub settings: [u64; SHEET_SETTINGS],
+    pub counts: [usize; SHEET_COUNTS],
+    pub amounts: [u64; SHEET_AMOUNTS],
+    pub rates: [u64; SHEET_RATES],
+    pub species: [usize; SHEET_SPECIES],
+}
+
+impl Arrays {
+    pub(crate) fn empty() -> Arrays {
+        Arrays {
+            settings: [0; SHEET_SETTINGS],
+            counts: [0; SHEET_COUNTS],
+            amounts: [0; SHEET_AMOUNTS],
+            rates: [0; SHEET_RATES],
+            species: [0; SHEET_SPECIES],
+        }
+    }
 }
 
 /// What a call left, or the number that refuses.
@@ -169,4 +203,43 @@ pub(crate) fn forecast(sheet: &[u8]) -> Vec<u8> {
     // SAFETY: the pointer goes with the length of its slice, and the array is another and has the header's length.
     let count = unsafe { elchepur_forecast(sheet.as_ptr(), sheet.len(), &mut printed) };
     printed.iter().copied().take(usize::try_from(count).unwrap_or(PRINTED)).collect()
+}
+
+/// The model of a sheet, or the number that refuses and the line that is told with 20.
+pub(crate) fn read_sheet(sheet: &[u8]) -> Result<Arrays, (u64, usize)> {
+    let (mut a, mut line) = (Arrays::empty(), 0);
+    // SAFETY: the pointer goes with the length of its slice; the arrays have the header's lengths, each lent by itself.
+    let number = unsafe {
+        elchepur_read_sheet(
+            sheet.as_ptr(),
+            sheet.len(),
+            &mut a.settings,
+            &mut a.counts,
+            &mut a.amounts,
+            &mut a.rates,
+            &mut a.species,
+            &mut line,
+        )
+    };
+    answered(number, a).map_err(|number| (number, line))
+}
+
+/// The sheet of a model, or the number that refuses.
+pub(crate) fn write_sheet(a: &Arrays) -> Result<Vec<u8>, u64> {
+    let (mut sheet, mut length) = (vec![0; SHEET_MOST], 0);
+    // SAFETY: the pointer goes with its slice's length; the arrays have the header's lengths and are apart from it.
+    let number = unsafe {
+        elchepur_write_sheet(
+            &a.settings,
+            &a.counts,
+            &a.amounts,
+            &a.rates,
+            &a.species,
+            sheet.as_mut_ptr(),
+            sheet.len(),
+            &mut length,
+        )
+    };
+    sheet.truncate(length);
+    answered(number, sheet)
 }

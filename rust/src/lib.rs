@@ -48,12 +48,14 @@ mod printed;
 mod refused;
 mod run;
 mod settings;
+mod sheet;
 pub mod solout;
 pub mod status;
 mod system;
 mod tolerance;
 
 pub use crate::forecast::{forecast, BrokenOffSheet, Forecast, NoForecast};
+pub use crate::sheet::{NoSheet, Reaction, Sheet};
 
 /// Whether the archive behind this crate bears the mark of the kit that proves. It does, unless whoever built this
 /// program set ELCHEPUR_ALLOW_UNPROVED.
@@ -79,6 +81,7 @@ pub mod prelude {
     pub use crate::ivp::FirstOrderSystem;
     pub use crate::matrix::{Matrix, MatrixStorage};
     pub use crate::methods::{Evals, IntegrationResult, RADAUBuilder, Rule, Steps, Tolerance, RADAU};
+    pub use crate::sheet::{NoSheet, Reaction, Sheet};
     pub use crate::solout::{AtPoints, ControlFlag, NoSolOut, SolOut};
     pub use crate::status::Status;
 }

@@ -104,6 +104,39 @@ fn how_a_sheet_without_a_forecast_reads() {
     assert!(broken.ends_with(": max_steps is used up (status 2, NeedLargerNMax)"), "{broken}");
 }
 
+#[test]
+fn every_sheet_comes_back_byte_for_byte() {
+    let stored = bytes("crates/replay_sheet/stdin");
+    let mut back = 0;
+    for (sheet, wanted) in records(&stored) {
+        match Sheet::read(sheet) {
+            Ok(model) => {
+                assert_eq!(model.write().as_deref(), Ok(sheet));
+                back += 1;
+            }
+            Err(NoSheet::Malformed { line }) => assert_eq!(format!("refused 20 {line}\n"), wanted),
+            Err(other) => assert_eq!((other, wanted), (NoSheet::TooLong, "refused 21\n")),
+        }
+    }
+    assert_eq!(back, 411);
+}
+
+#[test]
+fn what_no_sheet_reads_to_is_refused() {
+    let sheet = Sheet::read(&bytes("cylinders/nitric_oxide.sheet")).expect("a sheet");
+    let refused = |edit: fn(&mut Sheet)| {
+        let mut other = sheet.clone();
+        edit(&mut other);
+        assert_eq!(other.write(), Err(NoSheet::NoModel));
+    };
+    refused(|sheet| sheet.amounts.clear());
+    refused(|sheet| sheet.amounts.resize(33, 0));
+    refused(|sheet| sheet.reactions.resize(65, Reaction { rate: 0, reactants: [0; 2], products: [0; 2] }));
+    refused(|sheet| sheet.reactions[0].products[1] = 33);
+    refused(|sheet| sheet.max_steps = 10_000_000_000);
+    refused(|sheet| sheet.rule = 2);
+}
+
 /// What README.md says of the two rules.
 #[test]
 fn only_under_the_rust_rule_an_attempt_counts_twice() {

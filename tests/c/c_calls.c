@@ -184,12 +184,43 @@ static void openings(void) {
     with_float("first_step", ELCHEPUR_FLOAT_FIRST_STEP, 0.0, ELCHEPUR_REFUSED_FIRST_STEP);
 }
 
+// Document 01's sheet in arrays, each of its entries made wrong in turn; and one that can be written only just.
+static void sheets(void) {
+    uint64_t settings[6] = {0, 0, 0, UINT64_C(0x7ff0000000000001), 9999999999, 1}, amounts[32] = {1}, rates[64] = {2};
+    size_t counts[2] = {1, 64}, species[256] = {0}, length = 7, line = 7;
+    uint8_t sheet[ELCHEPUR_SHEET_MOST];
+    same("a model", elchepur_write_sheet(settings, counts, amounts, rates, species, sheet, sizeof sheet, &length), 0);
+    same("its sheet is read", elchepur_read_sheet(sheet, length, settings, counts, amounts, rates, species, &line), 0);
+    same("a NaN's payload", settings[3], UINT64_C(0x7ff0000000000001));
+    same("a line that is not told", line, 7);
+    struct { size_t *count; size_t wrong; } sizes[] = {{counts, 0}, {counts, 33}, {counts + 1, 65}, {species + 255, 2}};
+    for (size_t k = 0; k < 4; k++) {
+        size_t kept = *sizes[k].count;
+        *sizes[k].count = sizes[k].wrong;
+        same("a count or species that is none",
+             elchepur_write_sheet(settings, counts, amounts, rates, species, sheet, 0, &length),
+             ELCHEPUR_REFUSED_MODEL);
+        *sizes[k].count = kept;
+    }
+    settings[4]++;
+    same("eleven digits", elchepur_write_sheet(settings, counts, amounts, rates, species, sheet, 0, &length), 23);
+    settings[4]--;
+    settings[5] = 2;
+    same("a rule that is none", elchepur_write_sheet(settings, counts, amounts, rates, species, sheet, 0, &length), 23);
+    settings[5] = 0;
+    same("no room", elchepur_write_sheet(settings, counts, amounts, rates, species, sheet, 0, &length), 24);
+    const uint8_t *one = (const uint8_t *)"6\n";
+    same("a sheet of one line", elchepur_read_sheet(one, 2, settings, counts, amounts, rates, species, &line), 20);
+    same("the line after the last", line, 2);
+}
+
 int main(void) {
     scalars();
     matrices();
     dense();
     defaults();
     openings();
+    sheets();
     printf("%d answers of single calls, %d wrong\n", seen, wrong);
     return wrong != 0;
 }

@@ -1,5 +1,5 @@
 #!/usr/bin/env python3
-"""The crates `export` and `export_forecast` as programs in C see them: their header, their
+"""The crates `export`, `export_forecast` and `export_sheet` as programs in C see them: their header, their
 archive, and runs through both.
 
     tests/c/c_program.py check [FOLDER]  hold the header to the sources, and run the programs in C: on the archive,
@@ -23,8 +23,8 @@ The programs:
   - tests/c/c_calls.c calls each function with a few values whose answers document 01 gives;
   - tests/c/c_replay.c replays the stored runs of the Rust's own `solve` (crates/replay_run/stdin), every request and
     all 22 parts compared, hosts that make the Jacobian, masses, marks and modified points among them;
-  - tests/c/c_sheets.c hands every sheet of crates/replay_sheet/stdin over, those that are refused too, and prints
-    what is printed of it;
+  - tests/c/c_sheets.c hands every sheet of crates/replay_sheet/stdin over, those that are refused too, prints what is
+    printed of it, and has it read into arrays and written out of them;
   - tests/c/c_program.c is a host of its own: it runs every sheet of crates/replay_sheet/stdin, with the answers
     stored there, and once more with a Jacobian of the host's own, with the answers that the Rust gives then.
 The last three run on include/elchepur_host.h, which has what every host writes again, and whose example must print
@@ -297,8 +297,8 @@ def library(way):
         return None
     if way == "run" or is_proved():
         return proved_archive() if has("rt", "the archive is NOT built") else None
-    print("UNPROVED: export or export_forecast is not proved here, or was edited since; the programs run on their")
-    print("sources, compiled by rustc. `tests/c/c_program.py run` proves them")
+    print("UNPROVED: a crate that C calls is not proved here, or was edited since; the programs run on the sources,")
+    print("compiled by rustc. `tests/c/c_program.py run` proves them")
     return sources_compiled() if has("rustc", "they are NOT run") else None
 
 

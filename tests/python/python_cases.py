@@ -3,6 +3,7 @@
 tests/python/python_module.py runs it. Where a number is expected, document 01 has it; what a run is compared with is
 another run, or the solution of its equations."""
 
+import dataclasses
 import itertools
 import math
 import os
@@ -102,6 +103,12 @@ def check_refusals(module):
     error = raised(module.Refused, module.forecast, "no sheet")
     insist((error.number, error.line) == (20, 1), f"no sheet: {error}")
     insist(raised(module.Refused, module.forecast, b"").line == 1, "an empty sheet")
+    whole = module.Sheet(0, 0, 0, 0, 0, 1, (0x7FF0000000000001,), ((0, 1, 0, 0, 1),))
+    insist(module.Sheet.read(whole.write()) == whole, "a NaN's payload is lost")
+    for wrong in ({"amounts": ()}, {"amounts": (0,) * 33}, {"reactions": ((0, 2, 0, 0, 0),)}, {"rule": 2},
+                  {"max_steps": 10**10}, {"x0": -1}, {"reactions": ((0, 1, 0, 0, 1),) * 65}):
+        error = raised(module.Refused, dataclasses.replace(whole, **wrong).write)
+        insist(error.number == 23, f"no model: {wrong}: {error}")
 
 
 def check_arguments(module):

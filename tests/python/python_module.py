@@ -12,7 +12,8 @@ for the other scripts; it is not looked at.
 Exit status: 0 nothing differs; 1 something does; 2 wrong use.
 
   - The numbers, parts and declarations of the module are those of the header, and so are its words for refusals.
-  - Every sheet of crates/replay_sheet/stdin through `forecast` has the stored answer, and raises unless it succeeded.
+  - Every sheet of crates/replay_sheet/stdin through `forecast` has the stored answer, and raises unless it succeeded;
+    through `Sheet` it comes back byte for byte.
   - Every one that is well formed through `solve`, with differences and with a Jacobian of the caller's own, has what
     tests/c/c_program.c prints of it, and so have seven points between the ends, by dense output.
   - The stored runs of the Rust's own `solve` (crates/replay_run/stdin), with every setting and every answer of a
@@ -188,6 +189,20 @@ def check_forecasts(module, records):
         else:
             insist(found.success, f"a forecast does not raise:\n{answer}")
     print(f"{len(records)} sheets have the stored answers through forecast(), which raises for {raised} of them")
+
+
+def check_sheets(module, records):
+    """Every stored sheet through its model and back; what is none is refused as it is printed."""
+    back = 0
+    for data, answer in records:
+        try:
+            insist(module.Sheet.read(data).write() == data, f"a sheet is not written back:\n{data!r}")
+            back += 1
+            insist(not answer.startswith(("refused 20", "refused 21")), f"what is no sheet is read:\n{data!r}")
+        except module.Refused as error:
+            told = f"refused {error.number}" + (f" {error.line}" if error.line else "") + "\n"
+            insist(told == answer, f"a sheet is refused by {told} and is to be by {answer}")
+    print(f"{back} of them come back byte for byte through Sheet, and the others are refused as they are printed")
 
 
 class Model:
@@ -368,6 +383,7 @@ def main(words):
     module = loaded(linked)
     records = replay_sheet.records_of(replay_sheet.STORED.read_bytes())
     check_forecasts(module, records)
+    check_sheets(module, records)
     check_models(module, records)
     check_runs(module)
     importlib.import_module("python_cases").check(module, TARGET / "libelchepur.so")

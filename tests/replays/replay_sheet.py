@@ -49,6 +49,8 @@ from sheet import Model, sheet_of  # noqa: E402
 
 STORED = rust_text.ROOT / "crates" / "replay_sheet" / "stdin"
 SUMMARY = rust_text.ROOT / "crates" / "replay_sheet" / "stdout"
+# What the program `rewritten` is run on, which is also what it is to print.
+REWRITTEN = [rust_text.ROOT / "crates" / "rewritten" / name for name in ("stdin", "stdout")]
 PROGRAM = rust_text.ROOT / "tests" / "replays" / "replay_sheet.rs"
 CYLINDERS = rust_text.ROOT / "cylinders"
 
@@ -826,6 +828,8 @@ def write(folder):
     insist(len(data) <= MOST_BYTES, f"{len(data)} bytes are more than are to be stored")
     STORED.write_bytes(data)
     SUMMARY.write_text(summary(answers))
+    for file in REWRITTEN:
+        file.write_bytes((CYLINDERS / "nitric_oxide.sheet").read_bytes())
     print(f"{len(answers)} sheets, {len(data)} bytes, written to {STORED.name}: {told(answers)}")
 
 
@@ -841,6 +845,8 @@ def check(folder):
         insist(old == new, f"record {place}\n  stored {old}\n  made   {new}")
     insist(len(stored) == len(answers), f"{len(stored)} sheets are stored, and {len(answers)} are made")
     insist(SUMMARY.read_text() == summary(answers), f"{SUMMARY} is not what the program is to print")
+    for file in REWRITTEN:
+        insist(file.read_bytes() == (CYLINDERS / "nitric_oxide.sheet").read_bytes(), f"{file} is not the cylinder's")
     print(f"{len(answers)} sheets have the answers that are stored: {told(answers)}")
     rust_text.compared(folder)
 

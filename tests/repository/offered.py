@@ -28,6 +28,7 @@ UNSETTLED = {
     "replay::word::read_word": "reads standard input",
     "replay::word::read_words": "reads standard input",
     "replay::word::read_block": "reads standard input",
+    "sheet_input::reading::read_all": "reads standard input",
 }
 
 FUNCTION = re.compile(r'^( *)pub (?:extern "C" )?fn (\w+)\b', re.M)

@@ -31,6 +31,8 @@ CRATES = {
     "model": ["words", "state"],
     "sheet": ["words", "bits", "state"],
     "forecast_text": ["words", "bits", "state", "sheet"],
+    "sheet_write": ["words", "bits", "state", "sheet", "forecast_text"],
+    "export_sheet": ["words", "bits", "state", "sheet", "forecast_text", "sheet_write"],
     "model_run": ["words", "scalar", "matrix", "state", "opening", "solve_blocks", "model", "radau"],
     "forecast": ["words", "bits", "state", "sheet", "forecast_text", "model_run"],
     "export_forecast": ["words", "sheet", "forecast_text", "forecast"],

@@ -23,6 +23,14 @@ END
   chmod +x "$tools"/bin/*
 }
 
+# Runs the program $1 on the sheet $2; where the processor is no x86-64, under the kit's emulator.
+run_on() {
+  [ "$(uname -m)" != x86_64 ] || { "$1" <"$2"; return; }
+  local tools
+  tools=$(kit)/on/$(uname -m)/toolchain
+  "$tools/bin/qemu-x86_64" "$tools/lib/ld-linux-x86-64.so.2" --library-path "$tools/lib" "$1" <"$2"
+}
+
 # What the program `decay` is compiled from, in one line.
 sources() { { rt version && sha256sum crates.txt crates/*/src/*.rt; } | sha256sum; }
 

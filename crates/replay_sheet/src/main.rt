@@ -1,6 +1,7 @@
-// Runs stored sheets and compares what `decay` prints of each, byte by byte, with the stored answer. It tells the first
-// that do not agree, and then gives a summary, a line for each status and each refusal. tests/replays/replay_sheet.py,
-// which writes the sheets, says how the answers were made.
+// Runs stored sheets and compares what `decay` prints of each, byte by byte, with the stored answer; and writes each
+// once more through its model, which is to give the same bytes, or the answer where it is no sheet. It tells the first
+// that do not agree in both, and then gives a summary, a line for each status and each refusal.
+// tests/replays/replay_sheet.py, which writes the sheets, says how the answers were made.
 mod record;
 
 use forecast::forecast;
@@ -15,6 +16,7 @@ use replay::told::counted;
 use replay::told::malformed;
 use replay::told::write_summary;
 use replay::word::within;
+use sheet_write::rewrite;
 use state::run::Status;
 use state::talk::IntegrationResult;
 use state::talk::Refusal;
@@ -27,6 +29,12 @@ const ROOM: usize = 10_000;
 
 // Room for all that is printed of a sheet.
 const OUT: usize = 1024;
+
+// Room for every sheet that is written.
+const SHEET: usize = 4096;
+
+// From this row on bytes are no sheet.
+const NO_SHEET: usize = 7;
 
 // No row of the summary: a case of it is malformed.
 const NO_ROW: usize = 99;
@@ -90,17 +98,43 @@ fn met_first(out: &[u8; OUT], printed: usize, wanted: &[u8]) -> Found {
     met(&bytes[0..within(printed, bytes.len())], wanted)
 }
 
+// The same of a sheet that was rewritten.
+fn met_sheet(out: &[u8; SHEET], count: usize, wanted: &[u8]) -> Found {
+    let bytes: &[u8] = out;
+    met(&bytes[0..within(count, bytes.len())], wanted)
+}
+
+// A sheet once more: the same bytes, or the stored answer where it is no sheet.
+fn rewritten(row: usize, sheet: &[u8], wanted: &[u8]) -> Found {
+    let mut out = [0u8; SHEET];
+    let count = rewrite(sheet, &mut out);
+    if row < NO_SHEET {
+        return met_sheet(&out, count, sheet);
+    }
+    met_sheet(&out, count, wanted)
+}
+
+// Of two comparisons the first that differs.
+fn both(first: Found, second: Found) -> Found {
+    if first.differ == 0 {
+        return second;
+    }
+    first
+}
+
 // The counts after one record more, whose sheet and answer were read.
 fn with_answer(counts: Counts, names: &[u8], sheet: &[u8], wanted: &[u8]) -> Counts {
     let mut out = [0u8; OUT];
     let told = forecast(sheet);
     let printed = print(told, &mut out);
     let ending = told.ending;
+    let row = row_of(ending);
+    let found = met_first(&out, printed, wanted);
     counted(
         counts,
         names,
-        row_of(ending),
-        met_first(&out, printed, wanted),
+        row,
+        both(found, rewritten(row, sheet, wanted)),
     )
 }
 

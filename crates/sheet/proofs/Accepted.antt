@@ -21,8 +21,9 @@ use Rattle.sheet.specs.Reader.{Judged, whole, broken, sheetOf, ruleFrom,
 use Rattle.sheet.specs.Reader.{modelFrom, accepted, tooLong, toldOf, readOf}
 use Rattle.sheet.specs.declared.kind.Kind.{Kind}
 use Rattle.sheet.specs.declared.kind.Phase.the-variants as phase
-use Rattle.sheet.proofs.Inverse.{spellOf, length-digits, width-by-few}
-use Rattle.sheet.proofs.Passages.{writes, Fit, ended, Passed, numbers-passed, numbers-right}
+use Rattle.sheet.specs.Writes.{spellOf, writes, Fit}
+use Rattle.sheet.proofs.Inverse.{length-digits, width-by-few}
+use Rattle.sheet.proofs.Passages.{ended, Passed, numbers-passed, numbers-right}
 use Rattle.sheet.proofs.ReaderLaws.{sheet-by, settings-good, amounts-good, count-good, reactions-all}
 use Rattle.sheet.proofs.Parts.{Parts, parts-of, Lengths, lengths-of}
 use Rattle.sheet.proofs.FillLaws.{length-reactions}
@@ -171,12 +172,12 @@ accepted-sound s m =
 
 -- ---- the sheet of a valid model is accepted
 
-rule-back : (r : Rule) → ruleFrom (ruleNumber r) ≡ r
+pub rule-back : (r : Rule) → ruleFrom (ruleNumber r) ≡ r
 unfolding ruleFrom pick
 rule-back rule.Rust = refl
 rule-back rule.Book = refl
 
-reactions-back : (rs : List Reaction) → reactionsFrom (length rs) (listedOf rs) ≡ rs
+pub reactions-back : (rs : List Reaction) → reactionsFrom (length rs) (listedOf rs) ≡ rs
 unfolding reactionsFrom listedOf
 reactions-back [] = refl
 reactions-back (r ∷ rs) = ap (λ x. r ∷ x) (reactions-back rs)
@@ -226,7 +227,7 @@ module _ (m : Model) (v : Valid m) where
 
 -- ---- a sheet is short
 
-spell-short : (k : Kind) (v : ℕ) → length (spellOf k v) ≤ 16
+pub spell-short : (k : Kind) (v : ℕ) → length (spellOf k v) ≤ 16
 unfolding spellOf
 spell-short k v = rw length-digits (width-by-few (k .hex) v)
 

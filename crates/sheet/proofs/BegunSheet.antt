@@ -16,8 +16,9 @@ use Rattle.sheet.specs.Reader.{afterSettings, sheetOf, modelFrom, malfor
 use Rattle.sheet.specs.declared.kind.Kind.{Kind}
 use Rattle.sheet.specs.declared.kind.Phase.{Phase}
 use Rattle.sheet.specs.declared.kind.Phase.the-variants as phase
-use Rattle.sheet.proofs.Inverse.{Of, spellOf, spell-high}
-use Rattle.sheet.proofs.Passages.{writes, Fit, ended, Came, numbers-passed, numbers-stuck}
+use Rattle.sheet.specs.Writes.{spellOf, Of, writes, Fit}
+use Rattle.sheet.proofs.Inverse.{spell-high}
+use Rattle.sheet.proofs.Passages.{ended, Came, numbers-passed, numbers-stuck}
 use Rattle.sheet.proofs.NumbersLaws.{ends-few}
 use Rattle.sheet.proofs.ReaderLaws.{fit-at}
 use Rattle.sheet.proofs.Parts.{settingsIn, amountsIn, countIn, reactionsIn}

@@ -16,7 +16,7 @@ unfolding over
 over-nothing [] = refl
 over-nothing (v ∷ vs) = refl
 
-set-over : (vs memory : List ℕ) (n : ℕ) → n < length vs
+pub set-over : (vs memory : List ℕ) (n : ℕ) → n < length vs
     → set (over (take n vs) memory) n (getD vs n 0) ≡ over (take (suc n) vs) memory
 unfolding over
 set-over [] memory n h = absurd (let z : ⊥ = omega arith in z)

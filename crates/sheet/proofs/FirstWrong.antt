@@ -25,7 +25,8 @@ use Rattle.sheet.specs.declared.digits.Spelt.the-variants.{Value, Wrong}
 use Rattle.sheet.specs.declared.kind.Kind.{Kind}
 use Rattle.sheet.specs.declared.kind.Phase.{Phase}
 use Rattle.sheet.specs.declared.kind.Phase.the-variants as phase
-use Rattle.sheet.proofs.Inverse.{spellOf, spell-high, found-past, found-at, piece-inverse, number-inverse}
+use Rattle.sheet.specs.Writes.{spellOf}
+use Rattle.sheet.proofs.Inverse.{spell-high, found-past, found-at, piece-inverse, number-inverse}
 use Rattle.sheet.proofs.Passages.{numbers-passed, numbers-stuck}
 use Rattle.sheet.proofs.Accepted.{sheet-complete}
 

@@ -19,6 +19,7 @@ use Rattle.bits.specs.Digit.{digitOf}
 use Rattle.sheet.specs.Digits.{byteOf, power, digits, widthOf, spelledOf, baseOf, widthBy, foundOf}
 use Rattle.sheet.specs.Sheet.{Every}
 use Rattle.sheet.specs.Numbers.{judgedOf, numberOf, got, wrong, followed, pieceOf}
+use Rattle.sheet.specs.Writes.{spellOf, Of}
 use Rattle.sheet.specs.declared.digits.Spelt.{Spelt}
 use Rattle.sheet.specs.declared.digits.Spelt.the-variants.{Value, Wrong}
 use Rattle.sheet.specs.declared.kind.Kind.{Kind}
@@ -160,17 +161,10 @@ module _ (b : ℕ) (some : 0 < b) (few : b ≤ 16) where
 
 -- ---- a number of a kind
 
-unfoldable pub spellOf : Kind → ℕ → List ℕ
-spellOf k v = digits (baseOf (k .hex)) (widthBy (k .hex) v) v
-
 -- a kind whose values fit their digits, and whose mark is no digit
 pub record Fine (k : Kind) : Type 0 where
   pub bound : (v : ℕ) → v ≤ k .high → v < power (baseOf (k .hex)) (widthBy (k .hex) v)
   pub mark : k .mark < 48
-
-pub record Of (k : Kind) (v : ℕ) : Type 0 where
-  pub low : k .low ≤ v
-  pub high : v ≤ k .high
 
 base-some : (hex : Bool) → 0 < baseOf hex
 unfolding baseOf

@@ -6,26 +6,18 @@ use mathlib.Core.List.{List, [], _∷_, _++_, append-assoc, append-nil}
 use native.Mathlib.Omega.{arith}
 use lib.ListN.{length}
 use Rattle.sheet.specs.Numbers.{Piece, got, wrong, pieceOf, endsOf, passed, stuck, pursued, numbersOf}
+use Rattle.sheet.specs.Writes.{spellOf, Of, writes, Fit}
 use Rattle.sheet.specs.declared.kind.Kind.{Kind}
-use Rattle.sheet.proofs.Inverse.{spellOf, Fine, Of, piece-right, piece-inverse}
+use Rattle.sheet.proofs.Inverse.{Fine, piece-right, piece-inverse}
 
 module _ (k : ℕ → Kind) where
-  -- the numbers, each with its mark; that each is of its kind; and how many lines end in them. The
-  -- first is of the kind `k i`.
-  unfoldable pub writes : ℕ → List ℕ → List ℕ
-  writes i [] = []
-  writes i (v ∷ us) = spellOf (k i) v ++ (k i .mark ∷ writes (i + 1) us)
-
-  unfoldable pub Fit : ℕ → List ℕ → Type 0
-  Fit i [] = Unit
-  Fit i (v ∷ us) = Of (k i) v × Fit (i + 1) us
-
+  -- how many lines end in the numbers, of which the first is of the kind `k i`
   unfoldable pub ended : ℕ → List ℕ → ℕ
   ended i [] = 0
   ended i (v ∷ us) = endsOf (k i .mark) + ended (i + 1) us
 
-  pub numbers-right : ((i : ℕ) → Fine (k i)) → (us : List ℕ) (i lines : ℕ) (vs rest : List ℕ) → Fit i us
-      → numbersOf k i (length us) lines vs (writes i us ++ rest) ≡ passed (vs ++ us) (lines + ended i us) rest
+  pub numbers-right : ((i : ℕ) → Fine (k i)) → (us : List ℕ) (i lines : ℕ) (vs rest : List ℕ) → Fit k i us
+      → numbersOf k i (length us) lines vs (writes k i us ++ rest) ≡ passed (vs ++ us) (lines + ended i us) rest
   unfolding numbersOf writes Fit ended
   numbers-right f [] i lines vs rest p = let z : lines ≡ lines + 0 = omega arith in rw (append-nil vs, ← z)
   numbers-right f (v ∷ us) i lines vs rest p =
@@ -33,7 +25,7 @@ module _ (k : ℕ → Kind) where
       ≡ lines + (endsOf (k i .mark) + ended (i + 1) us) = omega arith in
       rw (
         append-assoc,
-        piece-right (k i) v (writes (i + 1) us ++ rest) (f i) (p .0),
+        piece-right (k i) v (writes k (i + 1) us ++ rest) (f i) (p .0),
         numbers-right f us (i + 1) (lines + endsOf (k i .mark)) (vs ++ (v ∷ [])) rest
             (p .1),
         append-assoc,
@@ -42,8 +34,8 @@ module _ (k : ℕ → Kind) where
 
   -- where n numbers were asked for and us were read
   pub record Came (i lines : ℕ) (s : List ℕ) (us : List ℕ) (L : ℕ) (rest : List ℕ) : Type 0 where
-    pub fit : Fit i us
-    pub text : s ≡ writes i us ++ rest
+    pub fit : Fit k i us
+    pub text : s ≡ writes k i us ++ rest
     pub counted : L ≡ lines + ended i us
 
   came-none : (i lines : ℕ) (s : List ℕ) → Came i lines s [] lines s
@@ -59,7 +51,7 @@ module _ (k : ℕ → Kind) where
         fit = (o .1, c .fit);
         text =
             o .0 ∙ ap (λ (x : List ℕ). spellOf (k i) v ++ (k i .mark ∷ x)) (c .text)
-            ∙ sym (append-assoc (spellOf (k i) v) (k i .mark ∷ writes (i + 1) us) rest);
+            ∙ sym (append-assoc (spellOf (k i) v) (k i .mark ∷ writes k (i + 1) us) rest);
         counted = omega (arith, c .counted);
       }
 

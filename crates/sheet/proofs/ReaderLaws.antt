@@ -18,9 +18,9 @@ use Rattle.sheet.specs.Reader.{afterAmounts, afterSettings, sheetOf, jud
 use Rattle.sheet.specs.declared.kind.Kind.{Kind}
 use Rattle.sheet.specs.declared.kind.Phase.the-variants as phase
 use Rattle.sheet.specs.declared.numbers.Progress.{Progress}
+use Rattle.sheet.specs.Writes.{Of, Fit}
 use Rattle.sheet.proofs.NumbersLaws.{good-passage, bad-passage}
-use Rattle.sheet.proofs.Inverse.{Of}
-use Rattle.sheet.proofs.Passages.{Fit, Passed, numbers-passed}
+use Rattle.sheet.proofs.Passages.{Passed, numbers-passed}
 
 -- ---- bounds
 

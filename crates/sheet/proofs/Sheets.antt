@@ -17,8 +17,8 @@ use Rattle.sheet.specs.Kinds.{hexKind, decimalKind, settingOf, reactionO
 use Rattle.sheet.specs.declared.kind.Kind.{Kind}
 use Rattle.sheet.specs.declared.kind.Phase.{Phase}
 use Rattle.sheet.specs.declared.kind.Phase.the-variants as phase
-use Rattle.sheet.proofs.Inverse.{spellOf, Fine, Of, width-bound}
-use Rattle.sheet.proofs.Passages.{writes, Fit}
+use Rattle.sheet.specs.Writes.{spellOf, Of, writes, Fit}
+use Rattle.sheet.proofs.Inverse.{Fine, width-bound}
 
 -- ---- every kind is fine
 

@@ -7,3 +7,4 @@ pub mod Lines
 pub mod Malformed
 pub mod Fill
 pub mod Reader
+pub mod Writes

@@ -2,7 +2,7 @@
 ghost use Prim.Native.Nat.{_≤_, _*_};
 ghost use mathlib.Core.Path.{_≡_};
 ghost use lib.ListN.{length};
-ghost use Rattle.sheet.specs.Digits.{spelledOf, widthOf, baseOf, widthBy, foundOf};
+ghost use Rattle.sheet.specs.Digits.{spelledOf, foundOf};
 use bits::digit;
 
 pub enum Spelt {
@@ -26,53 +26,6 @@ pub fn spelled(text: &[u8], base: u64) -> Spelt
         i += 1;
     }
     Spelt::Value(value)
-}
-
-pub fn base(hex: bool) -> u64
-    ensures { λ r. ⌜ r ≡ baseOf hex ⌝ }
-{
-    if hex { 16 } else { 10 }
-}
-
-// How many decimal digits a number has, where it has no more than ten.
-fn width(value: u64) -> usize
-    ensures { λ r. ⌜ r ≡ widthOf value ⌝ }
-{
-    if value < 10 {
-        return 1;
-    }
-    if value < 100 {
-        return 2;
-    }
-    if value < 1000 {
-        return 3;
-    }
-    if value < 10000 {
-        return 4;
-    }
-    if value < 100000 {
-        return 5;
-    }
-    if value < 1000000 {
-        return 6;
-    }
-    if value < 10000000 {
-        return 7;
-    }
-    if value < 100000000 {
-        return 8;
-    }
-    if value < 1000000000 { 9 } else { 10 }
-}
-
-// How many digits a number is written with: the bits of a float always with sixteen.
-pub fn width_by(hex: bool, value: u64) -> usize
-    ensures { λ r. ⌜ r ≡ widthBy hex value ⌝ }
-{
-    if hex {
-        return 16;
-    }
-    width(value)
 }
 
 // Where a byte first stands in a text; the text's length, where it doesn't.

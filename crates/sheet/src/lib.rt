@@ -2,8 +2,9 @@
 // that the reader accepts exactly the sheets, and tells the first wrong line of anything else, is shown in proofs/.
 mod digits;
 mod fill;
-mod kind;
+pub mod kind;
 mod numbers;
 pub mod sheet;
+pub mod spelling;
 
 pub use sheet::read;

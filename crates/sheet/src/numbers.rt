@@ -4,13 +4,13 @@ ghost use mathlib.Core.Path.{_≡_};
 ghost use lib.ListN.{length, take, drop};
 ghost use Rattle.sheet.specs.Numbers.{numberOf, pieceOf, pieceAt, endsOf, partOf, passageAt};
 use crate::digits::Spelt;
-use crate::digits::base;
 use crate::digits::find;
 use crate::digits::spelled;
-use crate::digits::width_by;
 use crate::kind::Kind;
 use crate::kind::Phase;
 use crate::kind::kind_at;
+use crate::spelling::base;
+use crate::spelling::width_by;
 
 // A number, and where what follows it begins; or a number that is wrong.
 pub struct Token {

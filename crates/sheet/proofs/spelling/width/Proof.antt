@@ -3,8 +3,8 @@ use mathlib.Core.Path.{refl}
 use borrow.Author.Tests.{lt-ltb, le-ltb}
 use Rattle.words.proofs.Branch.{yes, no}
 use Rattle.sheet.specs.Digits.{widthOf}
-use Rattle.sheet.proofs.digits.width.Statement.{statement}
-use Rattle.sheet.proofs.digits.width.Tie as tie
+use Rattle.sheet.proofs.spelling.width.Statement.{statement}
+use Rattle.sheet.proofs.spelling.width.Tie as tie
 
 returns : tie.Need-returns
 unfolding widthOf

@@ -2,8 +2,8 @@
 use mathlib.Core.Path.{refl}
 use Rattle.words.proofs.Branch.{yes, no}
 use Rattle.sheet.specs.Digits.{baseOf}
-use Rattle.sheet.proofs.digits.base.Statement.{statement}
-use Rattle.sheet.proofs.digits.base.Tie as tie
+use Rattle.sheet.proofs.spelling.base.Statement.{statement}
+use Rattle.sheet.proofs.spelling.base.Tie as tie
 
 returns : tie.Need-returns
 unfolding baseOf

@@ -3,8 +3,8 @@ use mathlib.Core.Path.{refl}
 use borrow.Author.Needs.{needs}
 use Rattle.words.proofs.Branch.{yes, no}
 use Rattle.sheet.specs.Digits.{widthBy}
-use Rattle.sheet.proofs.digits.width_by.Statement.{statement}
-use Rattle.sheet.proofs.digits.width_by.Tie as tie
+use Rattle.sheet.proofs.spelling.width_by.Statement.{statement}
+use Rattle.sheet.proofs.spelling.width_by.Tie as tie
 
 returns : tie.Need-returns
 unfolding widthBy

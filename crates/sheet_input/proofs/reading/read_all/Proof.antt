@@ -1,8 +1,8 @@
 -- `read_all` is safe and ends: its reads are counted. Assumes nothing.
 use borrow.Author.Needs.{needs}
 use Prim.Native.Nat.{_-_}
-use Rattle.decay.proofs.read_all.Statement.{statement}
-use Rattle.decay.proofs.read_all.Tie as tie
+use Rattle.sheet_input.proofs.reading.read_all.Statement.{statement}
+use Rattle.sheet_input.proofs.reading.read_all.Tie as tie
 
 abbrev Inv-loop : tie.InvT-loop
 Inv-loop kept₀ done₀ counter₀ kept done counter = Unit {0}

@@ -1,0 +1,5 @@
+-- In order of reading.
+pub mod Memory
+pub mod Writer
+pub mod RoundTrips
+pub mod Rewritten
