@@ -4,7 +4,7 @@ use Rattle.night_totals.specs.declared.totals.Totals.{Totals}
 use Rattle.night_join.specs.Join.{joinOf, thenJoin}
 use Rattle.night_join.specs.declared.joining.Joining.{Joining}
 use Rattle.night_join.specs.declared.joining.Joining.the-variants as joining
-use Rattle.night_chain.specs.Chain.{answerOf}
+use Rattle.night_chain.specs.Reads.{answerOf}
 use Rattle.night_chain.specs.declared.chain.Answer.the-variants as answer
 
 module _ (j : Joining) (t : Totals) where

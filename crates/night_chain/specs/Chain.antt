@@ -13,6 +13,7 @@ use Rattle.night_totals.specs.declared.totals.Totals.{Totals}
 use Rattle.night_join.specs.Join.{thenJoin}
 use Rattle.night_join.specs.declared.joining.Joining.{Joining}
 use Rattle.night_join.specs.declared.joining.Joining.the-variants as joining
+use Rattle.night_chain.specs.Reads.{answerOf}
 use Rattle.night_chain.specs.declared.chain.Chain.{Chain}
 use Rattle.night_chain.specs.declared.chain.Answer.{Answer}
 use Rattle.night_chain.specs.declared.chain.Answer.the-variants as answer
@@ -58,11 +59,6 @@ stepOf c b = pick (c .filling .wrong) c (takenOf (c .lines) (c .joined) (filledO
 unfoldable pub fedOf : Chain → List ℕ → Chain
 fedOf c [] = c
 fedOf c (b ∷ piece) = fedOf (stepOf c b) piece
-
-unfoldable pub answerOf : Joining → Answer
-answerOf (joining.Joined t) = answer.Joined t
-answerOf joining.Unfit = answer.Unfit
-answerOf joining.TooMany = answer.TooMany
 
 -- a line that is wrong, or that has not come to its end
 unfoldable pub toldOf : Chain → Answer

@@ -1,2 +1,5 @@
--- What the code does byte by byte.
+-- In order of reading: what is read and what it comes to, then what the code does byte by byte and what is printed.
+pub mod Texts
+pub mod Reads
 pub mod Chain
+pub mod Printed
