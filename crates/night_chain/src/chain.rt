@@ -103,7 +103,11 @@ fn taken(lines: u64, joined: Joining, next: Filling, byte: u8) -> Chain
     if next.at != FORM {
         return made(next, lines_of(lines, byte), joined);
     }
-    made(blank(), lines_of(lines, byte), then_join(joined, totals_from(values)))
+    made(
+        blank(),
+        lines_of(lines, byte),
+        then_join(joined, totals_from(values)),
+    )
 }
 
 fn step(chain: Chain, byte: u8) -> Chain
