@@ -83,10 +83,10 @@ filled-few form q b x =
 
 -- ---- the totals that such numbers make
 
-none-small : Small []
+pub none-small : Small []
 none-small k = omega arith
 
-one-small : (v : ℕ) (vs : List ℕ) → v < 10000000000000000 → Small vs → Small (v ∷ vs)
+pub one-small : (v : ℕ) (vs : List ℕ) → v < 10000000000000000 → Small vs → Small (v ∷ vs)
 one-small v vs l h zero = l
 one-small v vs l h (suc k) = h k
 

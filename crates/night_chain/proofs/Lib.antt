@@ -7,5 +7,6 @@ pub mod PrintedLaws
 pub mod RunLaws
 pub mod StandLaws
 pub mod TellLaws
+pub mod NightLaws
 pub mod Theorems
 pub mod Determinism

@@ -18,7 +18,7 @@ use Rattle.night_totals.specs.declared.filling.Filling.{Filling}
 use Rattle.night_totals.specs.declared.totals.Totals.{Totals}
 use Rattle.night_totals.proofs.FormLaws.{split, slotsIn, spelt-byte, spelt-number}
 use Rattle.night_totals.proofs.CompleteLaws.{fillOf, properFrom, setIn, stateAt, filled-whole}
-use Rattle.night_chain.specs.Texts.{printed, Short, AllShort, none, and, printedAll, firstLines, Begins}
+use Rattle.night_chain.specs.Texts.{printed, Short, firstLines, Begins}
 use Rattle.night_chain.specs.Chain.{totalsFrom}
 use Rattle.night_chain.proofs.TextLaws.{ended, behind, first-behind, ended-append, first-append, behind-append}
 use Rattle.night_chain.proofs.TextLaws.{ended-first, first-fewer, endsLine, behind-plain}

@@ -17,7 +17,7 @@ use Rattle.night_totals.specs.declared.totals.Totals.{Totals}
 use Rattle.night_totals.proofs.FormLaws.{split}
 use Rattle.night_join.specs.Join.{thenJoin}
 use Rattle.night_join.specs.declared.joining.Joining.{Joining}
-use Rattle.night_chain.specs.Texts.{printed, Short, AllShort, none, and, printedAll}
+use Rattle.night_chain.specs.Texts.{printed, Short, AllShort, nothing, another, printedAll}
 use Rattle.night_chain.specs.Reads.{joinedFrom, joinedOf}
 use Rattle.night_chain.specs.Chain.{chainAt, totalsFrom, startOf, linesOf, takenOf, stepOf, fedOf}
 use Rattle.night_chain.specs.declared.chain.Chain.{Chain}
@@ -72,8 +72,8 @@ printed-more (u ∷ ts) t =
     ap (λ l. printed u ++ l) (printed-more ts t) ∙ sym (append-assoc (printed u) (printedAll ts) (printed t))
 
 short-more : {ts : List Totals} (t : Totals) → AllShort ts → Short t → AllShort (ts ++ (t ∷ []))
-short-more t none h = and h none
-short-more t (and g x) h = and g (short-more t x h)
+short-more t nothing h = another h nothing
+short-more t (another g x) h = another g (short-more t x h)
 
 -- ---- lines more
 
@@ -222,7 +222,7 @@ stand s =
       come = [];
       q = blankOf false;
       is = refl;
-      short = none;
+      short = nothing;
       at = refl;
       run = run-blank;
     }))

@@ -16,7 +16,7 @@ use Rattle.night_totals.specs.declared.filling.Filling.{Filling}
 use Rattle.night_totals.specs.declared.totals.Totals.{Totals}
 use Rattle.night_totals.proofs.FormLaws.{split}
 use Rattle.night_join.specs.declared.joining.Joining.{Joining}
-use Rattle.night_chain.specs.Texts.{printed, Short, AllShort, none, and, printedAll, Begins}
+use Rattle.night_chain.specs.Texts.{printed, Short, AllShort, nothing, another, printedAll, Begins}
 use Rattle.night_chain.specs.Reads.{joinedOf, answerOf, Reads, joined, malformed}
 use Rattle.night_chain.specs.Chain.{chainAt, startOf, fedOf, toldOf}
 use Rattle.night_chain.specs.declared.chain.Chain.{Chain}
@@ -102,7 +102,7 @@ unfolding printedAll
 joined-once [] [] g h e = refl
 joined-once [] (u ∷ us) g h e = absurd (not-none u (printedAll us) e)
 joined-once (t ∷ ts) [] g h e = absurd (not-none t (printedAll ts) (sym e))
-joined-once (t ∷ ts) (u ∷ us) (and p g) (and q h) e =
+joined-once (t ∷ ts) (u ∷ us) (another p g) (another q h) e =
     let a : t ≡ u = printed-once t u p q (fronts-same t u (printedAll ts) (printedAll us) e) in
     let b : ts ≡ us = joined-once ts us g h (rests-same t u (printedAll ts) (printedAll us) e) in
     cc
@@ -119,8 +119,8 @@ module _ (c : List ℕ) (n : ℕ) (some : 0 < length c) (stops : Stops n c) wher
   unfolding printedAll
   not-joined [] [] g h e = let z : 0 ≡ length c = ap length e in omega arith
   not-joined [] (t ∷ ts) g h e = not-none t (printedAll ts ++ c) (e ∙ append-assoc (printed t) (printedAll ts) c)
-  not-joined (u ∷ us) [] (and p g) h e = stopped u c (printedAll us) n p stops (sym e)
-  not-joined (u ∷ us) (t ∷ ts) (and p g) (and q h) e =
+  not-joined (u ∷ us) [] (another p g) h e = stopped u c (printedAll us) n p stops (sym e)
+  not-joined (u ∷ us) (t ∷ ts) (another p g) (another q h) e =
       not-joined us ts g h
       (rests-same u t (printedAll us) (printedAll ts ++ c) (e ∙ append-assoc (printed t) (printedAll ts) c))
 
@@ -129,11 +129,11 @@ module _ (c : List ℕ) (n : ℕ) (some : 0 < length c) (stops : Stops n c) wher
         → (length ts ≡ length us) × (c ≡ d)
     unfolding printedAll
     same-front [] [] g h e = (refl, e)
-    same-front [] (u ∷ us) g (and q h) e =
+    same-front [] (u ∷ us) g (another q h) e =
         absurd (stopped u c (printedAll us ++ d) n q stops (e ∙ append-assoc (printed u) (printedAll us) d))
-    same-front (t ∷ ts) [] (and p g) h e =
+    same-front (t ∷ ts) [] (another p g) h e =
         absurd (stopped t d (printedAll ts ++ c) m p ends (sym e ∙ append-assoc (printed t) (printedAll ts) c))
-    same-front (t ∷ ts) (u ∷ us) (and p g) (and q h) e =
+    same-front (t ∷ ts) (u ∷ us) (another p g) (another q h) e =
         let k = same-front ts us g h (rests-same t u (printedAll ts ++ c) (printedAll us ++ d)
         (sym (append-assoc (printed t) (printedAll ts) c) ∙ e ∙ append-assoc (printed u) (printedAll us) d)) in
         (ap suc (k .0), k .1)

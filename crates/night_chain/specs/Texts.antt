@@ -17,8 +17,8 @@ abbrev pub Short : Totals → Type 0
 Short t = (k : ℕ) → getD (totalsNumbers t) k 0 < 10000000000000000
 
 pub data AllShort : List Totals → Type 0 where
-  none : AllShort []
-  and : {t : Totals} {ts : List Totals} → Short t → AllShort ts → AllShort (t ∷ ts)
+  nothing : AllShort []
+  another : {t : Totals} {ts : List Totals} → Short t → AllShort ts → AllShort (t ∷ ts)
 
 -- one after another
 unfoldable pub printedAll : List Totals → List ℕ
