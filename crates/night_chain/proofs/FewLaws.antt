@@ -10,6 +10,7 @@ use lib.ListN.{length, getD, set, replicate}
 use Rattle.words.proofs.Branch.{pick-all}
 use Rattle.night_totals.specs.Filling.{blankOf, spoiltOf, numberedAt, onward, valuedOf, kept}
 use Rattle.night_totals.specs.Filling.{passedOf, digitOf, storedOf, behindOf, numberOf, filledOf}
+use Rattle.night_totals.specs.Printed.{totalsNumbers}
 use Rattle.night_totals.specs.declared.filling.Filling.{Filling}
 use Rattle.night_totals.specs.declared.totals.Totals.{Totals}
 use Rattle.night_chain.specs.Texts.{Short}
@@ -83,16 +84,18 @@ filled-few form q b x =
 
 -- ---- the totals that such numbers make
 
-pub none-small : Small []
-none-small k = omega arith
+pub data Below : List ℕ → Type 0 where
+  last : Below []
+  then : {v : ℕ} {vs : List ℕ} → v < 10000000000000000 → Below vs → Below (v ∷ vs)
 
-pub one-small : (v : ℕ) (vs : List ℕ) → v < 10000000000000000 → Small vs → Small (v ∷ vs)
-one-small v vs l h zero = l
-one-small v vs l h (suc k) = h k
+pub small-by : (vs : List ℕ) → Below vs → Small vs
+small-by [] last k = omega arith
+small-by (v ∷ vs) (then l x) zero = l
+small-by (v ∷ vs) (then l x) (suc k) = small-by vs x k
 
 pub totals-short : (vs : List ℕ) → Small vs → Short (totalsFrom vs)
 totals-short vs h =
-    one-small _ _ (h 0) (one-small _ _ (h 1) (one-small _ _ (h 2) (one-small _ _ (h 3) (one-small _ _ (h 4)
-    (one-small _ _ (h 5) (one-small _ _ (h 6) (one-small _ _ (h 7) (one-small _ _ (h 8) (one-small _ _ (h 9)
-    (one-small _ _ (h 10) (one-small _ _ (h 11) (one-small _ _ (h 12) (one-small _ _ (h 13) (one-small _ _ (h 14)
-    (one-small _ _ (omega arith) none-small)))))))))))))))
+    small-by (totalsNumbers (totalsFrom vs))
+    (then (h 0) (then (h 1) (then (h 2) (then (h 3) (then (h 4) (then (h 5) (then (h 6) (then (h 7) (then (h 8)
+    (then (h 9) (then (h 10) (then (h 11) (then (h 12) (then (h 13) (then (h 14)
+    (then (omega arith) last))))))))))))))))

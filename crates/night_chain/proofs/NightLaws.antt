@@ -13,6 +13,7 @@ use Rattle.words.proofs.Branch.{pick-yes, pick-no}
 use Rattle.night_totals.specs.Entries.{AllFit, none, and}
 use Rattle.night_totals.specs.Totals.{sumOf, runsOf, largestOf, firstOf, totalsOf}
 use Rattle.night_totals.specs.Night.{noTotals}
+use Rattle.night_totals.specs.Printed.{totalsNumbers}
 use Rattle.night_totals.specs.declared.entry.Entry.{Entry}
 use Rattle.night_totals.specs.declared.totals.Totals.{Totals}
 use Rattle.night_totals.proofs.FormLaws.{split}
@@ -26,7 +27,7 @@ use Rattle.night_chain.specs.Texts.{Short, AllShort, nothing, another, p
 use Rattle.night_chain.specs.Nights.{AllNights, noNight, andNight, linesIn, totalsIn}
 use Rattle.night_chain.specs.Reads.{joinedFrom, joinedOf, answerOf, joined}
 use Rattle.night_chain.specs.Chain.{startOf, fedOf, toldOf}
-use Rattle.night_chain.proofs.FewLaws.{none-small, one-small}
+use Rattle.night_chain.proofs.FewLaws.{last, then, small-by}
 use Rattle.night_chain.proofs.TellLaws.{told-right, one-outcome-proof}
 
 pub fit-short-proof : (t : Totals) → Fit t → Short t
@@ -34,12 +35,13 @@ fit-short-proof t h =
     let x = good t h in
     let l : t .lines ≤ 65535 = x .lines in
     let r : t .status0 + t .status1 + t .status2 + t .status3 + t .status5 + t .status7 ≡ t .lines = x .runs in
-    one-small _ _ (omega arith) (one-small _ _ (omega arith) (one-small _ _ (omega arith)
-    (one-small _ _ (omega arith) (one-small _ _ (omega arith) (one-small _ _ (omega arith)
-    (one-small _ _ (omega arith) (one-small _ _ (omega (arith, x .accepted)) (one-small _ _ (omega (arith, x .rejected))
-    (one-small _ _ (omega (arith, x .total)) (one-small _ _ (omega (arith, x .ode)) (one-small _ _ (omega (arith, x .jac))
-    (one-small _ _ (omega (arith, x .lu)) (one-small _ _ (omega (arith, x .ode, x .largest))
-    (one-small _ _ (omega (arith, x .place)) (one-small _ _ (omega arith) none-small)))))))))))))))
+    small-by (totalsNumbers t)
+    (then (omega arith) (then (omega arith) (then (omega arith)
+    (then (omega arith) (then (omega arith) (then (omega arith)
+    (then (omega arith) (then (omega (arith, x .accepted)) (then (omega (arith, x .rejected))
+    (then (omega (arith, x .total)) (then (omega (arith, x .ode)) (then (omega (arith, x .jac))
+    (then (omega (arith, x .lu)) (then (omega (arith, x .ode, x .largest)) (then (omega (arith, x .place))
+    (then (omega arith) last))))))))))))))))
 
 -- ---- nights
 
@@ -74,7 +76,8 @@ joined-behind es (fs ∷ nights) g l (andNight h m x) =
     ∙ split (ltb 65535 (length all))
     (λ e. let u : 65535 < length all = ltb-true _ _ e in
     ap (λ (j : Joining). joinedFrom j (totalsIn nights)) (pick-yes _ _ e) ∙ many-stays (totalsIn nights)
-    ∙ sym (pick-yes _ _ (lt-ltb _ _ (omega (arith, length-append all (linesIn nights), ap length a)))))
+    ∙ sym (pick-yes _ _ (lt-ltb 65535 (length (es ++ (fs ++ linesIn nights)))
+    (omega (arith, length-append all (linesIn nights), ap length a)))))
     (λ e. ap (λ (j : Joining). joinedFrom j (totalsIn nights)) (pick-no _ _ e)
     ∙ joined-behind all nights (fit-both g h) (ltb-false _ _ e) x ∙ ap allOf a)
 

@@ -195,26 +195,26 @@ pub run-begins : (come : List ℕ) (q : Filling) (more : List ℕ) → Run come 
 run-begins come q more x =
     let a = ahead come q x in
     let n = ended come in
-    let e : firstLines n (printed (a .t)) ≡ firstLines n come =
-    ap (firstLines n) (sym (a .is)) ∙ first-append n come (a .rest) (omega arith) in
+    let e : firstLines (printed (a .t)) n ≡ firstLines come n =
+    ap (λ s. firstLines s n) (sym (a .is)) ∙ first-append come (a .rest) n (omega arith) in
     record {
       t = a .t;
       short = a .short;
-      rest = behind n come ++ more;
+      rest = behind come n ++ more;
       is =
-          ap (λ l. l ++ more) (sym (first-behind n come)) ∙ append-assoc (firstLines n come) (behind n come) more
-          ∙ ap (λ l. l ++ (behind n come ++ more)) (sym e);
+          ap (λ l. l ++ more) (sym (first-behind come n)) ∙ append-assoc (firstLines come n) (behind come n) more
+          ∙ ap (λ l. l ++ (behind come n ++ more)) (sym e);
     }
 
 -- ---- and no line more stands at the front
 
-front-ended : (u : Totals) (n : ℕ) → n < 14 → ended (firstLines (suc n) (printed u)) ≡ suc n
-front-ended u n l = ended-first (suc n) (printed u) (omega (arith, printed-ended u))
+front-ended : (u : Totals) (n : ℕ) → n < 14 → ended (firstLines (printed u) (suc n)) ≡ suc n
+front-ended u n l = ended-first (printed u) (suc n) (omega (arith, printed-ended u))
 
 pub run-no-more : (come : List ℕ) (q : Filling) → Run come q → Begins (suc (ended come)) come → ⊥
 run-no-more come q x y =
     let l : ended come < 14 = lines-few come q x in
-    let s = firstLines (suc (ended come)) (printed (y .t)) in
+    let s = firstLines (printed (y .t)) (suc (ended come)) in
     let e : ended come ≡ ended s + ended (y .rest) = ap ended (y .is) ∙ ended-append s (y .rest) in
     omega (arith, front-ended (y .t) (ended come) l)
 
@@ -241,10 +241,10 @@ module _ (come : List ℕ) (q : Filling) (b : ℕ) (more : List ℕ) (x : Run co
 
   module _ (y : Begins (suc (ended come)) (come ++ (b ∷ more))) where
     abbrev front : List ℕ
-    front = firstLines (suc (ended come)) (printed (y .t))
+    front = firstLines (printed (y .t)) (suc (ended come))
 
     abbrev tail : List ℕ
-    tail = behind (suc (ended come)) (printed (y .t))
+    tail = behind (printed (y .t)) (suc (ended come))
 
     counted : ended front ≡ suc (ended come)
     counted = front-ended (y .t) (ended come) (lines-few come q x)
@@ -258,7 +258,7 @@ module _ (come : List ℕ) (q : Filling) (b : ℕ) (more : List ℕ) (x : Run co
     cut (longer (c ∷ e) p r) =
         let h : b ≡ c = first-byte b c more (e ++ y .rest) r in
         no-front (y .t) (y .short) (e ++ tail)
-        (sym (first-behind (suc (ended come)) (printed (y .t))) ∙ ap (λ l. l ++ tail) p
+        (sym (first-behind (printed (y .t)) (suc (ended come))) ∙ ap (λ l. l ++ tail) p
         ∙ append-assoc come (c ∷ e) tail ∙ ap (λ d. come ++ (d ∷ (e ++ tail))) (sym h))
 
     pub wrong-no-more : ⊥

@@ -16,16 +16,26 @@ ended [] = 0
 ended (b ∷ s) = pick (eqb b 10) 1 0 + ended s
 
 -- what stands behind the first n lines
-unfoldable pub behind : ℕ → List ℕ → List ℕ
-behind zero s = s
-behind (suc n) [] = []
-behind (suc n) (b ∷ s) = behind (pick (eqb b 10) n (suc n)) s
+unfoldable pub behind : List ℕ → ℕ → List ℕ
+behind [] n = []
+behind (b ∷ s) zero = b ∷ s
+behind (b ∷ s) (suc n) = behind s (pick (eqb b 10) n (suc n))
 
-pub first-behind : (n : ℕ) (s : List ℕ) → firstLines n s ++ behind n s ≡ s
+pub first-behind : (s : List ℕ) (n : ℕ) → firstLines s n ++ behind s n ≡ s
 unfolding firstLines behind
-first-behind zero s = refl
-first-behind (suc n) [] = refl
-first-behind (suc n) (b ∷ s) = ap (λ l. b ∷ l) (first-behind (pick (eqb b 10) n (suc n)) s)
+first-behind [] n = refl
+first-behind (b ∷ s) zero = refl
+first-behind (b ∷ s) (suc n) = ap (λ l. b ∷ l) (first-behind s (pick (eqb b 10) n (suc n)))
+
+first-none : (s : List ℕ) → firstLines s 0 ≡ []
+unfolding firstLines
+first-none [] = refl
+first-none (b ∷ s) = refl
+
+behind-none : (s : List ℕ) → behind s 0 ≡ s
+unfolding behind
+behind-none [] = refl
+behind-none (b ∷ s) = refl
 
 pub ended-append : (s t : List ℕ) → ended (s ++ t) ≡ ended s + ended t
 unfolding ended
@@ -43,34 +53,37 @@ one-back true n = let z : 1 + n ≡ suc n = omega arith in z
 one-back false n = let z : 0 + suc n ≡ suc n = omega arith in z
 
 -- the first lines of a text that has as many are those of a longer one
-pub first-append : (n : ℕ) (s t : List ℕ) → n ≤ ended s → firstLines n (s ++ t) ≡ firstLines n s
+pub first-append : (s t : List ℕ) (n : ℕ) → n ≤ ended s → firstLines (s ++ t) n ≡ firstLines s n
 unfolding firstLines ended
-first-append zero s t h = refl
-first-append (suc n) [] t h = absurd (let z : ⊥ = omega arith in z)
-first-append (suc n) (b ∷ s) t h =
-    ap (λ l. b ∷ l) (first-append (pick (eqb b 10) n (suc n)) s t (one-less (eqb b 10) n (ended s) h))
+first-append [] t zero h = first-none t
+first-append [] t (suc n) h = absurd (let z : ⊥ = omega arith in z)
+first-append (b ∷ s) t zero h = refl
+first-append (b ∷ s) t (suc n) h =
+    ap (λ l. b ∷ l) (first-append s t (pick (eqb b 10) n (suc n)) (one-less (eqb b 10) n (ended s) h))
 
-pub behind-append : (n : ℕ) (s t : List ℕ) → n ≤ ended s → behind n (s ++ t) ≡ behind n s ++ t
+pub behind-append : (s t : List ℕ) (n : ℕ) → n ≤ ended s → behind (s ++ t) n ≡ behind s n ++ t
 unfolding behind ended
-behind-append zero s t h = refl
-behind-append (suc n) [] t h = absurd (let z : ⊥ = omega arith in z)
-behind-append (suc n) (b ∷ s) t h =
-    behind-append (pick (eqb b 10) n (suc n)) s t (one-less (eqb b 10) n (ended s) h)
+behind-append [] t zero h = behind-none t
+behind-append [] t (suc n) h = absurd (let z : ⊥ = omega arith in z)
+behind-append (b ∷ s) t zero h = refl
+behind-append (b ∷ s) t (suc n) h =
+    behind-append s t (pick (eqb b 10) n (suc n)) (one-less (eqb b 10) n (ended s) h)
 
-pub ended-first : (n : ℕ) (s : List ℕ) → n ≤ ended s → ended (firstLines n s) ≡ n
+pub ended-first : (s : List ℕ) (n : ℕ) → n ≤ ended s → ended (firstLines s n) ≡ n
 unfolding firstLines ended
-ended-first zero s h = refl
-ended-first (suc n) [] h = absurd (let z : ⊥ = omega arith in z)
-ended-first (suc n) (b ∷ s) h =
+ended-first [] zero h = refl
+ended-first [] (suc n) h = absurd (let z : ⊥ = omega arith in z)
+ended-first (b ∷ s) zero h = refl
+ended-first (b ∷ s) (suc n) h =
     ap (λ k. pick (eqb b 10) 1 0 + k)
-    (ended-first (pick (eqb b 10) n (suc n)) s (one-less (eqb b 10) n (ended s) h))
+    (ended-first s (pick (eqb b 10) n (suc n)) (one-less (eqb b 10) n (ended s) h))
     ∙ one-back (eqb b 10) n
 
 -- fewer lines of the first ones
-pub first-fewer : (i n : ℕ) (s : List ℕ) → i ≤ n → n ≤ ended s → firstLines i (firstLines n s) ≡ firstLines i s
+pub first-fewer : (i n : ℕ) (s : List ℕ) → i ≤ n → n ≤ ended s → firstLines (firstLines s n) i ≡ firstLines s i
 first-fewer i n s l h =
-    sym (first-append i (firstLines n s) (behind n s) (omega (arith, ended-first n s h)))
-    ∙ ap (firstLines i) (first-behind n s)
+    sym (first-append (firstLines s n) (behind s n) i (omega (arith, ended-first s n h)))
+    ∙ ap (λ t. firstLines t i) (first-behind s n)
 
 -- ---- a text whose last byte is LF has more lines than each part before it
 
@@ -94,12 +107,12 @@ unfolding pick
 plain-head true l h = absurd (let z : ⊥ = omega arith in z)
 plain-head false l h = (refl, let z : l ≡ 0 = omega arith in z)
 
-pub behind-plain : (n : ℕ) (p s : List ℕ) → ended p ≡ 0 → behind (suc n) (p ++ s) ≡ behind (suc n) s
+pub behind-plain : (p s : List ℕ) (n : ℕ) → ended p ≡ 0 → behind (p ++ s) (suc n) ≡ behind s (suc n)
 unfolding behind ended
-behind-plain n [] s h = refl
-behind-plain n (b ∷ p) s h =
+behind-plain [] s n h = refl
+behind-plain (b ∷ p) s n h =
     let k = plain-head (eqb b 10) (ended p) h in
-    ap (λ i. behind i (p ++ s)) (pick-no {A = ℕ} n (suc n) (k .0)) ∙ behind-plain n p s (k .1)
+    ap (behind (p ++ s)) (pick-no {A = ℕ} n (suc n) (k .0)) ∙ behind-plain p s n (k .1)
 
 -- ---- two ways to cut a text
 

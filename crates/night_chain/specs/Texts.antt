@@ -26,14 +26,14 @@ printedAll [] = []
 printedAll (t ∷ ts) = printed t ++ printedAll ts
 
 -- the first n lines of a text, each with its LF
-unfoldable pub firstLines : ℕ → List ℕ → List ℕ
-firstLines zero s = []
-firstLines (suc n) [] = []
-firstLines (suc n) (b ∷ s) = b ∷ firstLines (pick (eqb b 10) n (suc n)) s
+unfoldable pub firstLines : List ℕ → ℕ → List ℕ
+firstLines [] n = []
+firstLines (b ∷ s) zero = []
+firstLines (b ∷ s) (suc n) = b ∷ firstLines s (pick (eqb b 10) n (suc n))
 
 -- a text begins with the first n lines of some totals
 pub record Begins (n : ℕ) (s : List ℕ) : Type 0 where
   pub t : Totals
   pub short : Short t
   pub rest : List ℕ
-  pub is : s ≡ firstLines n (printed t) ++ rest
+  pub is : s ≡ firstLines (printed t) n ++ rest

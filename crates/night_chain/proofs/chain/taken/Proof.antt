@@ -19,7 +19,7 @@ returns-2 c =
 returns-3 : tie.Need-returns-3
 unfolding takenOf
 returns-3 c =
-    no _ _ _ (c .before .before .before .before .before .before .if1 .left)
+    no _ _ _ (c .before .before .before .before .before .before .before .if1 .left)
     (yes _ _ _ (eq-eqb _ _ (c .before .before .before .before .before .if2 .left)) (rw (
       c .made3 .ensures,
       c .before .then-join .ensures,

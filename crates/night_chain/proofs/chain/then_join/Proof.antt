@@ -5,7 +5,7 @@ use Rattle.night_chain.proofs.chain.then_join.Statement.{statement}
 use Rattle.night_chain.proofs.chain.then_join.Tie as tie
 
 returns : tie.Need-returns
-returns c = then-joined _ _ _ (c .before .before .before2 .given .1) (c .join .ensures)
+returns c = then-joined _ _ _ (c .before .before .joined .given .1) (c .join .ensures)
 
 returns-2 : tie.Need-returns-2
 returns-2 c = then-unfit _ _ (c .enum-told .given .1)

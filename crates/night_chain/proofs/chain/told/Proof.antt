@@ -20,19 +20,19 @@ returns-2 c =
 returns-3 : tie.Need-returns-3
 unfolding toldOf
 returns-3 c =
-    no _ _ _ (c .before .before .before .before .if1 .left)
-    (yes _ _ _ (eq-eqb _ _ (c .before .before .before .if2 .left)) (answer-joined _ _ (c .before .totals .given .1)))
+    no _ _ _ (c .before .before .before .before .before .if1 .left)
+    (yes _ _ _ (eq-eqb _ _ (c .before .before .before .if2 .left)) (answer-joined _ _ (c .before .joined .given .1)))
 
 returns-4 : tie.Need-returns-4
 unfolding toldOf
 returns-4 c =
-    no _ _ _ (c .before .before .before .if1 .left)
+    no _ _ _ (c .before .before .before .before .if1 .left)
     (yes _ _ _ (eq-eqb _ _ (c .before .before .if2 .left)) (answer-unfit _ (c .enum-told .given .1)))
 
 returns-5 : tie.Need-returns-5
 unfolding toldOf
 returns-5 c =
-    no _ _ _ (c .before .before .before .if1 .left)
+    no _ _ _ (c .before .before .before .before .if1 .left)
     (yes _ _ _ (eq-eqb _ _ (c .before .before .if2 .left)) (answer-many _ (c .enum-told2 .given .1)))
 
 pub told-spec : {M : Type 1} → statement M

@@ -4,12 +4,12 @@ use mathlib.Core.Path.{_≡_, refl, _∙_}
 use native.Mathlib.Omega.{arith}
 use lib.ListN.{length, drop}
 use lib.Seq.{sets}
-use Rattle.forecast_text.proofs.PutLaws.{text-more, text-all}
+use Rattle.night_chain.proofs.PutLaws.{put-more, put-all, put-whole}
 use Rattle.night_chain.proofs.printed.put_text.Statement.{statement}
 use Rattle.night_chain.proofs.printed.put_text.Tie as tie
 
 abbrev Inv-loop : tie.InvT-loop
-Inv-loop out₀ bytes i₀ i-end out i = (i ≤ length bytes) × (sets out (0 + i) (drop i bytes) ≡ sets out₀ 0 bytes)
+Inv-loop out₀ bytes i₀ i-end out i = (i ≤ length bytes) × (sets out i (drop i bytes) ≡ sets out₀ 0 bytes)
 
 abbrev μ-loop : tie.MeasureT-loop
 μ-loop out₀ bytes i₀ i-end out i = length bytes - i
@@ -32,18 +32,16 @@ loop-less c = omega arith
 loop-again : tie.Need-loop-again Inv-loop μ-loop
 loop-again c = (
   omega arith,
-  text-more 0 (c .before .before .loop .i) (c .before .before .before .args .bytes .now) (c .before .before .loop .out)
+  put-more (c .before .before .loop .i) (c .before .before .before .args .bytes .now) (c .before .before .loop .out)
       (c .before .loop-test .taken)
       ∙ c .before .before .loop .inv .1,
 )
 
 returns : tie.Need-returns Inv-loop μ-loop
-returns c = record {
-  ends = refl;
-  is = text-all 0 (c .before .loop .i) (c .before .before .args .bytes .now) (c .before .loop .out)
-      (c .loop-test .left)
-      ∙ c .before .loop .inv .1;
-}
+returns c =
+    put-whole (c .before .before .args .bytes .now)
+    (put-all (c .before .loop .i) (c .before .before .args .bytes .now) (c .before .loop .out) (c .loop-test .left)
+    ∙ c .before .loop .inv .1)
 
 pub put-text-spec : {M : Type 1} → statement M
 put-text-spec =
