@@ -1,5 +1,5 @@
--- Totals that pass 28 are short, so that what `totals` and `joined` print is read; and the totals of nights come to those
--- of all their lines.
+-- Totals that pass 28 are short, so that what `totals` and `joined` print is read; and the totals of nights come to
+-- those of all their lines.
 use Prim.Native.Nat.{ℕ, _+_, _*_, _≤_, _<_}
 use mathlib.Core.Path.{_≡_, refl, sym, ap, _∙_}
 use mathlib.Core.Bool.{Bool, true, false}
