@@ -19,10 +19,20 @@ use Rattle.shelf.specs.Ask.{answerOf}
 use Rattle.shelf.specs.Finding.{foundFrom}
 use Rattle.shelf.proofs.Ring.{before-low}
 
+-- a place that is found is one of the 48
+abbrev pub Low : Found → Type 0
+Low (At place) = place ≤ 47
+Low Nothing = Unit
+
 module _ (x : Float) (ends : List Float) where
   -- the step before a place holds x
   abbrev here : ℕ → Bool
   here place = holds x (ends ! (2 * placeBefore place)) (ends ! (2 * placeBefore place + 1))
+
+  pub found-none : (place left : ℕ) → left ≤ 0 → Nothing ≡ foundFrom x ends place left
+  unfolding foundFrom
+  found-none place zero l = refl
+  found-none place (suc left) l = absurd (omega arith)
 
   pub found-here : (place left : ℕ) → 0 < left → here place ≡ true → At (placeBefore place) ≡ foundFrom x ends place left
   unfolding foundFrom
@@ -36,11 +46,6 @@ module _ (x : Float) (ends : List Float) where
   found-on place (suc left) l e =
       let less : suc left - 1 ≡ left = omega arith in
       ap (foundFrom x ends (placeBefore place)) less ∙ sym (pick-no _ _ e)
-
-  -- a place that is found is one of the 48
-  abbrev pub Low : Found → Type 0
-  Low (At place) = place ≤ 47
-  Low Nothing = Unit
 
   pub found-low : (count place : ℕ) → place ≤ 47 → Low (foundFrom x ends place count)
   unfolding foundFrom

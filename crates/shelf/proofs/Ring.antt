@@ -3,8 +3,9 @@ use Prim.Native.Nat.{ℕ, zero, suc, _+_, _-_, _*_, _≤_, _<_}
 use mathlib.Core.Path.{_≡_, refl, sym, ap, subst, _∙_}
 use mathlib.Core.Bool.{Bool, true, false}
 use mathlib.Core.List.{List, [], _∷_}
-use mathlib.Core.Logic.{⊎-elim}
-use native.Mathlib.Nat.{lt-or-ge, mul-le-mul-right, suc-mul}
+use mathlib.Core.Logic.{_⊎_, inl, inr, ⊎-elim}
+use native.Mathlib.Decide.{decLt}
+use native.Mathlib.Nat.{mul-le-mul-right, suc-mul}
 use native.Mathlib.Numerals.{add-one}
 use native.Mathlib.Omega.{arith}
 use lib.Dec.{eqb}
@@ -19,7 +20,15 @@ use Rattle.shelf.specs.declared.answers.Shelf.{Shelf}
 use Rattle.shelf.specs.Shelf.{Step, step, shelved, shelf, placeBefore, placeAfter, stepsAfter, stepAt}
 use Rattle.shelf.specs.Shelf.{stepsBefore, keptOf, over}
 use Rattle.shelf.proofs.Over.{part-here, part-before, part-after, entry-here, entry-before, entry-after}
-use Rattle.shelf.proofs.TestLaws.{Room, Fit}
+use Rattle.shelf.specs.Refusals.{Room}
+use Rattle.shelf.proofs.TestLaws.{within-room}
+
+lt-or-ge : (a b : ℕ) → (a < b) ⊎ (b ≤ a)
+lt-or-ge a b = by (decLt a b)
+  where
+    by : Dec (a < b) → (a < b) ⊎ (b ≤ a)
+    by (yes p) = inl p
+    by (no p) = inr (omega arith)
 
 -- ---- the places
 
@@ -105,16 +114,8 @@ module _ (n place : ℕ) (cont : List Float) (xold h : Float) (cs es : List Floa
   abbrev es' : List Float
   es' = over (2 * place) (xold ∷ h ∷ []) es
 
-  inside : (q : ℕ) → q ≤ 47 → q * length cont + length cont ≤ 48 * length cont
-  inside q hq =
-      let g : suc q ≤ 48 = omega arith in
-      omega (arith, mul-le-mul-right (length cont) g, suc-mul q (length cont))
-
-  full : length cs ≡ 48 * length cont
-  full = room .coefficients ∙ ap (λ (k : ℕ). 48 * k) (sym long)
-
   fits : place * length cont + length cont ≤ length cs
-  fits = omega (arith, inside place low, full)
+  fits = within-room n (length cont) (length cs) place long (room .coefficients) low
 
   pub put-here : stepAt n cs' es' place ≡ step cont xold h
   unfolding stepAt
@@ -122,9 +123,9 @@ module _ (n place : ℕ) (cont : List Float) (xold h : Float) (cs es : List Floa
       let wide : 2 * place + 2 ≤ length es = omega (arith, room .ends) in
       let a : take (4 * n) (drop (place * (4 * n)) cs') ≡ cont =
       subst (λ (k : ℕ). take k (drop (place * k) cs') ≡ cont) long (part-here (place * length cont) cont cs fits) in
+      let zeroth : 2 * place ≡ 2 * place + 0 = omega arith in
       let b : es' ! (2 * place) ≡ xold =
-      ap (λ (k : ℕ). es' ! k) (λ i. (omega arith : 2 * place ≡ 2 * place + 0) i)
-      ∙ entry-here (2 * place) (xold ∷ h ∷ []) es wide nan 0 (omega arith) in
+      ap (λ (k : ℕ). es' ! k) zeroth ∙ entry-here (2 * place) (xold ∷ h ∷ []) es wide nan 0 (omega arith) in
       let c : es' ! (2 * place + 1) ≡ h = entry-here (2 * place) (xold ∷ h ∷ []) es wide nan 1 (omega arith) in
       λ i. step (a i) (b i) (c i)
 

@@ -1,6 +1,7 @@
 -- A shelf is asked at a point: the newest kept step that holds it answers, with what `interpolate` gives there.
 use Prim.Native.Nat.{ℕ}
-use mathlib.Core.Bool.{not}
+use mathlib.Core.Path.{_≡_}
+use mathlib.Core.Bool.{false, not}
 use mathlib.Core.List.{List, [], _∷_}
 use lib.ListN.{length}
 use lib.Ieee.{Float}
@@ -27,3 +28,8 @@ askOf s x target coefficients ends =
     pick (not (roomFits n (length coefficients) (length ends))) (asked asking.RefusedLength target)
     (pick (not (shelfFits s)) (asked asking.RefusedShelf target)
     (answerOf x target (keptOf s n coefficients ends)))
+
+-- no step of a list holds x
+unfoldable pub NoneHolds : Float → List Step → Type 0
+NoneHolds x [] = Unit
+NoneHolds x (s ∷ older) = (holds x (s .xold) (s .h) ≡ false) × NoneHolds x older

@@ -1,11 +1,14 @@
 -- `find` meets its contract: what is left to look at decides.
-use Prim.Native.Nat.{_≤_}
+use Prim.Native.Nat.{_+_, _-_, _*_, _≤_}
 use mathlib.Core.Path.{_≡_, refl, sym, ap, _∙_}
 use native.Mathlib.Omega.{arith}
 use borrow.Author.Needs.{needs}
+use Rattle.words.specs.Words.{_!_}
+use Rattle.shelf.specs.declared.finding.Found.the-variants.{At}
+use Rattle.shelf.specs.Shelf.{holds}
 use Rattle.shelf.specs.Finding.{foundFrom}
 use Rattle.shelf.proofs.Ring.{before-low}
-use Rattle.shelf.proofs.FindLaws.{found-here, found-on}
+use Rattle.shelf.proofs.FindLaws.{found-none, found-here, found-on}
 use Rattle.shelf.proofs.finding.find.Statement.{statement}
 use Rattle.shelf.proofs.finding.find.Tie as tie
 use Rattle.shelf.proofs.finding.find.Reads as reads
@@ -27,41 +30,68 @@ place-before-requires c κs = search needs
 sub-left : tie.Need-sub-left Inv-loop μ-loop
 sub-left c = omega arith
 
+-- the place that is looked at is one of the 48
+low : (c : tie.After-place-before Inv-loop μ-loop) → c .place-before .result ≤ 47
+low c =
+    omega (arith, before-low (c .before .before .loop .at) (c .before .before .loop .inv .0), c .place-before .ensures)
+
 mul-within : tie.Need-mul-within Inv-loop μ-loop
-mul-within c = ?
+mul-within c = omega (arith, low c)
 
 mul-within-2 : tie.Need-mul-within-2 Inv-loop μ-loop
-mul-within-2 c = ?
+mul-within-2 c = omega (arith, low c)
 
 shared-slice-read-within : tie.Need-shared-slice-read-within Inv-loop μ-loop
-shared-slice-read-within c = ?
+shared-slice-read-within c = omega (arith, low (c .before))
 
 mul-within-3 : tie.Need-mul-within-3 Inv-loop μ-loop
-mul-within-3 c = ?
+mul-within-3 c = omega (arith, low (c .before))
 
 add-within : tie.Need-add-within Inv-loop μ-loop
-add-within c = ?
+add-within c = omega (arith, low (c .before))
 
 mul-within-4 : tie.Need-mul-within-4 Inv-loop μ-loop
-mul-within-4 c = ?
+mul-within-4 c = omega (arith, low (c .before))
 
 shared-slice-read-within-2 : tie.Need-shared-slice-read-within-2 Inv-loop μ-loop
-shared-slice-read-within-2 c = ?
+shared-slice-read-within-2 c = omega (arith, low (c .before .before))
 
 within-requires : tie.Need-within-requires Inv-loop μ-loop
 within-requires c κs = search needs
 
 returns : tie.Need-returns Inv-loop μ-loop
-returns c = ?
+returns c =
+    let at-place = c .before .before .before .before in
+    let loop = at-place .before .before in
+    let args = loop .before .args in
+    ap At (at-place .place-before .ensures)
+    ∙ found-here (args .x) (args .ends .now) (loop .loop .at) (loop .loop .left) (at-place .before .loop-test .taken)
+    (ap (λ p. holds (args .x) (args .ends .now ! (2 * p)) (args .ends .now ! (2 * p + 1)))
+    (sym (at-place .place-before .ensures)) ∙ sym (c .before .within .ensures) ∙ c .if1 .taken)
+    ∙ loop .loop .inv .1
 
 loop-less : tie.Need-loop-less Inv-loop μ-loop
 loop-less c = omega arith
 
 loop-again : tie.Need-loop-again Inv-loop μ-loop
-loop-again c = ?
+loop-again c =
+    let at-place = c .before .before .before .before in
+    let loop = at-place .before .before in
+    let args = loop .before .args in (
+      low at-place,
+      ap (λ p. foundFrom (args .x) (args .ends .now) p (loop .loop .left - 1)) (at-place .place-before .ensures)
+          ∙ found-on (args .x) (args .ends .now) (loop .loop .at) (loop .loop .left)
+          (at-place .before .loop-test .taken)
+          (ap (λ p. holds (args .x) (args .ends .now ! (2 * p)) (args .ends .now ! (2 * p + 1)))
+          (sym (at-place .place-before .ensures)) ∙ sym (c .before .within .ensures) ∙ c .if1 .left)
+          ∙ loop .loop .inv .1,
+    )
 
 returns-2 : tie.Need-returns-2 Inv-loop μ-loop
-returns-2 c = ?
+returns-2 c =
+    let args = c .before .before .args in
+    found-none (args .x) (args .ends .now) (c .before .loop .at) (c .before .loop .left) (c .loop-test .left)
+    ∙ c .before .loop .inv .1
 
 pub find-spec : {M : Type 1} → statement M
 find-spec =

@@ -6,7 +6,7 @@ use Rattle.shelf.proofs.finding.within.Tie as tie
 
 returns : tie.Need-returns
 unfolding holds
-returns c = rw (c .bounds .ensures)
+returns c = rw (c .before .before .bounds .ensures)
 
 pub within-spec : {M : Type 1} → statement M
 within-spec = tie.close (tie.spec (λ c κs. search needs) returns)

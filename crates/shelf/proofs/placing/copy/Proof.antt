@@ -1,5 +1,5 @@
 -- `copy` meets its contract: the values passed stand over those of the room.
-use Prim.Native.Nat.{_-_, _≤_}
+use Prim.Native.Nat.{_+_, _-_, _≤_}
 use mathlib.Core.Path.{_≡_, refl, ap, _∙_}
 use native.Mathlib.Nat.{le-antisymm}
 use native.Mathlib.Numerals.{add-one}
@@ -21,7 +21,7 @@ abbrev μ-loop : tie.MeasureT-loop
 μ-loop cont start coefficients₀ i₀ i-end coefficients i = length cont - i
 
 loop-holds : tie.Need-loop-holds Inv-loop μ-loop
-loop-holds c = (omega arith, refl, paste-zero _ _ _)
+loop-holds c = (omega arith, refl, paste-zero (c .args .coefficients .now) (c .args .start) (c .args .cont .now))
 
 mul-coefficients : tie.Need-mul-coefficients Inv-loop μ-loop
 mul-coefficients c = omega arith
@@ -45,13 +45,26 @@ loop-less : tie.Need-loop-less Inv-loop μ-loop
 loop-less c = omega arith
 
 loop-again : tie.Need-loop-again Inv-loop μ-loop
-loop-again c = ?
+loop-again c =
+    let at-loop = c .before .before in
+    let args = at-loop .before .args in
+    let i = at-loop .loop .i in (
+      omega arith,
+      simp length-set (at-loop .loop .inv .1),
+      rw (add-one i) (ap (λ m. set m (args .start + i) (getD (args .cont .now) i nan)) (at-loop .loop .inv .2)
+          ∙ paste-suc (args .coefficients .now) (args .start) (args .cont .now) i nan (omega arith) (omega arith)),
+    )
 
 same-length : tie.Need-same-length Inv-loop μ-loop
 same-length c = c .before .loop .inv .1
 
 returns : tie.Need-returns Inv-loop μ-loop
-returns c = ?
+returns c =
+    let args = c .before .before .args in
+    c .before .loop .inv .2
+    ∙ ap (paste (args .coefficients .now) (args .start) (args .cont .now))
+    (le-antisymm (c .before .loop .inv .0) (c .loop-test .left))
+    ∙ over-paste (args .start) (args .cont .now) (args .coefficients .now)
 
 pub copy-spec : {M : Type 1} → statement M
 copy-spec =
