@@ -54,9 +54,9 @@ module _ {Wide Fits : Type 0} {A : Type 0} {outcome one two three : A} (number :
   other-exactly k no-two no-thirteen (narrow p e) =
       (λ h. absurd (no-two (sym h ∙ ap number e ∙ first)), λ f. absurd (p (f .0)))
   other-exactly k no-two no-thirteen (unfit p q e) =
-      (λ h. absurd (no-thirteen (sym h ∙ ap number e ∙ second)), λ f. absurd (q (f .1 .0)))
+      (λ h. absurd (no-thirteen (sym h ∙ ap number e ∙ second)), λ f. absurd (q (f .1)))
   other-exactly k no-two no-thirteen (done p q e) =
-      (λ h. (p, q, sym (ap number e) ∙ h), λ f. ap number e ∙ f .1 .1)
+      (λ h. (p, q, sym (ap number e) ∙ h), λ f. ap number e ∙ f .2)
 
 -- ---- putting
 
@@ -135,16 +135,16 @@ module _ (s : Shelf) (cont : List Float) (xold h : Float) (cs es : List Float) w
           let after : s' ≡ shelf (stepsAfter (s .steps)) (placeAfter (s .place)) = cc in
           record {
             steps =
-              (λ i. keptOf (after i) count (e i .coefficients) (e i .ends))
-              ∙ put-kept count (s .place) cont xold h cs es (p .0) (p .1) (q .place) (s .steps) (q .steps);
+                (λ i. keptOf (after i) count (e i .coefficients) (e i .ends))
+                ∙ put-kept count (s .place) cont xold h cs es (p .0) (p .1) (q .place) (s .steps) (q .steps);
             fit = rw after (record { steps = steps-low (s .steps) (q .steps); place = after-low (s .place) (q .place) });
             coefficients =
-              ap (λ (o : Placed). length (o .coefficients)) e
-              ∙ over-length (s .place * length cont) cont cs
-              (within-room count (length cont) (length cs) (s .place) (p .0) (p .1 .coefficients) (q .place));
+                ap (λ (o : Placed). length (o .coefficients)) e
+                ∙ over-length (s .place * length cont) cont cs
+                (within-room count (length cont) (length cs) (s .place) (p .0) (p .1 .coefficients) (q .place));
             ends =
-              ap (λ (o : Placed). length (o .ends)) e
-              ∙ over-length (2 * s .place) (xold ∷ h ∷ []) es (omega (arith, p .1 .ends, q .place));
+                ap (λ (o : Placed). length (o .ends)) e
+                ∙ over-length (2 * s .place) (xold ∷ h ∷ []) es (omega (arith, p .1 .ends, q .place));
           }
 
 -- ---- asking a list of steps
@@ -157,7 +157,7 @@ module _ (x : Float) (target : List Float) where
   answer-numbers : (k : ℕ) → (k ≡ 0 → ⊥) → (k ≡ 25 → ⊥) → (steps : List Step)
       → askNumber (answerOf x target steps) ≡ k → ⊥
   unfolding answerOf
-  answer-numbers k no-zero no-late [] e = no-late (sym e)
+  answer-numbers k no-zero no-late [] = λ e. no-late (sym e)
   answer-numbers k no-zero no-late (s ∷ older) =
       pick-all (λ (o : Asked). askNumber o ≡ k → ⊥) (holds x (s .xold) (s .h)) _ _ (λ _ e. no-zero (sym e))
       (λ _. answer-numbers k no-zero no-late older)
@@ -165,18 +165,18 @@ module _ (x : Float) (target : List Float) where
   pub none-proof : (steps : List Step) → (askNumber (answerOf x target steps) ≡ 25) ↔ NoneHolds x steps
   unfolding answerOf NoneHolds
   none-proof [] = (λ _. tt, λ _. refl)
-  none-proof (s ∷ older) = by (holds x (s .xold) (s .h)) refl
+  none-proof (s ∷ older) = by (none-proof older) (holds x (s .xold) (s .h)) refl
     where
-      by : (b : Bool) → holds x (s .xold) (s .h) ≡ b
+      by : (askNumber (answerOf x target older) ≡ 25) ↔ NoneHolds x older → (b : Bool) → holds x (s .xold) (s .h) ≡ b
           → (askNumber (answerOf x target (s ∷ older)) ≡ 25) ↔ NoneHolds x (s ∷ older)
-      by true e = (
+      by rest true e = (
         λ z. let here : askNumber (answerOf x target (s ∷ older)) ≡ 0 = ap askNumber (pick-yes _ _ e) in
             absurd (omega arith),
         λ z. absurd (true≢false (sym e ∙ z .0)),
       )
-      by false e = (
-        λ z. (e, none-proof older .0 (sym (ap askNumber (pick-no _ _ e)) ∙ z)),
-        λ z. ap askNumber (pick-no _ _ e) ∙ none-proof older .1 (z .1),
+      by rest false e = (
+        λ z. (e, rest .0 (sym (ap askNumber (pick-no _ _ e)) ∙ z)),
+        λ z. ap askNumber (pick-no _ _ e) ∙ rest .1 (z .1),
       )
 
   pub newest-proof : (newer : List Step) (s : Step) (older : List Step) → NoneHolds x newer
@@ -190,7 +190,7 @@ module _ (x : Float) (target : List Float) where
   answer-kept : (steps : List Step) → (askNumber (answerOf x target steps) ≡ 0 → ⊥)
       → answerOf x target steps .target ≡ target
   unfolding answerOf
-  answer-kept [] other = refl
+  answer-kept [] = λ other. refl
   answer-kept (s ∷ older) =
       pick-all (λ (o : Asked). (askNumber o ≡ 0 → ⊥) → o .target ≡ target) (holds x (s .xold) (s .h)) _ _
       (λ _ other. absurd (other refl)) (λ _. answer-kept older)
@@ -234,8 +234,8 @@ module _ (s : Shelf) (x : Float) (target cs es : List Float) where
   pub ask-point-proof : (askNumber x target ask ≡ 25) ↔ (AskRoom × Fit s × NoneHolds x kept)
   ask-point-proof =
       let here = other-exactly (askNumber x target) refl refl 25 (λ z. omega arith) (λ z. omega arith) ask-way in (
-        λ z. (here .0 z .0, here .0 z .1 .0, none-proof x target kept .0 (here .0 z .1 .1)),
-        λ z. here .1 (z .0, z .1 .0, none-proof x target kept .1 (z .1 .1)),
+        λ z. (here .0 z .0, here .0 z .1, none-proof x target kept .0 (here .0 z .2)),
+        λ z. here .1 (z .0, z .1, none-proof x target kept .1 (z .2)),
       )
 
   pub ask-kept-proof : (askNumber x target ask ≡ 0 → ⊥) → ask .target ≡ target

@@ -4,9 +4,8 @@
 --     not-strict-ends     a step doesn't hold its own ends
 use mathlib.Core.Bool.{Bool, true≢false, _&&_}
 use mathlib.Core.Path.{_≡_, ap, sym}
-use mathlib.Core.List.{List, [], _∷_}
+use mathlib.Core.List.{List, [], _∷_, _++_}
 use lib.Dec.{eqb}
-use lib.ListN.{reverse}
 use lib.Ieee.{Float, binary64, add, sub, mul, div, le, lt, ofBits, toBits}
 use Rattle.words.specs.Words.{_!_}
 use Rattle.words.specs.Constants.{«0·0», «1·0», «2·0»}
@@ -33,8 +32,12 @@ newer = step («2·0» ∷ «0·0» ∷ «0·0» ∷ «0·0» ∷ []) «1·0» �
 
 -- ---- the oldest first
 
+abbrev reversed : List Step → List Step
+reversed [] = []
+reversed (s ∷ rest) = reversed rest ++ s ∷ []
+
 abbrev pub oldestFirst : Routine
-oldestFirst x target steps = answerOf x target (reverse steps)
+oldestFirst x target steps = answerOf x target (reversed steps)
 
 abbrev isTwo : Asked → Bool
 isTwo o = eqb (toBits binary64 (o .target ! 0)) 0x4000_0000_0000_0000

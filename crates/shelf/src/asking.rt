@@ -28,7 +28,13 @@ pub fn ask(shelf: Shelf, x: f64, target: &mut [f64], coefficients: &[f64], ends:
         Found::At(place) => {
             let start = place * (4 * n);
             let end = start + 4 * n;
-            interpolate(x, target, &coefficients[start..end], ends[2 * place], ends[2 * place + 1]);
+            interpolate(
+                x,
+                target,
+                &coefficients[start..end],
+                ends[2 * place],
+                ends[2 * place + 1],
+            );
             Asking::Answered
         }
         Found::Nothing => Asking::RefusedPoint,

@@ -11,6 +11,7 @@ const ENDS: usize = 96;
 
 // The most steps that are kept, and the last place.
 const MOST: usize = 48;
+
 const LAST: usize = 47;
 
 // Whether the two parts are as long as 48 steps of n amounts are. No product is formed, which might not fit.

@@ -4,6 +4,7 @@ ghost use mathlib.Core.Path.{_≡_};
 ghost use Rattle.shelf.specs.Shelf.{placeBefore, placeAfter, stepsAfter};
 
 const LAST: usize = 47;
+
 const MOST: usize = 48;
 
 pub fn place_before(place: usize) -> usize

@@ -31,7 +31,14 @@ fn copy(cont: &[f64], start: usize, coefficients: &mut [f64])
 
 // Keeps the step from xold by h with its coefficients, in the place of the oldest where all 48 are taken. The parts
 // have 48 times the coefficients' length, a multiple of 4, and 96.
-pub fn put(shelf: Shelf, cont: &[f64], xold: f64, h: f64, coefficients: &mut [f64], ends: &mut [f64]) -> Placing
+pub fn put(
+    shelf: Shelf,
+    cont: &[f64],
+    xold: f64,
+    h: f64,
+    coefficients: &mut [f64],
+    ends: &mut [f64],
+) -> Placing
     ensures { λ r. ⌜ placed r (now (coefficients .exit)) (now (ends .exit))
         ≡ putOf shelf (now (cont .entry)) xold h (now (coefficients .entry)) (now (ends .entry)) ⌝ }
 {

@@ -19,8 +19,6 @@ use Rattle.shelf.proofs.FindLaws.{Low, found-low}
 use Rattle.shelf.proofs.AskLaws.{ask-narrow, ask-unfit, ask-found}
 use Rattle.shelf.proofs.asking.ask.Statement.{statement}
 use Rattle.shelf.proofs.asking.ask.Tie as tie
-use Rattle.shelf.proofs.asking.ask.Reads as reads
-use Rattle.shelf.proofs.asking.ask.Lts as lts
 
 abbrev start : (c : tie.After-room-fits) → tie.Start
 start c = c .before .before .before .before
@@ -48,7 +46,7 @@ fit c = shelf-fit _ (fits c)
 abbrev at-find : (c : tie.After-known-told) → tie.After-find
 at-find c = c .before .before .before
 
-low : (c : tie.After-known-told) → c .before .found .given .0 ≤ 47
+low : (c : tie.After-known-told) → c .before .found .given .0 .0 ≤ 47
 low c =
     let at = at-find c .before in
     let args = start (at .before .before .before) .args in
@@ -56,14 +54,14 @@ low c =
     (found-low (args .x) (args .ends .now) (args .shelf .steps) (args .shelf .place) (fit at .place))
 
 inside : (c : tie.After-known-told)
-    → c .before .found .given .0 * (4 * length (start (at-find c .before .before .before .before) .args .target .now))
+    → c .before .found .given .0 .0 * (4 * length (start (at-find c .before .before .before .before) .args .target .now))
     + 4 * length (start (at-find c .before .before .before .before) .args .target .now)
     ≤ length (start (at-find c .before .before .before .before) .args .coefficients .now)
 inside c = within-room _ _ _ _ refl (room (at-find c .before .before .before) .coefficients) (low c)
 
 -- the furthest end that is read
 ended : (c : tie.After-known-told)
-    → 2 * (c .before .found .given .0) + 1 < length (start (at-find c .before .before .before .before) .args .ends .now)
+    → 2 * (c .before .found .given .0 .0) + 1 < length (start (at-find c .before .before .before .before) .args .ends .now)
 ended c = omega (arith, low c, room (at-find c .before .before .before) .ends)
 
 returns : tie.Need-returns
@@ -85,7 +83,16 @@ abbrev told : (c : tie.After-interpolate) → tie.After-known-told
 told c = c .before .before .before .before .before
 
 same-length : tie.Need-same-length
-same-length c = ?
+same-length c =
+    let at = c .before .before in
+    let known = told at in
+    let args = start (at-find known .before .before .before .before) .args in
+    let place = known .before .found .given .0 .0 in
+    let wide = 4 * length (args .target .now) in
+    ap (λ (o : Interpolation). length (o .yi)) (at .interpolate .ensures)
+    ∙ length-kept (args .x) (args .target .now)
+    (take (place * wide + wide - place * wide) (drop (place * wide) (args .coefficients .now)))
+    (args .ends .now ! (2 * place)) (args .ends .now ! (2 * place + 1))
 
 returns-3 : tie.Need-returns-3
 returns-3 c =
@@ -93,7 +100,7 @@ returns-3 c =
     let known = told at in
     let two = at-find known .before in
     let args = start (two .before .before .before) .args in
-    let place = known .before .found .given .0 in
+    let place = known .before .found .given .0 .0 in
     let n = length (args .target .now) in
     let size : place * (4 * n) + 4 * n - place * (4 * n) ≡ 4 * n = omega arith in
     ask-found (args .shelf) (args .x) (args .target .now) (args .coefficients .now) (args .ends .now)

@@ -11,8 +11,6 @@ use Rattle.shelf.proofs.Ring.{before-low}
 use Rattle.shelf.proofs.FindLaws.{found-none, found-here, found-on}
 use Rattle.shelf.proofs.finding.find.Statement.{statement}
 use Rattle.shelf.proofs.finding.find.Tie as tie
-use Rattle.shelf.proofs.finding.find.Reads as reads
-use Rattle.shelf.proofs.finding.find.Lts as lts
 
 abbrev Inv-loop : tie.InvT-loop
 Inv-loop x ends place steps at₀ left₀ at left =
@@ -63,7 +61,7 @@ returns : tie.Need-returns Inv-loop μ-loop
 returns c =
     let at-place = c .before .before .before .before in
     let loop = at-place .before .before in
-    let args = loop .before .args in
+    let args = loop .before .before .args in
     ap At (at-place .place-before .ensures)
     ∙ found-here (args .x) (args .ends .now) (loop .loop .at) (loop .loop .left) (at-place .before .loop-test .taken)
     (ap (λ p. holds (args .x) (args .ends .now ! (2 * p)) (args .ends .now ! (2 * p + 1)))
@@ -77,7 +75,7 @@ loop-again : tie.Need-loop-again Inv-loop μ-loop
 loop-again c =
     let at-place = c .before .before .before .before in
     let loop = at-place .before .before in
-    let args = loop .before .args in (
+    let args = loop .before .before .args in (
       low at-place,
       ap (λ p. foundFrom (args .x) (args .ends .now) p (loop .loop .left - 1)) (at-place .place-before .ensures)
           ∙ found-on (args .x) (args .ends .now) (loop .loop .at) (loop .loop .left)
@@ -89,7 +87,7 @@ loop-again c =
 
 returns-2 : tie.Need-returns-2 Inv-loop μ-loop
 returns-2 c =
-    let args = c .before .before .args in
+    let args = c .before .before .before .args in
     found-none (args .x) (args .ends .now) (c .before .loop .at) (c .before .loop .left) (c .loop-test .left)
     ∙ c .before .loop .inv .1
 

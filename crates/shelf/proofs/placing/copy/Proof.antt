@@ -10,8 +10,6 @@ use lib.Ieee.{nan}
 use Rattle.shelf.proofs.Over.{over-paste}
 use Rattle.shelf.proofs.placing.copy.Statement.{statement}
 use Rattle.shelf.proofs.placing.copy.Tie as tie
-use Rattle.shelf.proofs.placing.copy.Reads as reads
-use Rattle.shelf.proofs.placing.copy.Lts as lts
 
 abbrev Inv-loop : tie.InvT-loop
 Inv-loop cont start coefficients₀ i₀ i-end coefficients i =

@@ -16,8 +16,6 @@ use Rattle.shelf.proofs.TestLaws.{room-fit, shelf-fit, within-room}
 use Rattle.shelf.proofs.PutLaws.{put-uneven, put-narrow, put-unfit, put-done}
 use Rattle.shelf.proofs.placing.put.Statement.{statement}
 use Rattle.shelf.proofs.placing.put.Tie as tie
-use Rattle.shelf.proofs.placing.put.Reads as reads
-use Rattle.shelf.proofs.placing.put.Lts as lts
 
 abbrev start : (c : tie.After-room-fits) → tie.Start
 start c = c .before .before .before .before .before
