@@ -112,6 +112,16 @@ module _ (s : Shelf) (cont : List Float) (xold h : Float) (cs es : List Float) w
       by (unfit p q e) = (ap (λ (o : Placed). o .coefficients) e, ap (λ (o : Placed). o .ends) e)
       by (done p q e) = absurd (other (ap putNumber e))
 
+  pub put-done-proof : PutRoom → Fit s → put ≡ putAt s cont xold h cs es
+  put-done-proof room fit = by put-way
+    where
+      by : Way PutRoom (Fit s) put (placed placing.RefusedLength cs es) (placed placing.RefusedShelf cs es)
+          (putAt s cont xold h cs es)
+          → put ≡ putAt s cont xold h cs es
+      by (narrow p e) = absurd (p room)
+      by (unfit p q e) = absurd (q fit)
+      by (done p q e) = e
+
   -- of a step that was kept: all that is known of the shelf from then on
   pub record Kept (s' : Shelf) : Type 0 where
     pub steps : keptOf s' count (put .coefficients) (put .ends) ≡ shelved (step cont xold h) (keptOf s count cs es)

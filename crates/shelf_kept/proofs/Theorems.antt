@@ -1,0 +1,39 @@
+-- What a user cites, each theorem in words, its statement, and its proof from the files before.
+use Prim.Native.Nat.{ℕ}
+use mathlib.Core.Path.{_≡_, refl, sym, ap, subst, _∙_}
+use mathlib.Core.Bool.{Bool, true, false, _&&_, _||_}
+use mathlib.Core.List.{List, [], _∷_}
+use lib.ListN.{length, take}
+use lib.Ieee.{Float}
+use Rattle.words.specs.Loop.{pick}
+use Rattle.opening.specs.Rows.{Opening}
+use Rattle.history.specs.Host.{Action}
+use Rattle.account.specs.Journal.{Journal, FairFrom, after, JournalOf}
+use Rattle.account.proofs.Journals.{Sound, sound}
+use Rattle.shelf.specs.Shelf.{emptyShelf, keptOf}
+use Rattle.shelf.specs.Refusals.{Room}
+use Rattle.shelf_kept.specs.Kept.{stepsAccepted, unreported, Beside, beside, putWith, besideAfter, besideNow}
+use Rattle.shelf_kept.proofs.Journals.{kept-proof, pending-proof}
+
+-- What stands on the shelf of a host that puts the held step there at each report after the first and empties it when it
+-- replies 'modified' is, in order, the newest 48 of the steps accepted since the last modified point: at every point of
+-- every journal, but between an acceptance and its report.
+pub shelf-keeps : (o : Opening) (j : Journal) → JournalOf o j → (coefficients ends : List Float)
+    → Room (o .n) (length coefficients) (length ends) → unreported (j .turns) ≡ false
+    → keptOf (besideNow (beside emptyShelf coefficients ends) j .shelf) (o .n)
+    (besideNow (beside emptyShelf coefficients ends) j .coefficients)
+    (besideNow (beside emptyShelf coefficients ends) j .ends)
+    ≡ take 48 (stepsAccepted (j .point) (j .turns))
+shelf-keeps = kept-proof
+
+-- Between the two the same holds once the step that is held is put there, as at an end that comes before the report.
+pub shelf-keeps-unreported : (o : Opening) (j : Journal) → JournalOf o j → (coefficients ends : List Float)
+    → Room (o .n) (length coefficients) (length ends) → unreported (j .turns) ≡ true
+    → keptOf (putWith (j .point) (j .point .run .numbers .xold)
+    (besideAfter (beside emptyShelf coefficients ends) (j .turns)) .shelf) (o .n)
+    (putWith (j .point) (j .point .run .numbers .xold)
+    (besideAfter (beside emptyShelf coefficients ends) (j .turns)) .coefficients)
+    (putWith (j .point) (j .point .run .numbers .xold)
+    (besideAfter (beside emptyShelf coefficients ends) (j .turns)) .ends)
+    ≡ take 48 (stepsAccepted (j .point) (j .turns))
+shelf-keeps-unreported = pending-proof
