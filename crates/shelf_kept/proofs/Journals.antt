@@ -20,6 +20,8 @@ use Rattle.account.proofs.FirstPoint.{opens}
 use Rattle.account.proofs.Journals.{Sound, sound-first, sound-next, sound}
 use Rattle.shelf.specs.Shelf.{Step, emptyShelf, keptOf}
 use Rattle.shelf.specs.Refusals.{Room}
+use Rattle.shelf.specs.Ask.{answerOf, askOf}
+use Rattle.shelf.proofs.Theorems.{ask-answer}
 use Rattle.shelf_kept.specs.Kept.{stepHeld, stepsAccepted, unreported, reportedIn}
 use Rattle.shelf_kept.specs.Kept.{Beside, beside, putWith, besideAfter, besideNow}
 use Rattle.shelf_kept.proofs.Ways.{isAccepted, isLater, isBegun}
@@ -67,19 +69,36 @@ module _ (o : Opening) (j : Journal) (of : JournalOf o j) (coefficients ends : L
       })
       (of .fair))
 
+  -- the shelf with an open report's step put there
+  now : Shelves (o .n) (besideNow b j)
+      (pick (isReport (j .point .request) && reportedIn (j .turns)) (stepHeld (j .point) ∷ putsIn (j .turns))
+      (putsIn (j .turns)))
+  now =
+      shelves-reported o (j .point) (both .sound .held) (j .turns) (besideAfter b (j .turns)) (putsIn (j .turns))
+      (both .shelves)
+
   pub kept-proof : unreported (j .turns) ≡ false
       → keptOf (besideNow b j .shelf) (o .n) (besideNow b j .coefficients) (besideNow b j .ends)
       ≡ take 48 (stepsAccepted (j .point) (j .turns))
   kept-proof off =
       let s = j .point .run .stage in
-      let here = shelves-reported o (j .point) (both .sound .held) (j .turns) (besideAfter b (j .turns))
-      (putsIn (j .turns)) (both .shelves) in
       let same : isReport (j .point .request) && reportedIn (j .turns) ≡ due s =
       (λ i. matches-report (both .sound .held .matches) i && both .told .begun i)
       ∙ reports-due s (sym (both .told .pending) ∙ off) in
-      here .kept
+      now .kept
       ∙ ap (take 48)
       (ap (λ c. pick c (stepHeld (j .point) ∷ putsIn (j .turns)) (putsIn (j .turns))) same ∙ sym (both .told .steps))
+
+  pub answers-proof : unreported (j .turns) ≡ false → (x : Float) (target : List Float) → length target ≡ o .n
+      → askOf (besideNow b j .shelf) x target (besideNow b j .coefficients) (besideNow b j .ends)
+      ≡ answerOf x target (take 48 (stepsAccepted (j .point) (j .turns)))
+  answers-proof off x target long =
+      ask-answer (besideNow b j .shelf) x target (besideNow b j .coefficients) (besideNow b j .ends)
+      (subst (λ n. Room n (length (besideNow b j .coefficients)) (length (besideNow b j .ends))) (sym long) (now .room))
+      (now .fit)
+      ∙ ap (answerOf x target)
+      (ap (λ n. keptOf (besideNow b j .shelf) n (besideNow b j .coefficients) (besideNow b j .ends)) long
+      ∙ kept-proof off)
 
   pub pending-proof : unreported (j .turns) ≡ true
       → keptOf (putWith (j .point) (j .point .run .numbers .xold) (besideAfter b (j .turns)) .shelf) (o .n)

@@ -1,19 +1,16 @@
 -- What a user cites, each theorem in words, its statement, and its proof from the files before.
-use Prim.Native.Nat.{ℕ}
-use mathlib.Core.Path.{_≡_, refl, sym, ap, subst, _∙_}
-use mathlib.Core.Bool.{Bool, true, false, _&&_, _||_}
-use mathlib.Core.List.{List, [], _∷_}
+use mathlib.Core.Path.{_≡_}
+use mathlib.Core.Bool.{true, false}
+use mathlib.Core.List.{List}
 use lib.ListN.{length, take}
 use lib.Ieee.{Float}
-use Rattle.words.specs.Loop.{pick}
 use Rattle.opening.specs.Rows.{Opening}
-use Rattle.history.specs.Host.{Action}
-use Rattle.account.specs.Journal.{Journal, FairFrom, after, JournalOf}
-use Rattle.account.proofs.Journals.{Sound, sound}
+use Rattle.account.specs.Journal.{Journal, JournalOf}
 use Rattle.shelf.specs.Shelf.{emptyShelf, keptOf}
 use Rattle.shelf.specs.Refusals.{Room}
-use Rattle.shelf_kept.specs.Kept.{stepsAccepted, unreported, Beside, beside, putWith, besideAfter, besideNow}
-use Rattle.shelf_kept.proofs.Journals.{kept-proof, pending-proof}
+use Rattle.shelf.specs.Ask.{answerOf, askOf}
+use Rattle.shelf_kept.specs.Kept.{stepsAccepted, unreported, beside, putWith, besideAfter, besideNow}
+use Rattle.shelf_kept.proofs.Journals.{kept-proof, answers-proof, pending-proof}
 
 -- What stands on the shelf of a host that puts the held step there at each report after the first and empties it when it
 -- replies 'modified' is, in order, the newest 48 of the steps accepted since the last modified point: at every point of
@@ -26,7 +23,17 @@ pub shelf-keeps : (o : Opening) (j : Journal) → JournalOf o j → (coefficient
     ≡ take 48 (stepsAccepted (j .point) (j .turns))
 shelf-keeps = kept-proof
 
--- Between the two the same holds once the step that is held is put there, as at an end that comes before the report.
+-- And asking that shelf equals the definition over that list of steps, for every x.
+pub shelf-answers : (o : Opening) (j : Journal) → JournalOf o j → (coefficients ends : List Float)
+    → Room (o .n) (length coefficients) (length ends) → unreported (j .turns) ≡ false
+    → (x : Float) (target : List Float) → length target ≡ o .n
+    → askOf (besideNow (beside emptyShelf coefficients ends) j .shelf) x target
+    (besideNow (beside emptyShelf coefficients ends) j .coefficients)
+    (besideNow (beside emptyShelf coefficients ends) j .ends)
+    ≡ answerOf x target (take 48 (stepsAccepted (j .point) (j .turns)))
+shelf-answers = answers-proof
+
+-- Between an acceptance and its report the same holds once the step that is held is put there, as at an end that comes before the report.
 pub shelf-keeps-unreported : (o : Opening) (j : Journal) → JournalOf o j → (coefficients ends : List Float)
     → Room (o .n) (length coefficients) (length ends) → unreported (j .turns) ≡ true
     → keptOf (putWith (j .point) (j .point .run .numbers .xold)
