@@ -62,6 +62,10 @@ pub struct Tally {
     pub unmoved: [u64; 16],
     pub powers: u64,
     pub dense: u64,
+    // Past points that were asked for, those of them that a kept step held, and those asked where over 48 were put.
+    pub asked: u64,
+    pub held: u64,
+    pub given_up: u64,
     pub scalars: u64,
     pub matrices: u64,
     // Runs by n.
@@ -123,6 +127,7 @@ fn lines(t: &Tally) -> Vec<String> {
         numbered("advances refused by number", &t.unmoved),
         format!("powers in solve {}, interpolations {}, scalar routines {}, matrix routines {}", t.powers, t.dense,
             t.scalars, t.matrices),
+        format!("past points asked for {}, held by a kept step {}, past 48 steps {}", t.asked, t.held, t.given_up),
     ]
 }
 

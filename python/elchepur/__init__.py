@@ -1,6 +1,7 @@
 """The stiff solver RADAU (Radau IIA, order 5), proved in Rattle: the library behind include/elchepur.h, for Python.
 
-`solve` runs a problem of one's own, `forecast` a model sheet, which `Sheet` reads and writes. A result is a run that
+`solve` runs a problem of one's own, whose last steps a `Shelf` keeps, `forecast` a model sheet, which `Sheet` reads and
+writes. A result is a run that
 succeeded: every other end raises, unless one asks with `check=False` to be told by the result. README.md
 beside this folder says how to get the library."""
 
@@ -8,6 +9,7 @@ from ._errors import BrokenOff, Error, NoLibrary, Refused, ShortenedStep, Unprov
 from ._library import load
 from ._run import Step
 from ._sheets import Forecast, Sheet, bits_of, double_of, forecast
+from ._shelf import Shelf
 from ._solving import INTERRUPT, Mark, Modified, Result, Solution, solve
 
 __all__ = [
@@ -21,6 +23,7 @@ __all__ = [
     "Refused",
     "Result",
     "Sheet",
+    "Shelf",
     "ShortenedStep",
     "Solution",
     "Step",

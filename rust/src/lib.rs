@@ -49,6 +49,7 @@ mod refused;
 mod run;
 mod settings;
 mod sheet;
+mod shelf;
 pub mod solout;
 pub mod status;
 mod system;
@@ -56,6 +57,7 @@ mod tolerance;
 
 pub use crate::forecast::{forecast, BrokenOffSheet, Forecast, NoForecast};
 pub use crate::sheet::{NoSheet, Reaction, Sheet};
+pub use crate::shelf::{Shelf, Shelved};
 
 /// Whether the archive behind this crate bears the mark of the kit that proves. It does, unless whoever built this
 /// program set ELCHEPUR_ALLOW_UNPROVED.
@@ -82,6 +84,7 @@ pub mod prelude {
     pub use crate::matrix::{Matrix, MatrixStorage};
     pub use crate::methods::{Evals, IntegrationResult, RADAUBuilder, Rule, Steps, Tolerance, RADAU};
     pub use crate::sheet::{NoSheet, Reaction, Sheet};
+    pub use crate::shelf::{Shelf, Shelved};
     pub use crate::solout::{AtPoints, ControlFlag, NoSolOut, SolOut};
     pub use crate::status::Status;
 }

@@ -58,14 +58,7 @@ pub extern "C" fn elchepur_put_on_shelf(
         × (now (ends .exit) ≡ putOf (shelfFrom (now (shelf .entry))) (now (cont .entry)) xold h
         (now (coefficients .entry)) (now (ends .entry)) .ends) ⌝ }
 {
-    let answer = shelf::put(
-        shelf_from(shelf),
-        cont,
-        xold,
-        h,
-        coefficients,
-        ends,
-    );
+    let answer = shelf::put(shelf_from(shelf), cont, xold, h, coefficients, ends);
     match answer {
         Placing::Kept(after) => {
             *shelf = [after.steps, after.place];
@@ -91,11 +84,5 @@ pub extern "C" fn elchepur_ask_shelf(
         × (now (target .exit) ≡ askOf (shelfFrom (now (shelf .entry))) x (now (target .entry))
         (now (coefficients .entry)) (now (ends .entry)) .target) ⌝ }
 {
-    asking_number(shelf::ask(
-        shelf_from(shelf),
-        x,
-        target,
-        coefficients,
-        ends,
-    ))
+    asking_number(shelf::ask(shelf_from(shelf), x, target, coefficients, ends))
 }

@@ -79,13 +79,13 @@ shelves-put n here xold b steps long s =
     ap (λ (o : Placed). shelfAfter (o .answer) (b .shelf)) done in
     record {
       kept =
-        ap (λ t. keptOf t n (putOf (b .shelf) cont xold h (b .coefficients) (b .ends) .coefficients)
-        (putOf (b .shelf) cont xold h (b .coefficients) (b .ends) .ends)) same
-        ∙ subst (λ m. keptOf after m (putOf (b .shelf) cont xold h (b .coefficients) (b .ends) .coefficients)
-        (putOf (b .shelf) cont xold h (b .coefficients) (b .ends) .ends)
-        ≡ shelved (step cont xold h) (keptOf (b .shelf) m (b .coefficients) (b .ends))) count (k .steps)
-        ∙ ap (λ l. shelved (step cont xold h) l) (s .kept)
-        ∙ ap (λ l. step cont xold h ∷ l) (take-take 47 48 steps (omega arith));
+          ap (λ t. keptOf t n (putOf (b .shelf) cont xold h (b .coefficients) (b .ends) .coefficients)
+          (putOf (b .shelf) cont xold h (b .coefficients) (b .ends) .ends)) same
+          ∙ subst (λ m. keptOf after m (putOf (b .shelf) cont xold h (b .coefficients) (b .ends) .coefficients)
+          (putOf (b .shelf) cont xold h (b .coefficients) (b .ends) .ends)
+          ≡ shelved (step cont xold h) (keptOf (b .shelf) m (b .coefficients) (b .ends))) count (k .steps)
+          ∙ ap (λ l. shelved (step cont xold h) l) (s .kept)
+          ∙ ap (λ l. step cont xold h ∷ l) (take-take 47 48 steps (omega arith));
       fit = subst Fit (sym same) (k .fit);
       room = record {
         coefficients = k .coefficients ∙ s .room .coefficients;
