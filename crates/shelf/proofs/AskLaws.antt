@@ -20,7 +20,8 @@ module _ (s : Shelf) (x : Float) (target cs es : List Float) where
   abbrev pub outcome : Asked
   outcome = askOf s x target cs es
 
-  pub ask-narrow : roomFits (length target) (length cs) (length es) ≡ false → asked asking.RefusedLength target ≡ outcome
+  pub ask-narrow : roomFits (length target) (length cs) (length es) ≡ false
+      → asked asking.RefusedLength target ≡ outcome
   unfolding askOf
   ask-narrow e = yes _ _ _ (ap not e) refl
 

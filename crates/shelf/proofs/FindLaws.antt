@@ -34,7 +34,8 @@ module _ (x : Float) (ends : List Float) where
   found-none place zero l = refl
   found-none place (suc left) l = absurd (omega arith)
 
-  pub found-here : (place left : ℕ) → 0 < left → here place ≡ true → At (placeBefore place) ≡ foundFrom x ends place left
+  pub found-here : (place left : ℕ) → 0 < left → here place ≡ true
+      → At (placeBefore place) ≡ foundFrom x ends place left
   unfolding foundFrom
   found-here place zero l e = absurd (omega arith)
   found-here place (suc left) l e = sym (pick-yes _ _ e)

@@ -147,7 +147,9 @@ module _ (s : Shelf) (cont : List Float) (xold h : Float) (cs es : List Float) w
             steps =
                 (λ i. keptOf (after i) count (e i .coefficients) (e i .ends))
                 ∙ put-kept count (s .place) cont xold h cs es (p .0) (p .1) (q .place) (s .steps) (q .steps);
-            fit = rw after (record { steps = steps-low (s .steps) (q .steps); place = after-low (s .place) (q .place) });
+            fit =
+                rw after
+                (record { steps = steps-low (s .steps) (q .steps); place = after-low (s .place) (q .place) });
             coefficients =
                 ap (λ (o : Placed). length (o .coefficients)) e
                 ∙ over-length (s .place * length cont) cont cs

@@ -75,7 +75,8 @@ module _ {A : Type 0} (start : ℕ) (values room : List A) (fits : start + lengt
       ∙ ap (λ (k : ℕ). drop k room) f)
 
   module _ (default : A) where
-    pub entry-here : (k : ℕ) → k < length values → getD (over start values room) (start + k) default ≡ getD values k default
+    pub entry-here : (k : ℕ) → k < length values
+        → getD (over start values room) (start + k) default ≡ getD values k default
     entry-here k h =
         sym (getD-drop start (over start values room) k default)
         ∙ sym (getD-take (length values) (drop start (over start values room)) k default h)
@@ -94,5 +95,6 @@ module _ {A : Type 0} (start : ℕ) (values room : List A) (fits : start + lengt
     pub entry-before : (i : ℕ) → i < start → getD (over start values room) i default ≡ getD room i default
     entry-before i h = entry-kept i (part-before i 1 (omega arith))
 
-    pub entry-after : (i : ℕ) → start + length values ≤ i → getD (over start values room) i default ≡ getD room i default
+    pub entry-after : (i : ℕ) → start + length values ≤ i
+        → getD (over start values room) i default ≡ getD room i default
     entry-after i h = entry-kept i (part-after i 1 h)

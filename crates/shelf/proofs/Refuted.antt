@@ -1,5 +1,5 @@
--- Wrong readings of 02's request for a shelf, each as a routine that takes it, and each refuted: for one list of steps it
--- gives what the contract doesn't allow.
+-- Wrong readings of 02's request for a shelf, each as a routine that takes it, and each refuted: for one list of steps
+-- it gives what the contract doesn't allow.
 --     not-oldest-first    at a point that two steps hold, the older one answers
 --     not-strict-ends     a step doesn't hold its own ends
 use mathlib.Core.Bool.{Bool, true≢false, _&&_}
@@ -44,8 +44,8 @@ isTwo o = eqb (toBits binary64 (o .target ! 0)) 0x4000_0000_0000_0000
 
 -- at 1, an end of both, the newer answers
 pub not-oldest-first : Meets oldestFirst → ⊥
-unfolding answerOf holds boundsOf interpolateOf interpolateAt amountOf polynomialOf placeOf loop pick add sub mul div le lt
-    ofBits toBits
+unfolding answerOf holds boundsOf interpolateOf interpolateAt amountOf polynomialOf placeOf loop pick add sub mul div
+    le lt ofBits toBits
 not-oldest-first meets = true≢false (sym (ap isTwo (meets «1·0» («0·0» ∷ []) (newer ∷ older ∷ []))))
 
 -- ---- strict ends
@@ -61,6 +61,6 @@ abbrev isAnswered : Asked → Bool
 isAnswered o = eqb (askingNumber (o .answer)) 0
 
 pub not-strict-ends : Meets strictEnds → ⊥
-unfolding answerOf holds boundsOf interpolateOf interpolateAt amountOf polynomialOf placeOf loop pick add sub mul div le lt
-    ofBits toBits
+unfolding answerOf holds boundsOf interpolateOf interpolateAt amountOf polynomialOf placeOf loop pick add sub mul div
+    le lt ofBits toBits
 not-strict-ends meets = true≢false (sym (ap isAnswered (meets «1·0» («0·0» ∷ []) (older ∷ []))))

@@ -65,7 +65,8 @@ wrote-cont (request.Ended s) p a m = refl
 -- ---- the advance from an acceptance to its report keeps the step
 
 abbrev stepCalled : Logged Called → Step
-stepCalled l = step (l .core .memory .amounts .cont) (l .core .call .run .numbers .xold) (l .core .call .run .numbers .h)
+stepCalled l =
+    step (l .core .memory .amounts .cont) (l .core .call .run .numbers .xold) (l .core .call .run .numbers .h)
 
 reports-step : (r : Run) (p : Reply) (m : Memory) → r .stage ≡ stage.Accepted
     → stepCalled (wholeOf r p m) ≡ step (m .amounts .cont) (r .numbers .xold) (r .numbers .h)
@@ -198,7 +199,8 @@ module _ (o : Opening) (j : Journal) (a : Action) (s : Sound o j) (fair : Fair (
   asks-report : isReport (j .point .request) ≡ askingAt (r .stage) .report
   asks-report = matches-report (s .held .matches)
 
-  report-begun : isReport (j .point .request) && reportedIn (j .turns) ≡ askingAt (r .stage) .report && isBegun (r .stage)
+  report-begun : isReport (j .point .request) && reportedIn (j .turns)
+      ≡ askingAt (r .stage) .report && isBegun (r .stage)
   report-begun = λ i. asks-report i && told .begun i
 
   abbrev before : List Step
@@ -243,10 +245,12 @@ module _ (o : Opening) (j : Journal) (a : Action) (s : Sound o j) (fair : Fair (
     where
       by : (b : Bool) → isAccepted (r .stage) ≡ b
           → pick (accepts (l .log)) (stepHeld (advanced j a .point) ∷ before) before
-          ≡ pick (due after-stage) (stepHeld (advanced j a .point) ∷ putsIn (here ∷ j .turns)) (putsIn (here ∷ j .turns))
+          ≡ pick (due after-stage) (stepHeld (advanced j a .point) ∷ putsIn (here ∷ j .turns))
+          (putsIn (here ∷ j .turns))
       by false e =
           let same : accepts (l .log) ≡ due after-stage =
-          comes .accepted ∙ sym (or-false (isAccepted after-stage)) ∙ ap (λ b. isAccepted after-stage || b) (sym (comes .later ∙ e)) in
+          comes .accepted ∙ sym (or-false (isAccepted after-stage))
+          ∙ ap (λ b. isAccepted after-stage || b) (sym (comes .later ∙ e)) in
           ap (λ (x : List Step). pick (accepts (l .log)) (stepHeld (advanced j a .point) ∷ x) x) (before-put e)
           ∙ ap (λ b. pick b (stepHeld (advanced j a .point) ∷ putsIn (here ∷ j .turns)) (putsIn (here ∷ j .turns))) same
       by true e =

@@ -30,7 +30,10 @@ use Rattle.shelf_kept.proofs.Shelves.{Shelves, shelves-empty, shelves-p
 
 told-first : (o : Opening) (j : Journal) → Starts (openOf o) j → Told j
 unfolding Starts stepsAccepted putsIn unreported reportedIn isAccepted isLater isBegun pick
-told-first o j s = let p = opens o j s in rw (s .2) (record { steps = rw (p .stage) refl; begun = rw (p .stage) refl; pending = rw (p .stage) refl })
+told-first o j s =
+    let p = opens o j s in
+    rw (s .2)
+    (record { steps = rw (p .stage) refl; begun = rw (p .stage) refl; pending = rw (p .stage) refl })
 
 pub record Both (o : Opening) (b : Beside) (j : Journal) : Type 0 where
   pub sound : Sound o j

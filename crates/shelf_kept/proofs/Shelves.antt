@@ -102,7 +102,9 @@ module _ (o : Opening) (here : Point) (held : Held o here) (ts : List Turn) wher
   by-request (request.Jacobian x) e b steps s = s
   by-request (request.Report xold x offered) e b steps s =
       let named = subst (λ (q : Request). Reports q (here .run)) e (held .reports) in
-      subst (λ w. Shelves (o .n) (putWith here xold b) (step (here .memory .amounts .cont) w (here .run .numbers .h) ∷ steps))
+      subst
+      (λ w. Shelves (o .n) (putWith here xold b)
+      (step (here .memory .amounts .cont) w (here .run .numbers .h) ∷ steps))
       (named .0) (shelves-put (o .n) here xold b steps (held .long .cont) s)
   by-request (request.Ended t) e b steps s = s
 

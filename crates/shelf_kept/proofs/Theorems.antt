@@ -12,9 +12,9 @@ use Rattle.shelf.specs.Ask.{answerOf, askOf}
 use Rattle.shelf_kept.specs.Kept.{stepsAccepted, unreported, beside, putWith, besideAfter, besideNow}
 use Rattle.shelf_kept.proofs.Journals.{kept-proof, answers-proof, pending-proof}
 
--- What stands on the shelf of a host that puts the held step there at each report after the first and empties it when it
--- replies 'modified' is, in order, the newest 48 of the steps accepted since the last modified point: at every point of
--- every journal, but between an acceptance and its report.
+-- What stands on the shelf of a host that puts the held step there at each report after the first and empties it when
+-- it replies 'modified' is, in order, the newest 48 of the steps accepted since the last modified point: at every point
+-- of every journal, but between an acceptance and its report.
 pub shelf-keeps : (o : Opening) (j : Journal) → JournalOf o j → (coefficients ends : List Float)
     → Room (o .n) (length coefficients) (length ends) → unreported (j .turns) ≡ false
     → keptOf (besideNow (beside emptyShelf coefficients ends) j .shelf) (o .n)
@@ -33,7 +33,8 @@ pub shelf-answers : (o : Opening) (j : Journal) → JournalOf o j → (coefficie
     ≡ answerOf x target (take 48 (stepsAccepted (j .point) (j .turns)))
 shelf-answers = answers-proof
 
--- Between an acceptance and its report the same holds once the step that is held is put there, as at an end that comes before the report.
+-- Between an acceptance and its report the same holds once the step that is held is put there, as at an end that
+-- comes before the report.
 pub shelf-keeps-unreported : (o : Opening) (j : Journal) → JournalOf o j → (coefficients ends : List Float)
     → Room (o .n) (length coefficients) (length ends) → unreported (j .turns) ≡ true
     → keptOf (putWith (j .point) (j .point .run .numbers .xold)

@@ -19,7 +19,8 @@ unfolding wordsAfter
 returns c =
     let at = c .before .before .before .before in
     let args = start (from at) .args in
-    read (args .shelf .now) (sym (c .before .before .answer .given .1)) (at .before .before .before .before .put .ensures
+    read (args .shelf .now) (sym (c .before .before .answer .given .1))
+    (at .before .before .before .before .put .ensures
     ∙ ap (λ s. putOf s (args .cont .now) (args .xold) (args .h) (args .coefficients .now) (args .ends .now))
     (from at .shelf-from .ensures))
 
@@ -28,7 +29,8 @@ unfolding wordsAfter
 returns-2 c =
     let at = c .before .before in
     let args = start (from at) .args in
-    read (args .shelf .now) (sym (c .enum-told .given .1)) (at .before .before .before .before .put .ensures
+    read (args .shelf .now) (sym (c .enum-told .given .1))
+    (at .before .before .before .before .put .ensures
     ∙ ap (λ s. putOf s (args .cont .now) (args .xold) (args .h) (args .coefficients .now) (args .ends .now))
     (from at .shelf-from .ensures))
 
@@ -37,7 +39,8 @@ unfolding wordsAfter
 returns-3 c =
     let at = c .before .before in
     let args = start (from at) .args in
-    read (args .shelf .now) (sym (c .enum-told2 .given .1)) (at .before .before .before .before .put .ensures
+    read (args .shelf .now) (sym (c .enum-told2 .given .1))
+    (at .before .before .before .before .put .ensures
     ∙ ap (λ s. putOf s (args .cont .now) (args .xold) (args .h) (args .coefficients .now) (args .ends .now))
     (from at .shelf-from .ensures))
 

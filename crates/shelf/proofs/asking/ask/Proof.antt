@@ -54,14 +54,16 @@ low c =
     (found-low (args .x) (args .ends .now) (args .shelf .steps) (args .shelf .place) (fit at .place))
 
 inside : (c : tie.After-known-told)
-    → c .before .found .given .0 .0 * (4 * length (start (at-find c .before .before .before .before) .args .target .now))
+    → c .before .found .given .0 .0
+    * (4 * length (start (at-find c .before .before .before .before) .args .target .now))
     + 4 * length (start (at-find c .before .before .before .before) .args .target .now)
     ≤ length (start (at-find c .before .before .before .before) .args .coefficients .now)
 inside c = within-room _ _ _ _ refl (room (at-find c .before .before .before) .coefficients) (low c)
 
 -- the furthest end that is read
 ended : (c : tie.After-known-told)
-    → 2 * (c .before .found .given .0 .0) + 1 < length (start (at-find c .before .before .before .before) .args .ends .now)
+    → 2 * (c .before .found .given .0 .0) + 1
+    < length (start (at-find c .before .before .before .before) .args .ends .now)
 ended c = omega (arith, low c, room (at-find c .before .before .before) .ends)
 
 returns : tie.Need-returns
@@ -104,7 +106,8 @@ returns-3 c =
     let n = length (args .target .now) in
     let size : place * (4 * n) + 4 * n - place * (4 * n) ≡ 4 * n = omega arith in
     ask-found (args .shelf) (args .x) (args .target .now) (args .coefficients .now) (args .ends .now)
-    (wide (two .before .before)) (fits two) (At place) (sym (known .before .found .given .1) ∙ at-find known .find .ensures)
+    (wide (two .before .before)) (fits two) (At place)
+    (sym (known .before .found .given .1) ∙ at-find known .find .ensures)
     (ap (λ (o : Interpolation). asked asking.Answered (o .yi)) (at .interpolate .ensures)
     ∙ ap (λ k. asked asking.Answered (interpolateOf (args .x) (args .target .now)
     (take k (drop (place * (4 * n)) (args .coefficients .now))) (args .ends .now ! (2 * place))

@@ -39,7 +39,8 @@ fit : (c : tie.Else3) → Fit (start (c .before .before .before) .args .shelf)
 fit c = shelf-fit _ (fits c)
 
 inside : (c : tie.Else3)
-    → start (c .before .before .before) .args .shelf .place * length (start (c .before .before .before) .args .cont .now)
+    → start (c .before .before .before) .args .shelf .place
+    * length (start (c .before .before .before) .args .cont .now)
     + length (start (c .before .before .before) .args .cont .now)
     ≤ length (start (c .before .before .before) .args .coefficients .now)
 inside c =
@@ -87,7 +88,8 @@ same-length c =
     let at = work at-ends in
     let args = start (at .before .before .before) .args in
     ap length (at-ends .before .before .copy .ensures)
-    ∙ over-length (args .shelf .place * length (args .cont .now)) (args .cont .now) (args .coefficients .now) (inside at)
+    ∙ over-length (args .shelf .place * length (args .cont .now)) (args .cont .now) (args .coefficients .now)
+    (inside at)
 
 returns-4 : tie.Need-returns-4
 returns-4 c =
