@@ -236,6 +236,35 @@ def check_shortened(module):
 # --- What is taken for a library -----------------------------------------------------------------
 
 
+def check_shelf(module):
+    """A shelf beside a list of all steps, forwards and backwards, past 48 steps and a modified point."""
+    for end, modified_at in ((40.0, 0), (-40.0, 0), (40.0, 60)):
+        shelf, steps, count = module.Shelf(), [], itertools.count(1)
+
+        def report(xold, x, y, step):
+            shelf(xold, x, y, step)
+            steps.extend([step] if step else [])
+            if next(count) != modified_at:
+                return None
+            shelf.empty()
+            steps.clear()
+            return module.Modified(x, [y[0] + 0.125, y[1]])
+
+        module.solve(lambda x, y: [y[1], -y[0]], (0.0, end), [1.0, 0.0], rtol=1e-9, atol=1e-9, report=report)
+        insist(len(shelf) == min(len(steps), 48) > 0, f"{len(shelf)} steps are kept")
+        points = [x for step in steps for low, high in [step.bounds()] for x in (low, (low + high) / 2, high)]
+        for x in (*points, math.nan, 1e9, -1e9):
+            held = [step for step in steps[-48:] if step.bounds()[0] <= x <= step.bounds()[1]]
+            wanted = amounts_of(module, held[-1], x) if held else None
+            insist(shelf.at(x) == wanted, f"the shelf has {shelf.at(x)} at {x!r}, and not {wanted}")
+    insist(module.Shelf().at(0.0) is None, "an empty shelf answers")
+
+
+def amounts_of(module, step, x):
+    """What the coefficients alone give; a step itself has at its end the amounts that were reached."""
+    return module.Step(step.xold, math.nan, step.h, step.y, step._coefficients)(x)
+
+
 def marked(path, folder):
     """A library like this one with a mark in it, and one with none."""
     data = path.read_bytes()
@@ -299,6 +328,7 @@ def check(module, path):
     check_points(module)
     check_rounding(module)
     check_shortened(module)
+    check_shelf(module)
     check_readme(path)
     sheet = ROOT / "cylinders" / "nitric_oxide.sheet"
     found = [module.forecast(given) for given in (sheet, sheet.read_text(), sheet.read_bytes())]
