@@ -3,9 +3,9 @@
 //! tests/header.rs holds the declarations to the header.
 
 use crate::memory::Memory;
+use crate::numbers::SHELF;
 use crate::numbers::{AT, FLOATS, NUMBERS, PRINTED, RESULT_FLOATS, RESULT_NUMBERS, STATE, TOLD};
 use crate::numbers::{SHEET_AMOUNTS, SHEET_COUNTS, SHEET_MOST, SHEET_RATES, SHEET_SETTINGS, SHEET_SPECIES};
-use crate::numbers::SHELF;
 
 /// What is handed to an opening besides memory.
 #[derive(Clone)]
