@@ -1,6 +1,8 @@
 // Sheets, any bytes at all: what elchepur_forecast prints of them must be, byte for byte, what a reader and a host
 // apart from the proved code make of them (sheet.h, host.h), and nothing else may be written. Sheets that permit more
-// than a few steps are handed over with fewer, so that runs are short and many.
+// than a few steps are handed over with fewer, so that runs are short and many. Each is also read into arrays and
+// written out of them (arrays.h).
+#include "arrays.h"
 #include "host.h"
 #include "sheet.h"
 #include <inttypes.h>
@@ -79,6 +81,7 @@ extern "C" int LLVMFuzzerTestOneInput(const uint8_t *bytes, size_t count) {
         tally.shortened++;
     }
     judge(sheet, verdict);
+    judge_arrays(sheet, verdict);
     if (verdict.number == 0) tally.ran++;
     else tally.refused[verdict.number]++;
     return 0;

@@ -1,26 +1,10 @@
 // The settings of a sheet and its two counts, as plain numbers.
-ghost use Prim.Native.Nat.{_≤_};
 ghost use mathlib.Core.Path.{_≡_};
-ghost use Rattle.sheet.specs.Reader.{over, ruleFrom};
-ghost use Rattle.sheet.specs.Sheet.{ruleNumber};
+ghost use Rattle.sheet.specs.Reader.{over};
 ghost use Rattle.export_sheet.specs.Border.{headingGiven, settingWords, countWords};
 use sheet::sheet::Heading;
-use state::settings::Rule;
-
-fn rule_from(word: u64) -> Rule
-    ensures { λ r. ⌜ r ≡ ruleFrom word ⌝ }
-{
-    if word == 0 { Rule::Rust } else { Rule::Book }
-}
-
-fn rule_number(rule: Rule) -> u64
-    ensures { λ r. ⌜ r ≡ ruleNumber rule ⌝ }
-{
-    match rule {
-        Rule::Rust => 0,
-        Rule::Book => 1,
-    }
-}
+use sheet::sheet::rule_from;
+use sheet::sheet::rule_number;
 
 pub fn heading_from(settings: &[u64; 6], counts: &[usize; 2]) -> Heading
     ensures { λ r. ⌜ r ≡ headingGiven (now (settings .entry)) (now (counts .entry)) ⌝ }

@@ -1,5 +1,4 @@
 // A sheet in and its model out, and the other way.
-ghost use Prim.Native.Nat.{_≤_};
 ghost use mathlib.Core.Path.{_≡_};
 ghost use Rattle.sheet.specs.Reader.{readOf};
 ghost use Rattle.export_sheet.specs.Border.{sheetRead, readLeft, sheetWritten, writtenLeft};

@@ -8,6 +8,8 @@ use Rattle.sheet.specs.declared.sheet.Reading.{Reading}
 use Rattle.sheet.proofs.kind.kind_at as kindAt
 use Rattle.sheet.proofs.spelling.base as base
 use Rattle.sheet.proofs.spelling.width_by as widthBy
+use Rattle.sheet.proofs.sheet.rule_from as ruleFrom
+use Rattle.sheet.proofs.sheet.rule_number as ruleNumber
 use Rattle.sheet.proofs.sheet.read as read
 
 pub kind-at-once : Settles kindAt.Kinds.ps kindAt.Kinds.r kindAt.Reads.Asked kindAt.Reads.Post
@@ -18,6 +20,12 @@ base-once κs a = (tt, λ o p. one-result (o .1))
 
 pub width-by-once : Settles widthBy.Kinds.ps widthBy.Kinds.r widthBy.Reads.Asked widthBy.Reads.Post
 width-by-once κs a = (tt, λ o p. one-result (o .1))
+
+pub rule-from-once : Settles ruleFrom.Kinds.ps ruleFrom.Kinds.r ruleFrom.Reads.Asked ruleFrom.Reads.Post
+rule-from-once κs a = (tt, λ o p. one-result (o .1))
+
+pub rule-number-once : Settles ruleNumber.Kinds.ps ruleNumber.Kinds.r ruleNumber.Reads.Asked ruleNumber.Reads.Post
+rule-number-once κs a = (tt, λ o p. one-result (o .1))
 
 pub read-once : Settles read.Kinds.ps read.Kinds.r read.Reads.Asked read.Reads.Post
 read-once κs a = (

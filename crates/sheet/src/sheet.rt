@@ -2,6 +2,7 @@
 ghost use Prim.Native.Nat.{_≤_};
 ghost use mathlib.Core.Path.{_≡_};
 ghost use lib.ListN.{length};
+ghost use Rattle.sheet.specs.Sheet.{ruleNumber};
 ghost use Rattle.sheet.specs.Reader.{sheetOf, judgedIn, endedOf, ruleFrom, headingFrom};
 ghost use Rattle.sheet.specs.Reader.{readOf, answerOf, amountsLeft, ratesLeft, speciesLeft};
 use crate::fill::fill_amounts;
@@ -33,10 +34,20 @@ pub enum Reading {
     TooLong,
 }
 
-fn rule_from(value: u64) -> Rule
+// The rule of a number, of which a sheet has 0 and 1 alone; and the number of a rule.
+pub fn rule_from(value: u64) -> Rule
     ensures { λ r. ⌜ r ≡ ruleFrom value ⌝ }
 {
     if value == 0 { Rule::Rust } else { Rule::Book }
+}
+
+pub fn rule_number(rule: Rule) -> u64
+    ensures { λ r. ⌜ r ≡ ruleNumber rule ⌝ }
+{
+    match rule {
+        Rule::Rust => 0,
+        Rule::Book => 1,
+    }
 }
 
 // Bytes behind the last number are wrong.

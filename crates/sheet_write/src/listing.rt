@@ -2,19 +2,9 @@
 ghost use Prim.Native.Nat.{_*_, _≤_};
 ghost use mathlib.Core.Path.{_≡_};
 ghost use lib.ListN.{length, take};
-ghost use Rattle.sheet.specs.Sheet.{ruleNumber};
 ghost use Rattle.sheet_write.specs.Memory.{settingsIn, listedIn};
 use sheet::sheet::Heading;
-use state::settings::Rule;
-
-fn rule_number(rule: Rule) -> u64
-    ensures { λ r. ⌜ r ≡ ruleNumber rule ⌝ }
-{
-    match rule {
-        Rule::Rust => 0,
-        Rule::Book => 1,
-    }
-}
+use sheet::sheet::rule_number;
 
 // The settings, with their count before them and the number of species behind.
 pub fn settings_of(heading: Heading) -> [u64; 8]
