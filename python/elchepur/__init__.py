@@ -1,9 +1,8 @@
 """The stiff solver RADAU (Radau IIA, order 5), proved in Rattle: the library behind include/elchepur.h, for Python.
 
 `solve` runs a problem of one's own, whose last steps a `Shelf` keeps, `forecast` a model sheet, which `Sheet` reads and
-writes. A result is a run that
-succeeded: every other end raises, unless one asks with `check=False` to be told by the result. README.md
-beside this folder says how to get the library."""
+writes. A result is a run that succeeded: every other end raises, unless one asks with `check=False` to be told by the
+result. README.md beside this folder says how to get the library."""
 
 from ._errors import BrokenOff, Error, NoLibrary, Refused, ShortenedStep, Unproved
 from ._library import load

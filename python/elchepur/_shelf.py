@@ -8,8 +8,8 @@ from ._library import library
 
 
 class Shelf:
-    """A shelf of recent steps. As the `report` of `solve` it keeps each step; beside another, `put` is called at each
-    report that has a step, and `empty` where the answer is Modified."""
+    """A shelf of recent steps. Handed to `solve` it keeps each step that the run accepts, and is emptied at the first
+    report and where the report answers Modified."""
 
     def __init__(self):
         self._state = (ctypes.c_size_t * numbers.SHELF)()
@@ -41,9 +41,3 @@ class Shelf:
             return None
         insist(number)
         return list(amounts)
-
-    def __call__(self, xold, x, y, step):
-        if step is None:
-            self.empty()
-        else:
-            self.put(step)

@@ -5,9 +5,8 @@ use crate::dense::StepInterpolant;
 use crate::numbers::{REFUSED_POINT, SHELF, SHELF_ENDS, SHELF_STEPS};
 use crate::solout::{ControlFlag, SolOut};
 
-/// A shelf of recent steps: as the `SolOut` of a run it keeps each step that it is told, up to 48; where all are taken
-/// the oldest gives up its room. It wants `dense_output` on, as it is unless it is turned off: a report that offers no
-/// interpolant opens the shelf anew.
+/// A shelf of recent steps: as the `SolOut` of a run it keeps each step that was accepted, up to 48, `dense_output` on
+/// or off; where all are taken the oldest gives up its room.
 ///
 /// ```
 /// use elchepur::prelude::*;
@@ -33,7 +32,6 @@ use crate::solout::{ControlFlag, SolOut};
 #[derive(Clone, Debug)]
 pub struct Shelf {
     state: [usize; SHELF],
-    n: usize,
     coefficients: Vec<f64>,
     ends: [f64; SHELF_ENDS],
 }
@@ -41,7 +39,7 @@ pub struct Shelf {
 impl Shelf {
     /// A shelf without steps.
     pub fn new() -> Shelf {
-        let mut shelf = Shelf { state: [0; SHELF], n: 0, coefficients: Vec::new(), ends: [0.0; SHELF_ENDS] };
+        let mut shelf = Shelf { state: [0; SHELF], coefficients: Vec::new(), ends: [0.0; SHELF_ENDS] };
         shelf.empty();
         shelf
     }
@@ -61,11 +59,14 @@ impl Shelf {
         c::empty_shelf(&mut self.state);
     }
 
-    /// Keeps a step of n amounts.
+    /// Keeps a step.
     ///
     /// # Panics
-    /// Where the step has another number of amounts than those kept before.
+    /// Where the step has another number of amounts than those that are kept.
     pub fn put(&mut self, step: &StepInterpolant<'_>) {
+        if self.is_empty() {
+            self.coefficients.resize(SHELF_STEPS * step.parts().0.len(), 0.0);
+        }
         if let Err(number) = c::put_on_shelf(&mut self.state, step.parts(), &mut self.coefficients, &mut self.ends) {
             panic!("refused ({number}): the step has other amounts than the shelf");
         }
@@ -73,23 +74,11 @@ impl Shelf {
 
     /// The amounts at x, from the newest kept step whose bounds hold x, ends included; none where no kept step does.
     pub fn at(&self, x: f64) -> Option<Vec<f64>> {
-        let mut amounts = vec![0.0; self.n];
+        let mut amounts = vec![0.0; self.coefficients.len() / (4 * SHELF_STEPS)];
         match c::ask_shelf(&self.state, x, &mut amounts, &self.coefficients, &self.ends) {
             Ok(()) => Some(amounts),
             Err(REFUSED_POINT) => None,
             Err(number) => unreachable!("refused ({number}): the shelf has its room"),
-        }
-    }
-
-    // The first report of a run has no step, and says how many amounts there are.
-    fn told(&mut self, n: usize, step: Option<&StepInterpolant<'_>>) {
-        match step {
-            Some(step) => self.put(step),
-            None => {
-                self.n = n;
-                self.coefficients = vec![0.0; SHELF_STEPS * 4 * n];
-                self.empty();
-            }
         }
     }
 }
@@ -105,11 +94,17 @@ impl SolOut for Shelf {
         &mut self,
         _xold: f64,
         _x: &mut f64,
-        y: &mut [f64],
-        interpolant: Option<&StepInterpolant<'_>>,
+        _y: &mut [f64],
+        _interpolant: Option<&StepInterpolant<'_>>,
     ) -> ControlFlag {
-        self.told(y.len(), interpolant);
         ControlFlag::Continue
+    }
+
+    fn held(&mut self, step: Option<&StepInterpolant<'_>>) {
+        match step {
+            Some(step) => self.put(step),
+            None => self.empty(),
+        }
     }
 }
 
@@ -131,11 +126,15 @@ impl<S: SolOut> SolOut for Shelved<S> {
         y: &mut [f64],
         interpolant: Option<&StepInterpolant<'_>>,
     ) -> ControlFlag {
-        self.shelf.told(y.len(), interpolant);
         let flag = self.other.solout(xold, x, y, interpolant);
         if flag == ControlFlag::ModifiedSolution {
             self.shelf.empty();
         }
         flag
+    }
+
+    fn held(&mut self, step: Option<&StepInterpolant<'_>>) {
+        self.shelf.held(step);
+        self.other.held(step);
     }
 }

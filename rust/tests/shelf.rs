@@ -32,11 +32,14 @@ impl SolOut for All {
     }
 }
 
-/// The steps of a run to `end`, and a shelf of them.
-fn run(end: f64, modified_at: usize) -> Shelved<All> {
-    let mut told = Shelved { shelf: Shelf::new(), other: All { modified_at, ..All::default() } };
-    let solver = RADAU::builder().mass_storage(MatrixStorage::Identity).build();
-    solver.solve(&Circle, 0.0, &[1.0, 0.0], end, 1e-9.into(), 1e-9.into(), Some(&mut told)).expect("a result");
+/// The steps of a run to `end`, and a shelf of them, which an older run has left full.
+fn run(end: f64, modified_at: usize, dense_output: bool) -> Shelved<All> {
+    let mut told = Shelved { shelf: Shelf::new(), other: All::default() };
+    let solver = RADAU::builder().mass_storage(MatrixStorage::Identity).dense_output(dense_output).build();
+    for (end, modified_at) in [(100.0, 0), (end, modified_at)] {
+        told.other = All { modified_at, ..All::default() };
+        solver.solve(&Circle, 0.0, &[1.0, 0.0], end, 1e-9.into(), 1e-9.into(), Some(&mut told)).expect("a result");
+    }
     told
 }
 
@@ -62,7 +65,7 @@ fn same_everywhere(told: &Shelved<All>) {
 #[test]
 fn the_newest_of_the_last_48_answers() {
     for end in [40.0, -40.0] {
-        let told = run(end, 0);
+        let told = run(end, 0, true);
         assert!(told.other.steps.len() > 48);
         assert_eq!(told.shelf.len(), 48);
         same_everywhere(&told);
@@ -71,8 +74,36 @@ fn the_newest_of_the_last_48_answers() {
 
 #[test]
 fn a_modified_point_empties_it() {
-    let told = run(40.0, 60);
+    let told = run(40.0, 60, true);
     assert!(told.shelf.len() == told.other.steps.len().min(48) && !told.shelf.is_empty());
     assert_eq!(told.shelf.at(0.0), None);
     same_everywhere(&told);
+}
+
+#[test]
+fn steps_that_are_not_offered_are_kept_too() {
+    for modified_at in [0, 60] {
+        let (quiet, told) = (run(40.0, modified_at, false).shelf, run(40.0, modified_at, true));
+        assert_eq!(quiet.len(), told.shelf.len());
+        for step in &told.other.steps {
+            assert_eq!(quiet.at(step.bounds().1), told.shelf.at(step.bounds().1));
+        }
+    }
+}
+
+#[test]
+fn an_empty_shelf_takes_steps_of_any_number_of_amounts() {
+    struct Still;
+    impl FirstOrderSystem for Still {
+        fn derivative(&self, _x: f64, _y: &[f64], dydx: &mut [f64]) {
+            dydx.fill(0.0);
+        }
+    }
+    let solver = RADAU::builder().mass_storage(MatrixStorage::Identity).build();
+    let mut shelf = Shelf::new();
+    for n in [3, 1, 2] {
+        let start = vec![1.5; n];
+        solver.solve(&Still, 0.0, &start, 1.0, 1e-6.into(), 1e-9.into(), Some(&mut shelf)).expect("a result");
+        assert_eq!(shelf.at(0.5), Some(start));
+    }
 }
