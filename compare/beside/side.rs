@@ -44,7 +44,8 @@ impl Side {
         classes[tally::HOST] = opening.settings.host_jacobian;
         classes[tally::BOOK] = opening.settings.book;
         classes[tally::BACKWARD] = opening.xend < opening.x0;
-        let shelf = Shelf::new(opening.n, Draw::new(bits(opening.x0), bits(opening.xend)));
+        let own = Draw::new(bits(opening.x0), bits(opening.xend));
+        let shelf = Shelf::new(opening.n, classes[tally::BACKWARD], own);
         let (requests, reports, interrupted) = (0, 0, false);
         let (scalars, place, trace) = (None, 0, None);
         Side { ours, theirs, scalars, place, host, draw, shelf, reports, classes, requests, interrupted, trace }
@@ -137,7 +138,7 @@ impl Side {
         if let Some(step) = offered {
             self.dense(step, xold, *x);
         }
-        self.shelve(xold);
+        self.shelve(xold, *x, offered);
         let told = self.host.report(*x, y);
         match told {
             Told::Continue => self.advance(CONTINUE, None, &[]),
@@ -157,14 +158,16 @@ impl Side {
         told
     }
 
-    // Every step but the point of the first report goes on the shelf, offered or not.
-    fn shelve(&mut self, xold: f64) {
+    // Every step but the point of the first report goes on the shelf, offered or not. The Rust's own is kept where it is
+    // offered; else it is made of the Rust's coefficients.
+    fn shelve(&mut self, xold: f64, x: f64, offered: Option<&StepInterpolant<'_>>) {
         self.reports += 1;
         if self.reports > 1 {
             let (said, h) = self.ours.held_step();
             insist(said == 0, || format!("the step held is refused by {said}"));
-            let theirs = DenseSegment::new(self.theirs.cont.clone(), xold, h, RADAU::interpolate);
-            self.shelf.put(&self.ours.memory.cont, self.ours.at[0], h, theirs);
+            let made = || DenseSegment::new(self.theirs.cont.clone(), xold, h, RADAU::interpolate);
+            let theirs = offered.map_or_else(made, StepInterpolant::to_segment);
+            self.shelf.put(&self.ours.memory.cont, self.ours.at[0], h, x, theirs);
         }
     }
 

@@ -16,21 +16,26 @@ impl FirstOrderSystem for Cylinder {
     }
 }
 
+/// What the screen shows of a sheet.
+fn shown(sheet: &[u8]) -> Result<String, Box<dyn std::error::Error>> {
+    let cylinder = Cylinder(Sheet::read(sheet)?);
+    let Sheet { x0, xend, rtol, atol, max_steps, rule, ref amounts, .. } = cylinder.0;
+    let [x0, xend, rtol, atol] = [x0, xend, rtol, atol].map(f64::from_bits);
+    let start: Vec<f64> = amounts.iter().copied().map(f64::from_bits).collect();
+    let rule = if rule == 0 { Rule::Rust } else { Rule::Book };
+    let solver =
+        RADAU::builder().mass_storage(MatrixStorage::Identity).max_steps(max_steps as usize).rule(rule).build();
+    let mut shelf = Shelf::new();
+    let run = solver.solve(&cylinder, x0, &start, xend, rtol.into(), atol.into(), Some(&mut shelf))?;
+    let past = [14.0, 90.0, 365.0].map(|day| match shelf.at(day) {
+        Some(amounts) => format!("day {day}: {:.3}\n", amounts[0]),
+        None => format!("day {day}: no longer kept\n"),
+    });
+    Ok(format!("{}day {}: {:.3}, {} steps kept\n", past.concat(), run.x, run.y[0], shelf.len()))
+}
+
 fn main() -> Result<(), Box<dyn std::error::Error>> {
     let file = std::env::args().nth(1).unwrap_or_else(|| "../cylinders/nitric_oxide.sheet".to_string());
-    let cylinder = Cylinder(Sheet::read(&std::fs::read(file)?)?);
-    let start: Vec<f64> = cylinder.0.amounts.iter().map(|amount| f64::from_bits(*amount)).collect();
-    let (x0, xend) = (f64::from_bits(cylinder.0.x0), f64::from_bits(cylinder.0.xend));
-    let (rtol, atol) = (f64::from_bits(cylinder.0.rtol), f64::from_bits(cylinder.0.atol));
-    let mut shelf = Shelf::new();
-    let solver = RADAU::builder().mass_storage(MatrixStorage::Identity).build();
-    let run = solver.solve(&cylinder, x0, &start, xend, rtol.into(), atol.into(), Some(&mut shelf))?;
-    for day in [14.0, 90.0, 365.0] {
-        match shelf.at(day) {
-            Some(amounts) => println!("day {day}: {:.3}", amounts[0]),
-            None => println!("day {day}: no longer kept"),
-        }
-    }
-    println!("day {}: {:.3}, {} steps kept", run.x, run.y[0], shelf.len());
+    print!("{}", shown(&std::fs::read(file)?)?);
     Ok(())
 }
