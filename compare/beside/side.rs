@@ -158,8 +158,8 @@ impl Side {
         told
     }
 
-    // Every step but the point of the first report goes on the shelf, offered or not. The Rust's own is kept where it is
-    // offered; else it is made of the Rust's coefficients.
+    // Every step but the point of the first report goes on the shelf, offered or not. The Rust's own is kept where it
+    // is offered; else it is made of the Rust's coefficients.
     fn shelve(&mut self, xold: f64, x: f64, offered: Option<&StepInterpolant<'_>>) {
         self.reports += 1;
         if self.reports > 1 {

@@ -38,8 +38,8 @@ pub const WAS_NOT_FINITE: usize = 7;
 pub const BACKWARD: usize = 8;
 pub const BROKEN_OFF: usize = 9;
 
-// What becomes of a question about a past point: an answer; where over 48 steps were put; in a run that goes down; after
-// a modified point; from a step whose h was made shorter after its end was fixed; at a NaN.
+// Questions about past points: answered; where over 48 steps were put; in a run that goes down; after a modified point;
+// from a step whose h was made shorter after its end was fixed; at a NaN.
 const PAST: [&str; 6] =
     ["held by a kept step", "past 48 steps", "backward", "modified before", "by a shortened step", "at a NaN"];
 const PAIRS: [&str; 3] = ["the same", "2 and then 2", "2 and then another"];

@@ -1,5 +1,5 @@
-//! README.md: its diffs lead to the program that stands in examples/moved.rs, what it shows is what is printed there and
-//! by examples/screen.rs, and the Rust's paths are here.
+//! README.md: its diffs lead to the program that stands in examples/moved.rs, what it shows is what is printed there
+//! and by examples/screen.rs, and the Rust's paths are here.
 
 mod shared;
 

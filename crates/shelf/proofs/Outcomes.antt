@@ -9,14 +9,13 @@ use lib.Dec.{eqb}
 use lib.ListN.{length}
 use lib.Ieee.{Float, nan, le, lt, eq}
 use borrow.Author.Tests.{eqb-true, eqb-false}
-use Rattle.words.specs.Loop.{pick}
 use Rattle.words.proofs.Branch.{pick-yes, pick-no, pick-all}
 use Rattle.dense.specs.Bounds.{boundsOf}
 use Rattle.dense.specs.Interpolate.{interpolateOf}
 use Rattle.shelf.specs.declared.answers.Shelf.{Shelf}
 use Rattle.shelf.specs.declared.answers.Placing.the-variants as placing
 use Rattle.shelf.specs.declared.answers.Asking.the-variants as asking
-use Rattle.shelf.specs.Shelf.{Step, step, holds, shelved, placeAfter, stepsAfter, shelf, keptOf, over}
+use Rattle.shelf.specs.Shelf.{Step, step, holds, shelved, placeAfter, stepsAfter, shelf, keptOf}
 use Rattle.shelf.specs.Answers.{Placed, placed, placingNumber, Asked, asked, askingNumber}
 use Rattle.shelf.specs.Refusals.{roomFits, shelfFits, Room, Fit}
 use Rattle.shelf.specs.Put.{putAt, putOf}

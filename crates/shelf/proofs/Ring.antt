@@ -1,7 +1,6 @@
 -- The ring of places: a step that is put at the place of a shelf is the newest of the list, and the others follow.
 use Prim.Native.Nat.{ℕ, zero, suc, _+_, _-_, _*_, _≤_, _<_}
 use mathlib.Core.Path.{_≡_, refl, sym, ap, subst, _∙_}
-use mathlib.Core.Bool.{Bool, true, false}
 use mathlib.Core.List.{List, [], _∷_}
 use mathlib.Core.Logic.{_⊎_, inl, inr, ⊎-elim}
 use native.Mathlib.Decide.{decLt}
@@ -9,16 +8,14 @@ use native.Mathlib.Nat.{mul-le-mul-right, suc-mul}
 use native.Mathlib.Numerals.{add-one}
 use native.Mathlib.Omega.{arith}
 use lib.Dec.{eqb}
-use lib.ListN.{length, getD, take, drop}
+use lib.ListN.{length, take, drop}
 use lib.Seq.{take-all}
 use lib.Ieee.{Float, nan}
 use borrow.Author.Tests.{eqb-true, eqb-false}
 use Rattle.words.specs.Words.{_!_}
-use Rattle.words.specs.Loop.{pick}
-use Rattle.words.proofs.Branch.{pick-yes, pick-no, pick-all}
-use Rattle.shelf.specs.declared.answers.Shelf.{Shelf}
-use Rattle.shelf.specs.Shelf.{Step, step, shelved, shelf, placeBefore, placeAfter, stepsAfter, stepAt}
-use Rattle.shelf.specs.Shelf.{stepsBefore, keptOf, over}
+use Rattle.words.proofs.Branch.{pick-all}
+use Rattle.shelf.specs.Shelf.{Step, step, shelved, placeBefore, placeAfter, stepsAfter, stepAt}
+use Rattle.shelf.specs.Shelf.{stepsBefore, over}
 use Rattle.shelf.proofs.Over.{part-here, part-before, part-after, entry-here, entry-before, entry-after}
 use Rattle.shelf.specs.Refusals.{Room}
 use Rattle.shelf.proofs.TestLaws.{within-room}

@@ -11,12 +11,12 @@ use Rattle.dense.specs.Interpolate.{interpolateOf}
 use Rattle.shelf.specs.declared.answers.Shelf.{Shelf}
 use Rattle.shelf.specs.declared.answers.Placing.the-variants as placing
 use Rattle.shelf.specs.declared.answers.Asking.the-variants as asking
-use Rattle.shelf.specs.Shelf.{Step, step, holds, shelved, emptyShelf, stepsBefore, keptOf}
+use Rattle.shelf.specs.Shelf.{Step, holds, emptyShelf, stepsBefore, keptOf}
 use Rattle.shelf.specs.Answers.{placingNumber, asked, askingNumber}
 use Rattle.shelf.specs.Refusals.{Room, Fit}
 use Rattle.shelf.specs.Put.{putOf}
 use Rattle.shelf.specs.Ask.{answerOf, askOf, NoneHolds}
-use Rattle.shelf.proofs.Outcomes.{Kept, PutRoom, put-length-proof, put-shelf-proof, put-kept-proof}
+use Rattle.shelf.proofs.Outcomes.{Kept, put-length-proof, put-shelf-proof, put-kept-proof}
 use Rattle.shelf.proofs.Outcomes.{put-keeps-proof, newest-proof, ask-length-proof, ask-shelf-proof}
 use Rattle.shelf.proofs.Outcomes.{ask-point-proof, ask-kept-proof, ask-answer-proof, nan-none-proof}
 

@@ -1,5 +1,4 @@
 -- A shelf is asked at a point: the newest kept step that holds it answers, with what `interpolate` gives there.
-use Prim.Native.Nat.{ℕ}
 use mathlib.Core.Path.{_≡_}
 use mathlib.Core.Bool.{false, not}
 use mathlib.Core.List.{List, [], _∷_}

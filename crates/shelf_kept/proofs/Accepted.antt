@@ -17,13 +17,13 @@ use Rattle.state.specs.declared.talk.Request.the-variants as request
 use Rattle.state.specs.Memory.{Memory}
 use Rattle.opening.specs.Rows.{Opening}
 use Rattle.opening.specs.Admission.{askingAt, answersReport}
-use Rattle.solve_blocks.specs.Events.{Event, Logged}
-use Rattle.solve_blocks.specs.Matrices.{passesOn, passAt, passesOf}
+use Rattle.solve_blocks.specs.Events.{Logged}
+use Rattle.solve_blocks.specs.Matrices.{passAt, passesOf}
 use Rattle.solve_blocks.specs.Report.{askReport}
-use Rattle.solve_blocks.specs.Advance.{Stepped, Called, repliedOf, receivedOf, passedOf, calledOf}
+use Rattle.solve_blocks.specs.Advance.{Called, repliedOf, calledOf}
 use Rattle.solve_blocks.proofs.AdvanceWhole.{wholeOf}
 use Rattle.history.specs.Host.{Action, filled, modified, wrote}
-use Rattle.history.specs.History.{Point, point}
+use Rattle.history.specs.History.{point}
 use Rattle.account.specs.Journal.{Fair, Turn, turn, Journal, next}
 use Rattle.account.specs.Reading.{isReport, laterAll}
 use Rattle.account.proofs.Matches.{matches-report}

@@ -1,19 +1,17 @@
 -- Both laws carried along a journal, and what they come to: the proofs of Theorems.antt.
 use Prim.Native.Nat.{ℕ}
 use mathlib.Core.Path.{_≡_, refl, sym, ap, subst, _∙_}
-use mathlib.Core.Bool.{Bool, true, false, _&&_, _||_}
+use mathlib.Core.Bool.{true, false, _&&_, _||_}
 use mathlib.Core.List.{List, [], _∷_}
 use lib.ListN.{length, take}
 use lib.Ieee.{Float}
 use Rattle.words.specs.Loop.{pick}
-use Rattle.words.proofs.Branch.{pick-yes, pick-no}
-use Rattle.state.specs.declared.run.Stage.{Stage}
+use Rattle.words.proofs.Branch.{pick-yes}
 use Rattle.state.specs.declared.run.Stage.the-variants as stage
 use Rattle.opening.specs.Rows.{Opening}
 use Rattle.opening.specs.Opening.{openOf}
-use Rattle.opening.specs.Admission.{askingAt}
 use Rattle.history.specs.Host.{Action}
-use Rattle.account.specs.Journal.{Fair, Turn, Journal, next, FairFrom, after, Starts, JournalOf}
+use Rattle.account.specs.Journal.{Fair, Journal, next, FairFrom, after, Starts, JournalOf}
 use Rattle.account.specs.Reading.{isReport}
 use Rattle.account.proofs.Matches.{matches-report}
 use Rattle.account.proofs.FirstPoint.{opens}
@@ -54,6 +52,16 @@ both-after : (o : Opening) (b : Beside) (j : Journal) (acts : List Action) → B
 unfolding FairFrom after
 both-after o b j [] w f = w
 both-after o b j (a ∷ acts) w f = both-after o b (next j a) acts (both-next o b j a w (f .0)) (f .1)
+
+-- asking a shelf that holds some steps is asking those that stand there
+asked-of : {n : ℕ} (b : Beside) (steps : List Step) → Shelves n b steps → (x : Float) (target : List Float)
+    → length target ≡ n
+    → askOf (b .shelf) x target (b .coefficients) (b .ends)
+    ≡ answerOf x target (keptOf (b .shelf) n (b .coefficients) (b .ends))
+asked-of b steps s x target long =
+    ask-answer (b .shelf) x target (b .coefficients) (b .ends)
+    (subst (λ m. Room m (length (b .coefficients)) (length (b .ends))) (sym long) (s .room)) (s .fit)
+    ∙ ap (λ m. answerOf x target (keptOf (b .shelf) m (b .coefficients) (b .ends))) long
 
 module _ (o : Opening) (j : Journal) (of : JournalOf o j) (coefficients ends : List Float)
     (room : Room (o .n) (length coefficients) (length ends)) where
@@ -96,22 +104,29 @@ module _ (o : Opening) (j : Journal) (of : JournalOf o j) (coefficients ends : L
       → askOf (besideNow b j .shelf) x target (besideNow b j .coefficients) (besideNow b j .ends)
       ≡ answerOf x target (take 48 (stepsAccepted (j .point) (j .turns)))
   answers-proof off x target long =
-      ask-answer (besideNow b j .shelf) x target (besideNow b j .coefficients) (besideNow b j .ends)
-      (subst (λ n. Room n (length (besideNow b j .coefficients)) (length (besideNow b j .ends))) (sym long) (now .room))
-      (now .fit)
-      ∙ ap (answerOf x target)
-      (ap (λ n. keptOf (besideNow b j .shelf) n (besideNow b j .coefficients) (besideNow b j .ends)) long
-      ∙ kept-proof off)
+      asked-of (besideNow b j) _ now x target long ∙ ap (answerOf x target) (kept-proof off)
+
+  -- the shelf with the held step put there
+  abbrev pending : Beside
+  pending = putWith (j .point) (j .point .run .numbers .xold) (besideAfter b (j .turns))
+
+  put-pending : Shelves (o .n) pending (stepHeld (j .point) ∷ putsIn (j .turns))
+  put-pending =
+      shelves-put (o .n) (j .point) (j .point .run .numbers .xold) (besideAfter b (j .turns)) (putsIn (j .turns))
+      (both .sound .held .long .cont) (both .shelves)
 
   pub pending-proof : unreported (j .turns) ≡ true
-      → keptOf (putWith (j .point) (j .point .run .numbers .xold) (besideAfter b (j .turns)) .shelf) (o .n)
-      (putWith (j .point) (j .point .run .numbers .xold) (besideAfter b (j .turns)) .coefficients)
-      (putWith (j .point) (j .point .run .numbers .xold) (besideAfter b (j .turns)) .ends)
+      → keptOf (pending .shelf) (o .n) (pending .coefficients) (pending .ends)
       ≡ take 48 (stepsAccepted (j .point) (j .turns))
   pending-proof on =
       let s = j .point .run .stage in
-      let here = shelves-put (o .n) (j .point) (j .point .run .numbers .xold) (besideAfter b (j .turns))
-      (putsIn (j .turns)) (both .sound .held .long .cont) (both .shelves) in
-      here .kept
+      put-pending .kept
       ∙ ap (take 48)
       (sym (both .told .steps ∙ pick-yes _ _ (ap (λ c. c || isLater s) (sym (both .told .pending) ∙ on))))
+
+  pub pending-answers-proof : unreported (j .turns) ≡ true → (x : Float) (target : List Float)
+      → length target ≡ o .n
+      → askOf (pending .shelf) x target (pending .coefficients) (pending .ends)
+      ≡ answerOf x target (take 48 (stepsAccepted (j .point) (j .turns)))
+  pending-answers-proof on x target long =
+      asked-of pending _ put-pending x target long ∙ ap (answerOf x target) (pending-proof on)

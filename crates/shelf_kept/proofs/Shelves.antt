@@ -8,26 +8,23 @@ use lib.ListN.{length, take}
 use lib.Seq.{take-take}
 use lib.Ieee.{Float}
 use Rattle.words.specs.Loop.{pick}
-use Rattle.words.proofs.Branch.{pick-yes, pick-no, pick-all}
-use Rattle.state.specs.declared.run.Run.{Run}
+use Rattle.words.proofs.Branch.{pick-yes, pick-no}
 use Rattle.state.specs.declared.talk.Request.{Request}
 use Rattle.state.specs.declared.talk.Request.the-variants as request
 use Rattle.opening.specs.Rows.{Opening}
-use Rattle.history.specs.Host.{Action}
 use Rattle.history.specs.History.{Point}
-use Rattle.account.specs.Journal.{Turn, Journal, turn, next}
+use Rattle.account.specs.Journal.{Turn}
 use Rattle.account.specs.Reading.{isReport}
 use Rattle.account.proofs.SuccessLands.{Reports}
 use Rattle.account.proofs.Sound.{Held}
 use Rattle.shelf.specs.declared.answers.Shelf.{Shelf}
-use Rattle.shelf.specs.declared.answers.Placing.the-variants as placing
-use Rattle.shelf.specs.Shelf.{Step, step, emptyShelf, shelf, stepsBefore, keptOf, shelved, placeAfter, stepsAfter, over}
+use Rattle.shelf.specs.Shelf.{Step, step, emptyShelf, shelf, stepsBefore, keptOf, shelved, placeAfter, stepsAfter}
 use Rattle.shelf.specs.Answers.{Placed}
 use Rattle.shelf.specs.Refusals.{Room, Fit}
 use Rattle.shelf.specs.Put.{putAt, putOf}
 use Rattle.shelf.proofs.Outcomes.{put-done-proof, put-keeps-proof}
-use Rattle.shelf_kept.specs.Kept.{stepHeld, modifies, reportedIn, Beside, beside, shelfAfter, afterPut, putWith}
-use Rattle.shelf_kept.specs.Kept.{putAtReport, reportedBeside, repliedBeside, besideAfter}
+use Rattle.shelf_kept.specs.Kept.{stepHeld, modifies, reportedIn, Beside, beside, shelfAfter, putWith}
+use Rattle.shelf_kept.specs.Kept.{putAtReport, reportedBeside, besideAfter}
 use Rattle.shelf_kept.proofs.Accepted.{putsIn}
 
 -- a shelf holds these steps, in room for n amounts

@@ -10,7 +10,7 @@ use Rattle.shelf.specs.Shelf.{emptyShelf, keptOf}
 use Rattle.shelf.specs.Refusals.{Room}
 use Rattle.shelf.specs.Ask.{answerOf, askOf}
 use Rattle.shelf_kept.specs.Kept.{stepsAccepted, unreported, beside, putWith, besideAfter, besideNow}
-use Rattle.shelf_kept.proofs.Journals.{kept-proof, answers-proof, pending-proof}
+use Rattle.shelf_kept.proofs.Journals.{kept-proof, answers-proof, pending-proof, pending-answers-proof}
 
 -- What stands on the shelf of a host that puts the held step there at each report after the first and empties it when
 -- it replies 'modified' is, in order, the newest 48 of the steps accepted since the last modified point: at every point
@@ -45,3 +45,16 @@ pub shelf-keeps-unreported : (o : Opening) (j : Journal) → JournalOf o j → (
     (besideAfter (beside emptyShelf coefficients ends) (j .turns)) .ends)
     ≡ take 48 (stepsAccepted (j .point) (j .turns))
 shelf-keeps-unreported = pending-proof
+
+-- And asking is asking that list there too.
+pub shelf-answers-unreported : (o : Opening) (j : Journal) → JournalOf o j → (coefficients ends : List Float)
+    → Room (o .n) (length coefficients) (length ends) → unreported (j .turns) ≡ true
+    → (x : Float) (target : List Float) → length target ≡ o .n
+    → askOf (putWith (j .point) (j .point .run .numbers .xold)
+    (besideAfter (beside emptyShelf coefficients ends) (j .turns)) .shelf) x target
+    (putWith (j .point) (j .point .run .numbers .xold)
+    (besideAfter (beside emptyShelf coefficients ends) (j .turns)) .coefficients)
+    (putWith (j .point) (j .point .run .numbers .xold)
+    (besideAfter (beside emptyShelf coefficients ends) (j .turns)) .ends)
+    ≡ answerOf x target (take 48 (stepsAccepted (j .point) (j .turns)))
+shelf-answers-unreported = pending-answers-proof

@@ -15,7 +15,7 @@ use Rattle.account.specs.Reading.{isReport, laterAll}
 use Rattle.shelf.specs.declared.answers.Shelf.{Shelf}
 use Rattle.shelf.specs.declared.answers.Placing.{Placing}
 use Rattle.shelf.specs.declared.answers.Placing.the-variants as placing
-use Rattle.shelf.specs.Shelf.{Step, step, emptyShelf, keptOf}
+use Rattle.shelf.specs.Shelf.{Step, step, emptyShelf}
 use Rattle.shelf.specs.Answers.{Placed}
 use Rattle.shelf.specs.Put.{putOf}
 

@@ -1,7 +1,6 @@
 -- `elchepur_put_on_shelf` meets its contract: it is `shelf`'s own, read field by field.
-use mathlib.Core.Path.{_≡_, sym, ap, _∙_}
+use mathlib.Core.Path.{sym, ap, _∙_}
 use borrow.Author.Needs.{needs}
-use Rattle.shelf.specs.Answers.{Placed, placingNumber}
 use Rattle.shelf.specs.Put.{putOf}
 use Rattle.export_shelf.specs.Border.{wordsAfter}
 use Rattle.export_shelf.proofs.BorderLaws.{read}

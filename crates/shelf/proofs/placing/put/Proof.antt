@@ -2,13 +2,12 @@
 use Prim.Native.Nat.{_+_, _*_, _/_, _≤_}
 use mathlib.Core.Path.{_≡_, refl, sym, ap, _∙_}
 use mathlib.Core.Bool.{true}
-use mathlib.Core.List.{[], _∷_}
 use native.Mathlib.Omega.{arith}
 use lib.ListN.{length, length-set}
 use borrow.Author.Needs.{needs}
 use borrow.Author.Tests.{not-true, not-false}
 use Rattle.shelf.specs.declared.answers.Placing.the-variants as placing
-use Rattle.shelf.specs.Shelf.{shelf, over}
+use Rattle.shelf.specs.Shelf.{shelf}
 use Rattle.shelf.specs.Answers.{placed}
 use Rattle.shelf.specs.Refusals.{roomFits, shelfFits, Room, Fit}
 use Rattle.shelf.proofs.Over.{over-length, over-two}
