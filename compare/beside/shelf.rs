@@ -64,6 +64,9 @@ impl Shelf {
         insist(said == 2, || format!("a short room: {said}"));
         let said = elchepur_put_on_shelf(&mut words, cont, xold, h, &mut coefficients, &mut ends[1..]);
         insist(said == 2, || format!("short ends: {said}"));
+        coefficients.push(1.0);
+        let said = elchepur_put_on_shelf(&mut words, cont, xold, h, &mut coefficients, &mut ends);
+        insist(said == 2 && coefficients.pop() == Some(1.0), || format!("a long room: {said}"));
         none(difference("room of a refused step", &coefficients, &self.coefficients));
         none(difference("ends of a refused step", &ends, &self.ends));
         insist(words == kept, || "a refused step moved the shelf".to_string());
@@ -77,6 +80,9 @@ impl Shelf {
         insist(said == 2, || format!("a long target: {said}"));
         let said = elchepur_ask_shelf(&unfit, x, &mut target[..n], &self.coefficients[1..], &self.ends);
         insist(said == 2, || format!("a short room: {said}"));
+        let long = [&self.coefficients[..], &[1.0]].concat();
+        let said = elchepur_ask_shelf(&self.words, x, &mut target[..n], &long, &self.ends);
+        insist(said == 2, || format!("a long room: {said}"));
         let said = elchepur_ask_shelf(&self.words, x, &mut target[..n], &self.coefficients, &self.ends[2..]);
         insist(said == 2, || format!("short ends: {said}"));
         let said = elchepur_ask_shelf(&unfit, x, &mut target[..n], &self.coefficients, &self.ends);

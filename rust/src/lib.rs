@@ -41,6 +41,7 @@ mod forecast;
 mod found;
 pub mod matrix;
 mod memory;
+mod night;
 mod numbers;
 mod outcome;
 mod points;
@@ -56,6 +57,7 @@ mod system;
 mod tolerance;
 
 pub use crate::forecast::{forecast, BrokenOffSheet, Forecast, NoForecast};
+pub use crate::night::{totals, Night, NoTotals, Totals};
 pub use crate::sheet::{NoSheet, Reaction, Sheet};
 pub use crate::shelf::{Shelf, Shelved};
 
@@ -83,6 +85,7 @@ pub mod prelude {
     pub use crate::ivp::FirstOrderSystem;
     pub use crate::matrix::{Matrix, MatrixStorage};
     pub use crate::methods::{Evals, IntegrationResult, RADAUBuilder, Rule, Steps, Tolerance, RADAU};
+    pub use crate::night::{Night, NoTotals, Totals};
     pub use crate::sheet::{NoSheet, Reaction, Sheet};
     pub use crate::shelf::{Shelf, Shelved};
     pub use crate::solout::{AtPoints, ControlFlag, NoSolOut, SolOut};

@@ -1,5 +1,5 @@
 #!/usr/bin/env python3
-"""The crates `export`, `export_forecast`, `export_sheet` and `export_shelf` as programs in C see them: their header,
+"""The crates that offer functions to C (tests/support/exported.py names them) as programs in C see them: their header,
 their archive, and runs through both.
 
     tests/c/c_program.py check [FOLDER]  hold the header to the sources, and run the programs in C: on the archive,

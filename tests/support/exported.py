@@ -1,4 +1,4 @@
-"""The functions that crates/export, crates/export_forecast, crates/export_sheet and crates/export_shelf mark
+"""The functions that the crates `export`, `export_forecast`, `export_sheet`, `export_totals` and `export_shelf` mark
 `extern "C"`, as their sources declare them."""
 
 import re
@@ -9,7 +9,7 @@ sys.path[:0] = [str(each) for each in pathlib.Path(__file__).resolve().parents[1
 import rust_text
 
 # The crates that offer functions to C.
-CRATES = ("export", "export_forecast", "export_sheet", "export_shelf")
+CRATES = ("export", "export_forecast", "export_sheet", "export_totals", "export_shelf")
 MARKED = re.compile(r'#\[no_mangle\]\npub extern "C" fn (\w+)\(([^)]*)\)(?: -> (\w+))?\n')
 TYPE = re.compile(r"(&mut |&|)(\[)?(\w+)(?:; (\d+))?\]?")
 
