@@ -80,9 +80,11 @@ impl Shelf {
         insist(said == 2, || format!("a long target: {said}"));
         let said = elchepur_ask_shelf(&unfit, x, &mut target[..n], &self.coefficients[1..], &self.ends);
         insist(said == 2, || format!("a short room: {said}"));
-        let long = [&self.coefficients[..], &[1.0]].concat();
-        let said = elchepur_ask_shelf(&self.words, x, &mut target[..n], &long, &self.ends);
+        let (room, ends) = ([&self.coefficients[..], &[1.0]].concat(), [&self.ends[..], &[1.0]].concat());
+        let said = elchepur_ask_shelf(&self.words, x, &mut target[..n], &room, &self.ends);
         insist(said == 2, || format!("a long room: {said}"));
+        let said = elchepur_ask_shelf(&self.words, x, &mut target[..n], &self.coefficients, &ends);
+        insist(said == 2, || format!("long ends: {said}"));
         let said = elchepur_ask_shelf(&self.words, x, &mut target[..n], &self.coefficients, &self.ends[2..]);
         insist(said == 2, || format!("short ends: {said}"));
         let said = elchepur_ask_shelf(&unfit, x, &mut target[..n], &self.coefficients, &self.ends);
