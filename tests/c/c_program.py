@@ -29,7 +29,7 @@ The programs:
     stored there, and once more with a Jacobian of the host's own, with the answers that the Rust gives then.
 The last three run on include/elchepur_host.h, which has what every host writes again, and whose example must print
 what it says there:
-  - tests/c/c_hosted.c replays the stored runs of the Rust once more, through its callbacks;
+  - tests/c/c_hosted.c replays the stored runs of the Rust once more, through its callbacks, a shelf beside each;
   - tests/c/c_endings.c brings about every way in which a run can end."""
 
 import re
