@@ -1,7 +1,7 @@
 // Replays the stored runs of the Rust's own `solve` through include/elchepur_host.h: its callbacks must be called for
 // the Rust's requests and in their order, each with the part that was meant, and give what the Rust's host gave; the
-// end must be the Rust's. All 22 parts are compared at every call. Each run's steps go on a shelf, which is asked before
-// a modified point empties it and at the end.
+// end must be the Rust's. All 22 parts are compared at every call. Each run's steps go on a shelf, which is asked
+// before a modified point empties it and at the end.
 #include "c_stored.h"
 #include "c_shelf.h"
 
