@@ -26,6 +26,7 @@ REFUSED_SHEET_LINE = 20
 REFUSED_SHEET_LONG = 21
 REFUSED_MODEL = 23
 REFUSED_BUFFER = 24
+REFUSED_POINT = 25
 REFUSED_MANY_LINES = 26
 REFUSED_TOTALS = 28
 REFUSED_NOT_ENDED = 29
@@ -124,6 +125,9 @@ TOTALS_LU = 12
 TOTALS_LARGEST = 13
 TOTALS_PLACE = 14
 TOTALS_PRINTED = 4096
+SHELF = 2
+SHELF_STEPS = 48
+SHELF_ENDS = 96
 
 # The header's words for each number that refuses.
 REFUSALS = {
@@ -150,6 +154,7 @@ REFUSALS = {
     21: "the sheet has more than 4,096 bytes",
     23: "it is no model of document 01",
     24: "the sheet is longer than the memory",
+    25: "no kept step of the shelf holds the point",
     26: "there are more than 65,535 status lines",
     28: "totals are to be joined that no lines can have",
     29: "there is no result yet",
@@ -292,5 +297,16 @@ FUNCTIONS = {
     ),
     "elchepur_totals_join": (
         "uint64_t", "const uint64_t *", "const uint64_t *", "uint64_t *",
+    ),
+    "elchepur_empty_shelf": (
+        "void", "size_t *",
+    ),
+    "elchepur_put_on_shelf": (
+        "uint64_t", "size_t *", "const double *", "size_t", "double", "double", "double *", "size_t", "double *",
+        "size_t",
+    ),
+    "elchepur_ask_shelf": (
+        "uint64_t", "const size_t *", "double", "double *", "size_t", "const double *", "size_t", "const double *",
+        "size_t",
     ),
 }
