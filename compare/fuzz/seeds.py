@@ -1,5 +1,5 @@
-"""Where the fuzz begins: inputs for the two programs, made of the stored sheets, and of openings, runs and forged
-states as input.h and runs.cpp read bytes."""
+"""Where the fuzz begins: inputs for the three programs, made of the stored sheets and their answers, and of openings,
+runs and forged states as input.h and runs.cpp read bytes."""
 
 import replay_sheet
 
@@ -71,10 +71,21 @@ def others():
     return [opening() + gone_on(replies) + tail for replies in (1, 3, 8, 20) for tail in tails]
 
 
+MANY = 63  # a first byte by which nights.cpp has the lines over and over
+
+
+def nights(answers):
+    """Nothing; a few status lines, whole, with their end cut off, and over and over."""
+    lines = [f"{answer.splitlines()[0]}\n".encode() for answer in answers if answer.startswith("status")][:24]
+    few, more = b"".join(lines[:3]), b"".join(lines)
+    return [bytes([0]), bytes([1]) + few, bytes([2]) + few[:-1], bytes([MANY]) + more, bytes([3]) + few + b"refused 4\n"]
+
+
 def inputs():
     """For each program its inputs."""
-    sheets = [data for data, _ in replay_sheet.records_of(replay_sheet.STORED.read_bytes())]
-    return {"runs": refused_openings() + runs() + forged() + others(), "sheets": sheets}
+    stored = list(replay_sheet.records_of(replay_sheet.STORED.read_bytes()))
+    return {"runs": refused_openings() + runs() + forged() + others(), "sheets": [data for data, _ in stored],
+            "nights": nights(answer for _, answer in stored)}
 
 
 def write(folder):
