@@ -1,7 +1,7 @@
 // Nights of status lines, any bytes at all, handed over in pieces whose sizes the input draws: the totals, the first
 // wrong line and what is printed must be what a reader of the whole text makes of it (totals.h), and nothing else may
-// be written. Words that no call made are a night as well: they are fed and told, and nothing may trap. The totals of two
-// parts of the text are joined, as they are and with numbers drawn anew.
+// be written. Words that no call made are a night as well: they are fed and told, and nothing may trap. The totals of
+// two parts of the text are joined, as they are and with numbers drawn anew.
 #include "lent.h"
 #include "totals.h"
 #include <algorithm>
