@@ -50,6 +50,7 @@ enum {
     ELCHEPUR_REFUSED_SHEET_LONG = 21,     /* the sheet has more than 4,096 bytes */
     ELCHEPUR_REFUSED_MODEL = 23,          /* it is no model of document 01 */
     ELCHEPUR_REFUSED_BUFFER = 24,         /* the sheet is longer than the memory */
+    ELCHEPUR_REFUSED_POINT = 25,          /* no kept step of the shelf holds the point */
     ELCHEPUR_REFUSED_MANY_LINES = 26,     /* there are more than 65,535 status lines */
     ELCHEPUR_REFUSED_NOT_ENDED = 29,      /* there is no result yet */
     ELCHEPUR_REFUSED_OUTSIDE = 30         /* the table has no such entry */
@@ -381,6 +382,29 @@ uint64_t elchepur_totals_told(
 /* Writes over the first bytes of `printed` what the program `totals` prints of it, and answers how many bytes these
  * are; no zero byte ends them, and the others stay as they were. A refusal is printed, as in `refused 20 7`. */
 uint64_t elchepur_totals_printed(const uint64_t night[ELCHEPUR_NIGHT], uint8_t printed[ELCHEPUR_TOTALS_PRINTED]);
+
+/* ---- A shelf of recent steps, in memory beside a run ---- */
+
+enum {
+    ELCHEPUR_SHELF = 2,           /* how many steps are kept, and the place of the next */
+    ELCHEPUR_SHELF_STEPS = 48,    /* the most that are kept: of n amounts 48 * 4 * n coefficients */
+    ELCHEPUR_SHELF_ENDS = 96      /* the old point and the held step of each */
+};
+
+/* Opens a shelf, or empties it, as a reply 'modified' asks. */
+void elchepur_empty_shelf(size_t shelf[ELCHEPUR_SHELF]);
+
+/* Keeps a step: at each report after the first, with its `cont`, its `xold` and what elchepur_held_step gives. Where 48
+ * are kept the oldest gives up its room. Refuses with 2, then 13, and writes nothing then. */
+uint64_t elchepur_put_on_shelf(
+    size_t shelf[ELCHEPUR_SHELF], const double *cont, size_t cont_count, double xold, double h,
+    double *coefficients, size_t coefficients_count, double *ends, size_t ends_count);
+
+/* Writes to the target what elchepur_interpolate gives at x for the newest kept step whose bounds hold x, ends
+ * included. Refuses with 2, then 13, then 25 where no kept step holds x, and writes nothing then. */
+uint64_t elchepur_ask_shelf(
+    const size_t shelf[ELCHEPUR_SHELF], double x, double *target, size_t target_count,
+    const double *coefficients, size_t coefficients_count, const double *ends, size_t ends_count);
 
 #ifdef __cplusplus
 }

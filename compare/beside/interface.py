@@ -1,15 +1,19 @@
-"""The module `interface` of the program: every exported function of crates/export, under its own name and with its own
-types, whichever way it is linked.
+"""The module `interface` of the program: every exported function of crates/export and crates/export_shelf, under its
+own name and with its own types, whichever way it is linked.
 
-As a port, `export` is a crate of Rust's and its functions are passed on. In the archive a slice is a pointer and a
+As a port, the two are crates of Rust's and their functions are passed on. In the archive a slice is a pointer and a
 count, and an array or a number that is lent is a pointer (include/elchepur.h): there each function is declared so, and
 a function with the types of the sources calls it."""
 
 from exported import exported, parameter_of
 
 
+CRATES = ("export", "export_shelf")
+
+
 def port_text():
-    return "".join(f"pub use export::{file}::{name};\n" for name, (file, _, _) in exported().items())
+    return "".join(f"pub use {crate}::{file}::{name};\n" for crate in CRATES
+                   for name, (file, _, _) in exported(crate).items())
 
 
 def crossing(name, kind):
@@ -40,6 +44,7 @@ def of_archive(name, pairs, result):
 
 def archive_text():
     """What Rust lends doesn't overlap, which is all that the archive's functions ask."""
-    made = [of_archive(name, pairs, result) for name, (_, pairs, result) in exported().items()]
+    made = [of_archive(name, pairs, result) for crate in CRATES
+            for name, (_, pairs, result) in exported(crate).items()]
     declarations = "".join(declaration for declaration, _ in made)
     return f'mod archive {{\n    extern "C" {{\n{declarations}    }}\n}}\n' + "".join(function for _, function in made)

@@ -17,6 +17,7 @@ mod plain;
 mod raised;
 mod routines;
 mod rust;
+mod shelf;
 mod side;
 mod spoilt;
 mod stop;

@@ -6,11 +6,13 @@ use super::memory::{bits, difference, Memory};
 use super::opening::Opening;
 use super::ours::{Ours, CONTINUE, DERIVATIVE, ENDED, FILLED, INTERRUPT, JACOBIAN, MARK, MODIFIED, REPORT};
 use super::raised::Trace;
+use super::shelf::Shelf;
 use super::stop::{at_request, insist, none};
 use super::tally::{self, count, CLASSES};
-use crate::dense::StepInterpolant;
+use crate::dense::{DenseSegment, StepInterpolant};
 use crate::interface::{elchepur_bounds, elchepur_interpolate};
 use crate::methods::IntegrationResult;
+use crate::radau_rust::RADAU;
 
 pub struct Side {
     pub ours: Ours,
@@ -21,6 +23,8 @@ pub struct Side {
     pub place: u64,
     host: Host,
     draw: Draw,
+    shelf: Shelf,
+    reports: u64,
     classes: [bool; CLASSES.len()],
     requests: u64,
     interrupted: bool,
@@ -40,8 +44,11 @@ impl Side {
         classes[tally::HOST] = opening.settings.host_jacobian;
         classes[tally::BOOK] = opening.settings.book;
         classes[tally::BACKWARD] = opening.xend < opening.x0;
-        let (requests, interrupted) = (0, false);
-        Side { ours, theirs, scalars: None, place: 0, host, draw, classes, requests, interrupted, trace: None }
+        let own = Draw::new(bits(opening.x0), bits(opening.xend));
+        let shelf = Shelf::new(opening.n, classes[tally::BACKWARD], own);
+        let (requests, reports, interrupted) = (0, 0, false);
+        let (scalars, place, trace) = (None, 0, None);
+        Side { ours, theirs, scalars, place, host, draw, shelf, reports, classes, requests, interrupted, trace }
     }
 
     pub fn interrupted(&self) -> bool {
@@ -131,6 +138,7 @@ impl Side {
         if let Some(step) = offered {
             self.dense(step, xold, *x);
         }
+        self.shelve(xold, *x, offered);
         let told = self.host.report(*x, y);
         match told {
             Told::Continue => self.advance(CONTINUE, None, &[]),
@@ -140,12 +148,27 @@ impl Side {
             }
             Told::Modified(to) => {
                 *x = to;
+                self.shelf.empty();
                 self.ours.memory.y.copy_from_slice(y);
                 self.advance(MODIFIED, Some(to), y);
             }
             Told::Mark(mark) => self.advance(MARK, Some(mark), &[]),
         }
+        self.shelf.ask(y.len());
         told
+    }
+
+    // Every step but the point of the first report goes on the shelf, offered or not. The Rust's own is kept where it
+    // is offered; else it is made of the Rust's coefficients.
+    fn shelve(&mut self, xold: f64, x: f64, offered: Option<&StepInterpolant<'_>>) {
+        self.reports += 1;
+        if self.reports > 1 {
+            let (said, h) = self.ours.held_step();
+            insist(said == 0, || format!("the step held is refused by {said}"));
+            let made = || DenseSegment::new(self.theirs.cont.clone(), xold, h, RADAU::interpolate);
+            let theirs = offered.map_or_else(made, StepInterpolant::to_segment);
+            self.shelf.put(&self.ours.memory.cont, self.ours.at[0], h, x, theirs);
+        }
     }
 
     // Dense output from the coefficients that are offered, at one point.

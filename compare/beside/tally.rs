@@ -38,6 +38,10 @@ pub const WAS_NOT_FINITE: usize = 7;
 pub const BACKWARD: usize = 8;
 pub const BROKEN_OFF: usize = 9;
 
+// Questions about past points: answered; where over 48 steps were put; in a run that goes down; after a modified point;
+// from a step whose h was made shorter after its end was fixed; at a NaN.
+const PAST: [&str; 6] =
+    ["held by a kept step", "past 48 steps", "backward", "modified before", "by a shortened step", "at a NaN"];
 const PAIRS: [&str; 3] = ["the same", "2 and then 2", "2 and then another"];
 const ORDERS: [&str; 5] = ["1", "2 to 4", "5 to 8", "9 to 16", "17 to 32"];
 const REPLIES: [&str; 5] = ["filled", "continue", "interrupt", "modified", "mark"];
@@ -62,6 +66,9 @@ pub struct Tally {
     pub unmoved: [u64; 16],
     pub powers: u64,
     pub dense: u64,
+    // Past points that were asked for, and those of each sort.
+    pub asked: u64,
+    pub past: [u64; PAST.len()],
     pub scalars: u64,
     pub matrices: u64,
     // Runs by n.
@@ -123,6 +130,7 @@ fn lines(t: &Tally) -> Vec<String> {
         numbered("advances refused by number", &t.unmoved),
         format!("powers in solve {}, interpolations {}, scalar routines {}, matrix routines {}", t.powers, t.dense,
             t.scalars, t.matrices),
+        row(&format!("past points asked for {}, of which", t.asked), &PAST, &t.past),
     ]
 }
 

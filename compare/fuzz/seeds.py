@@ -1,5 +1,5 @@
-"""Where the fuzz begins: inputs for the two programs, made of the stored sheets, and of openings, runs and forged
-states as input.h and runs.cpp read bytes."""
+"""Where the fuzz begins: inputs for the three programs, made of the stored sheets, of openings, runs and forged states
+as input.h and runs.cpp read bytes, and of calls as shelves.cpp does."""
 
 import replay_sheet
 
@@ -71,10 +71,34 @@ def others():
     return [opening() + gone_on(replies) + tail for replies in (1, 3, 8, 20) for tail in tails]
 
 
+# Calls of a shelf.
+EMPTIED, FORGED_SHELF, MANY, ONE, ASKED = 0, 1, 2, 3, 8
+
+
+def shelf_calls(count, ends=(USUAL, USUAL)):
+    """So many steps one after the other, then a question at each quarter of the newest and of an older one."""
+    put = bytes([NOT_SELDOM, *ends, NOT_SELDOM])
+    questions = [bytes([ASKED, back, quarter, USUAL, NOT_SELDOM]) for back in (0, 1, 49) for quarter in range(5)]
+    return bytes([MANY, count]) + put * count + b"".join(questions)
+
+
+def shelves():
+    """Few and many steps of few and many amounts, forwards and backwards, emptied and gone on with, asked at a NaN, and
+    shelves of other words and lengths."""
+    back = (USUAL, 192)
+    filled = [bytes([seed, size]) + shelf_calls(count, ends) for seed, size in enumerate((0, 1, 3, 231))
+              for count in (1, 5) for ends in ((USUAL, USUAL), back)]
+    full = bytes([7, 1, MANY, 55])
+    tails = [bytes([ASKED, 0, 0, NAN, NOT_SELDOM]), bytes([EMPTIED, ASKED, USUAL, NOT_SELDOM]),
+             bytes([FORGED_SHELF, SELDOM, SELDOM, 3, SELDOM, SELDOM, 2, ASKED, 0, 2, USUAL, NOT_SELDOM]),
+             bytes([ASKED, 0, 2, USUAL, SELDOM, 1]), bytes([ONE, NOT_SELDOM, USUAL, USUAL, SELDOM, 1, 0, 0])]
+    return filled + [full + bytes(4 * 55) + tail for tail in tails]
+
+
 def inputs():
     """For each program its inputs."""
     sheets = [data for data, _ in replay_sheet.records_of(replay_sheet.STORED.read_bytes())]
-    return {"runs": refused_openings() + runs() + forged() + others(), "sheets": sheets}
+    return {"runs": refused_openings() + runs() + forged() + others(), "sheets": sheets, "shelves": shelves()}
 
 
 def write(folder):

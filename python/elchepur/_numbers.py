@@ -26,6 +26,7 @@ REFUSED_SHEET_LINE = 20
 REFUSED_SHEET_LONG = 21
 REFUSED_MODEL = 23
 REFUSED_BUFFER = 24
+REFUSED_POINT = 25
 REFUSED_MANY_LINES = 26
 REFUSED_NOT_ENDED = 29
 REFUSED_OUTSIDE = 30
@@ -123,6 +124,9 @@ TOTALS_LU = 12
 TOTALS_LARGEST = 13
 TOTALS_PLACE = 14
 TOTALS_PRINTED = 4096
+SHELF = 2
+SHELF_STEPS = 48
+SHELF_ENDS = 96
 
 # The header's words for each number that refuses.
 REFUSALS = {
@@ -149,6 +153,7 @@ REFUSALS = {
     21: "the sheet has more than 4,096 bytes",
     23: "it is no model of document 01",
     24: "the sheet is longer than the memory",
+    25: "no kept step of the shelf holds the point",
     26: "there are more than 65,535 status lines",
     29: "there is no result yet",
     30: "the table has no such entry",
@@ -287,5 +292,16 @@ FUNCTIONS = {
     ),
     "elchepur_totals_printed": (
         "uint64_t", "const uint64_t *", "uint8_t *",
+    ),
+    "elchepur_empty_shelf": (
+        "void", "size_t *",
+    ),
+    "elchepur_put_on_shelf": (
+        "uint64_t", "size_t *", "const double *", "size_t", "double", "double", "double *", "size_t", "double *",
+        "size_t",
+    ),
+    "elchepur_ask_shelf": (
+        "uint64_t", "const size_t *", "double", "double *", "size_t", "const double *", "size_t", "const double *",
+        "size_t",
     ),
 }

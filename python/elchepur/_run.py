@@ -124,8 +124,10 @@ class Run:
 
     def step(self):
         """The step that a report tells of, or None where it offers no coefficients."""
-        if not self.flag:
-            return None
+        return self.held() if self.flag else None
+
+    def held(self):
+        """The step that is held at a report after the first, its coefficients offered or not."""
         held, coefficients = ctypes.c_double(), self.parts["cont"]
         insist(self._library.held_step(self._state, held))
         return Step(self.at[0], self.at[1], held.value, self.amounts(), type(coefficients)(*coefficients))

@@ -155,7 +155,7 @@ class Seen:
 
     def __init__(self, opening, t_eval, dense_output):
         self.wanted = None if t_eval is None else points_of(t_eval, opening.x0, opening.xend)
-        self.t, self.amounts, self.last = [], [], None
+        self.t, self.amounts, self.last, self.begun = [], [], None, False
         self.sol = Solution(opening.x0, opening.xend, opening.y0) if dense_output else None
         self.xend = opening.xend
 
@@ -219,8 +219,18 @@ def modified(run, answer, seen):
     run.advance(numbers.REPLY_MODIFIED, float(answer.x))
 
 
-def reported(run, report, seen):
+def shelve(run, shelf, seen):
+    """Each report but the first tells of a step, which is kept whether or not it is offered."""
+    if shelf is not None and seen.begun:
+        shelf.put(run.held())
+    elif shelf is not None:
+        shelf.empty()
+    seen.begun = True
+
+
+def reported(run, report, shelf, seen):
     step, (xold, x) = run.step(), run.at
+    shelve(run, shelf, seen)
     seen.report(x, run.amounts(), step)
     answer = report(xold, x, run.amounts(), step) if report else None
     if answer is None:
@@ -231,18 +241,20 @@ def reported(run, report, seen):
         run.advance(numbers.REPLY_MARK, float(answer.x))
     elif isinstance(answer, Modified):
         modified(run, answer, seen)
+        if shelf is not None:
+            shelf.empty()
     else:
         raise TypeError(f"report answers {answer!r}, which is not None, INTERRUPT, a Mark or Modified")
 
 
-def to_its_end(run, f, jac, report, seen):
+def to_its_end(run, f, jac, report, shelf, seen):
     while run.kind != numbers.KIND_ENDED:
         if run.kind == numbers.KIND_DERIVATIVE:
             derivative(run, f)
         elif run.kind == numbers.KIND_JACOBIAN:
             jacobian(run, jac)
         else:
-            reported(run, report, seen)
+            reported(run, report, shelf, seen)
 
 
 def result_of(run, seen):
@@ -279,6 +291,7 @@ def solve(
     t_eval=None,
     dense_output=False,
     report=None,
+    shelf=None,
     rtol=1e-3,
     atol=1e-6,
     rule="rust",
@@ -300,7 +313,7 @@ def solve(
             raise
         return Result(False, refusal_words(refused.number), [], [], refused=refused.number)
     seen = Seen(opening, t_eval, dense_output)
-    to_its_end(run, f, jac, report, seen)
+    to_its_end(run, f, jac, report, shelf, seen)
     result = result_of(run, seen)
     if check and not result.success:
         raise BrokenOff(result)

@@ -3,6 +3,7 @@
 //! tests/header.rs holds the declarations to the header.
 
 use crate::memory::Memory;
+use crate::numbers::SHELF;
 use crate::numbers::{AT, FLOATS, NUMBERS, PRINTED, RESULT_FLOATS, RESULT_NUMBERS, STATE, TOLD};
 use crate::numbers::{NIGHT, TOTALS, TOTALS_PRINTED};
 use crate::numbers::{SHEET_AMOUNTS, SHEET_COUNTS, SHEET_MOST, SHEET_RATES, SHEET_SETTINGS, SHEET_SPECIES};
@@ -95,6 +96,18 @@ extern "C" {
     fn elchepur_totals_told(night: &[u64; NIGHT], totals: &mut [u64; TOTALS], line: &mut u64) -> u64;
 
     fn elchepur_totals_printed(night: &[u64; NIGHT], printed: &mut [u8; TOTALS_PRINTED]) -> u64;
+
+    fn elchepur_empty_shelf(shelf: &mut [usize; SHELF]);
+
+    fn elchepur_put_on_shelf(
+        shelf: &mut [usize; SHELF], cont: *const f64, cont_count: usize, xold: f64, h: f64,
+        coefficients: *mut f64, coefficients_count: usize, ends: *mut f64, ends_count: usize,
+    ) -> u64;
+
+    fn elchepur_ask_shelf(
+        shelf: &[usize; SHELF], x: f64, target: *mut f64, target_count: usize,
+        coefficients: *const f64, coefficients_count: usize, ends: *const f64, ends_count: usize,
+    ) -> u64;
 }
 
 /// A night as the header's words hold it.
@@ -284,4 +297,57 @@ pub(crate) fn totals_printed(night: &NightWords) -> Vec<u8> {
     // SAFETY: the arrays have the header's lengths, each lent by itself.
     let count = unsafe { elchepur_totals_printed(night, &mut printed) };
     printed.iter().copied().take(usize::try_from(count).unwrap_or(TOTALS_PRINTED)).collect()
+}
+
+pub(crate) fn empty_shelf(shelf: &mut [usize; SHELF]) {
+    // SAFETY: an array of the length that the header gives.
+    unsafe { elchepur_empty_shelf(shelf) };
+}
+
+/// A step is put on the shelf in `coefficients` and `ends`.
+pub(crate) fn put_on_shelf(
+    shelf: &mut [usize; SHELF],
+    (cont, xold, h): (&[f64], f64, f64),
+    coefficients: &mut [f64],
+    ends: &mut [f64],
+) -> Result<(), u64> {
+    // SAFETY: each pointer goes with the length of its slice; those that are lent to be written are apart.
+    let number = unsafe {
+        elchepur_put_on_shelf(
+            shelf,
+            cont.as_ptr(),
+            cont.len(),
+            xold,
+            h,
+            coefficients.as_mut_ptr(),
+            coefficients.len(),
+            ends.as_mut_ptr(),
+            ends.len(),
+        )
+    };
+    answered(number, ())
+}
+
+/// The amounts at x are written to the target.
+pub(crate) fn ask_shelf(
+    shelf: &[usize; SHELF],
+    x: f64,
+    target: &mut [f64],
+    coefficients: &[f64],
+    ends: &[f64],
+) -> Result<(), u64> {
+    // SAFETY: each pointer goes with the length of its slice; the one that is lent to be written is apart.
+    let number = unsafe {
+        elchepur_ask_shelf(
+            shelf,
+            x,
+            target.as_mut_ptr(),
+            target.len(),
+            coefficients.as_ptr(),
+            coefficients.len(),
+            ends.as_ptr(),
+            ends.len(),
+        )
+    };
+    answered(number, ())
 }

@@ -37,6 +37,11 @@ impl<'a> StepInterpolant<'a> {
         (self.xold, self.h)
     }
 
+    /// What a shelf keeps of it.
+    pub(crate) fn parts(&self) -> (&[f64], f64, f64) {
+        (self.cont, self.xold, self.h)
+    }
+
     /// The same step with its coefficients copied, to be kept.
     pub fn to_segment(&self) -> DenseSegment {
         DenseSegment { cont: self.cont.to_vec(), xold: self.xold, h: self.h }

@@ -50,6 +50,7 @@ mod refused;
 mod run;
 mod settings;
 mod sheet;
+mod shelf;
 pub mod solout;
 pub mod status;
 mod system;
@@ -58,6 +59,7 @@ mod tolerance;
 pub use crate::forecast::{forecast, BrokenOffSheet, Forecast, NoForecast};
 pub use crate::night::{totals, Night, NoTotals, Totals};
 pub use crate::sheet::{NoSheet, Reaction, Sheet};
+pub use crate::shelf::{Shelf, Shelved};
 
 /// Whether the archive behind this crate bears the mark of the kit that proves. It does, unless whoever built this
 /// program set ELCHEPUR_ALLOW_UNPROVED.
@@ -85,6 +87,7 @@ pub mod prelude {
     pub use crate::methods::{Evals, IntegrationResult, RADAUBuilder, Rule, Steps, Tolerance, RADAU};
     pub use crate::night::{Night, NoTotals, Totals};
     pub use crate::sheet::{NoSheet, Reaction, Sheet};
+    pub use crate::shelf::{Shelf, Shelved};
     pub use crate::solout::{AtPoints, ControlFlag, NoSolOut, SolOut};
     pub use crate::status::Status;
 }

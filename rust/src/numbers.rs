@@ -18,6 +18,9 @@ pub const SHEET_MOST: usize = 4096;
 pub const NIGHT: usize = 37;
 pub const TOTALS: usize = 15;
 pub const TOTALS_PRINTED: usize = 4096;
+pub const SHELF: usize = 2;
+pub const SHELF_STEPS: usize = 48;
+pub const SHELF_ENDS: usize = 96;
 
 pub const NUMBER_MAX_STEPS: usize = 0;
 pub const NUMBER_NEWTON_MAXITER: usize = 1;
@@ -99,4 +102,5 @@ pub const REFUSED_FIRST_STEP: u64 = 11;
 pub const REFUSED_STEP_LIMITS: u64 = 12;
 pub const REFUSED_SHEET_LINE: u64 = 20;
 pub const REFUSED_SHEET_LONG: u64 = 21;
+pub const REFUSED_POINT: u64 = 25;
 pub const REFUSED_MANY_LINES: u64 = 26;

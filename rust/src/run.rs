@@ -159,7 +159,7 @@ impl<F: FirstOrderSystem + ?Sized, S: SolOut + ?Sized> Solving<'_, F, S> {
             (reply, value) = match self.talk.run.told[TOLD_KIND] {
                 KIND_DERIVATIVE => self.derivative(),
                 KIND_JACOBIAN => self.jacobian(),
-                KIND_REPORT => self.report()?,
+                KIND_REPORT => self.report(true)?,
                 KIND_ENDED => return Ok(self.talk),
                 kind => unreachable!("there is no request of kind {kind}"),
             };
@@ -170,7 +170,7 @@ impl<F: FirstOrderSystem + ?Sized, S: SolOut + ?Sized> Solving<'_, F, S> {
     fn report_after_derivative(&mut self) -> Result<(u64, f64), Error> {
         let (reply, value) = self.derivative();
         self.talk.advance(reply, value);
-        self.report()
+        self.report(false)
     }
 
     fn derivative(&mut self) -> (u64, f64) {
@@ -210,7 +210,7 @@ impl<F: FirstOrderSystem + ?Sized, S: SolOut + ?Sized> Solving<'_, F, S> {
         self.talk = other;
     }
 
-    fn report(&mut self) -> Result<(u64, f64), Error> {
+    fn report(&mut self, has_step: bool) -> Result<(u64, f64), Error> {
         let Talk { run, memory } = &mut self.talk;
         let Some(solout) = self.solout.as_deref_mut() else {
             return Ok((REPLY_CONTINUE, 0.0));
@@ -220,6 +220,7 @@ impl<F: FirstOrderSystem + ?Sized, S: SolOut + ?Sized> Solving<'_, F, S> {
         let held = c::held_step(run).expect("a run that reports holds a step");
         let step = StepInterpolant::new(&memory.cont, xold, held);
         let offered = (run.told[TOLD_FLAG] != 0).then_some(&step);
+        solout.held(has_step.then_some(&step));
         let flag = solout.solout(xold, &mut x, &mut y, offered);
         let kept =
             x.to_bits() == here.to_bits() && y.iter().zip(&memory.y).all(|(new, old)| new.to_bits() == old.to_bits());

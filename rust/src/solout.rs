@@ -67,6 +67,10 @@ pub trait SolOut {
         y: &mut [f64],
         interpolant: Option<&StepInterpolant<'_>>,
     ) -> ControlFlag;
+
+    /// Told before each report which step it is of, its interpolant offered or not; none before the first. It is for
+    /// those that keep steps, as [`Shelf`](crate::Shelf); ivp has no such call, and a `SolOut` need not have it.
+    fn held(&mut self, _step: Option<&StepInterpolant<'_>>) {}
 }
 
 /// For a caller that wants no reports: `None::<&mut NoSolOut>`.

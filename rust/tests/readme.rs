@@ -1,9 +1,9 @@
-//! README.md: its diffs lead to the program that stands in examples/moved.rs, what it shows is what is printed, and the
-//! Rust's paths are here.
+//! README.md: its diffs lead to the program that stands in examples/moved.rs, what it shows is what is printed there
+//! and by examples/screen.rs, and the Rust's paths are here.
 
 mod shared;
 
-use shared::file;
+use shared::{bytes, file};
 
 mod program {
     #![allow(dead_code)]
@@ -15,6 +15,15 @@ mod program {
         let answer =
             solver.solve(&Cylinder, 0.0, &[10.0, 0.25, 0.0, 0.0], 730.0, 1e-6.into(), 1e-10.into(), None::<&mut Label>);
         format!("no forecast: {}", answer.expect_err("a run that breaks off"))
+    }
+}
+
+mod screen {
+    #![allow(dead_code)]
+    include!("../examples/screen.rs");
+
+    pub fn of(sheet: &[u8]) -> String {
+        shown(sheet).expect("a run that succeeds")
     }
 }
 
@@ -43,6 +52,13 @@ fn the_error_reads_as_it_is_shown() {
     // The README shows the line in two.
     let shown = file("rust/README.md").split_whitespace().collect::<Vec<_>>().join(" ");
     assert!(shown.contains(&program::broken_off()), "{}", program::broken_off());
+}
+
+#[test]
+fn the_screen_shows_what_stands_here() {
+    let text = screen::of(&bytes("cylinders/nitric_oxide.sheet"));
+    let shown: String = text.lines().map(|line| format!("    {line}\n")).collect();
+    assert!(file("rust/README.md").contains(&shown), "{shown}");
 }
 
 #[test]

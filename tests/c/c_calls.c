@@ -259,6 +259,38 @@ static void nights(void) {
     same("the line behind those that are said to be there", line, 4);
 }
 
+// One amount that stays at k from k to k + 1: 50 steps, of which two give up their room.
+static void shelves(void) {
+    double room[192], ends[96], cont[4] = {0}, got[1] = {7};
+    const double nan = double_of(UINT64_C(0x7ff8000000000000)), asked[] = {2, 2.5, 49, 50, 1.5, 50.5}, *x = asked;
+    const double amounts[] = {2, 2, 49, 49};
+    size_t shelf[ELCHEPUR_SHELF] = {7, 7}, unfit[ELCHEPUR_SHELF] = {0, 48};
+    elchepur_empty_shelf(shelf);
+    same("the steps of an empty shelf", shelf[0], 0);
+    same("its place", shelf[1], 0);
+    same("an empty shelf asked", elchepur_ask_shelf(shelf, 0.0, got, 1, room, 192, ends, 96), ELCHEPUR_REFUSED_POINT);
+    for (size_t k = 0; k < 50; k++) {
+        cont[0] = (double)k;
+        same("a step", elchepur_put_on_shelf(shelf, cont, 4, cont[0], 1.0, room, 192, ends, 96), 0);
+    }
+    same("the steps of a full shelf", shelf[0], ELCHEPUR_SHELF_STEPS);
+    same("its place", shelf[1], 2);
+    for (size_t k = 0; k < 4; k++, x++) {
+        same("a past point", elchepur_ask_shelf(shelf, *x, got, 1, room, 192, ends, 96), 0);
+        doubles("its amount", got, amounts + k, 1);
+    }
+    for (size_t k = 0; k < 2; k++, x++)
+        same("a point of no step", elchepur_ask_shelf(shelf, *x, got, 1, room, 192, ends, 96), ELCHEPUR_REFUSED_POINT);
+    same("a NaN", elchepur_ask_shelf(shelf, nan, got, 1, room, 192, ends, 96), ELCHEPUR_REFUSED_POINT);
+    same("what was left", bits_of(got[0]), bits_of(49.0));
+    same("no shelf", elchepur_ask_shelf(unfit, 2.0, got, 1, room, 192, ends, 96), ELCHEPUR_REFUSED_UNFIT);
+    same("no shelf", elchepur_put_on_shelf(unfit, cont, 4, 0.0, 1.0, room, 192, ends, 96), ELCHEPUR_REFUSED_UNFIT);
+    same("a short room", elchepur_ask_shelf(unfit, 2.0, got, 1, room, 191, ends, 96), ELCHEPUR_REFUSED_PART);
+    same("three coefficients", elchepur_put_on_shelf(shelf, cont, 3, 0.0, 1.0, room, 144, ends, 96),
+         ELCHEPUR_REFUSED_PART);
+    same("short ends", elchepur_put_on_shelf(shelf, cont, 4, 0.0, 1.0, room, 192, ends, 95), ELCHEPUR_REFUSED_PART);
+}
+
 int main(void) {
     scalars();
     matrices();
@@ -267,6 +299,7 @@ int main(void) {
     openings();
     sheets();
     nights();
+    shelves();
     printf("%d answers of single calls, %d wrong\n", seen, wrong);
     return wrong != 0;
 }

@@ -1,12 +1,15 @@
 // Replays the stored runs of the Rust's own `solve` through include/elchepur_host.h: its callbacks must be called for
 // the Rust's requests and in their order, each with the part that was meant, and give what the Rust's host gave; the
-// end must be the Rust's. All 22 parts are compared at every call.
+// end must be the Rust's. All 22 parts are compared at every call. Each run's steps go on a shelf, which is asked
+// before a modified point empties it and at the end.
 #include "c_stored.h"
+#include "c_shelf.h"
 
 struct replay {
     struct elchepur_memory m;
     struct elchepur_talk talk;
-    uint64_t left;
+    uint64_t left, reports;
+    struct shelf *shelf;
 };
 
 // Reads the head of a request, which must be of this kind and come at these points, the parts as the Rust had them.
@@ -55,6 +58,11 @@ static uint64_t report(void *user, struct elchepur_report *at) {
         same("a new amount before it is written", bits_of(at->new_y[i]), bits_of(at->y[i]));
         at->new_y[i] = -7.0;
     }
+    if (replay->reports++ > 0) put_on_shelf(replay->shelf, replay->m.cont, at->xold, at->h);
+    if (reply == ELCHEPUR_REPLY_MODIFIED) {
+        ask_everywhere(replay->shelf);
+        empty_shelf(replay->shelf, at->n);
+    }
     if (reply == ELCHEPUR_REPLY_MODIFIED || reply == ELCHEPUR_REPLY_MARK) at->value = double_of(word());
     if (reply == ELCHEPUR_REPLY_MODIFIED) words_into(at->new_y, at->n);
     return reply;
@@ -85,9 +93,10 @@ int main(void) {
     static struct stored_opening read;
     static double doubles[ELCHEPUR_DOUBLES(ELCHEPUR_MOST)];
     static size_t pivots[ELCHEPUR_PIVOTS(ELCHEPUR_MOST)];
+    static struct shelf shelf;
     uint64_t n;
     while (scanf("%" SCNx64, &n) == 1) {
-        struct replay replay = {.m = elchepur_host_parts(n, doubles, pivots)};
+        struct replay replay = {.m = elchepur_host_parts(n, doubles, pivots), .shelf = &shelf};
         struct elchepur_host host = {&replay, derivative, NULL, report};
         struct elchepur_outcome outcome;
         if (n < 1 || n > ELCHEPUR_MOST) stop("a stored run has no order", n);
@@ -97,10 +106,14 @@ int main(void) {
         if (read.choices >> HOST & 1) host.jacobian = jacobian;
         memset(doubles, 1, sizeof doubles);
         memset(pivots, 1, sizeof pivots);
+        empty_shelf(&shelf, n);
         same("an opening", elchepur_host_open(&read.problem, &host, &replay.m, &replay.talk), 0);
         int answer = elchepur_host_go_on(&host, &replay.m, &replay.talk, &outcome);
         met_end(&replay, answer, &outcome);
+        ask_everywhere(&shelf);
     }
     printf("%" PRIu64 " runs of the Rust with %" PRIu64 " requests agree through callbacks\n", runs, requests);
+    printf("of %" PRIu64 " questions to their shelves %" PRIu64 " are answered, as their steps have it\n", questions,
+           answers);
     return 0;
 }

@@ -1,5 +1,5 @@
 #!/usr/bin/env python3
-"""The crates `export`, `export_forecast`, `export_sheet` and `export_totals` as programs in C see them: their header,
+"""The crates that offer functions to C (tests/support/exported.py names them) as programs in C see them: their header,
 their archive, and runs through both.
 
     tests/c/c_program.py check [FOLDER]  hold the header to the sources, and run the programs in C: on the archive,
@@ -29,7 +29,7 @@ The programs:
     stored there, and once more with a Jacobian of the host's own, with the answers that the Rust gives then.
 The last three run on include/elchepur_host.h, which has what every host writes again, and whose example must print
 what it says there:
-  - tests/c/c_hosted.c replays the stored runs of the Rust once more, through its callbacks;
+  - tests/c/c_hosted.c replays the stored runs of the Rust once more, through its callbacks, a shelf beside each;
   - tests/c/c_endings.c brings about every way in which a run can end."""
 
 import re

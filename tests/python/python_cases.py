@@ -255,6 +255,59 @@ def check_shortened(module):
         insist(bool(caught) == (rule == "rust"), f"{len(caught)} warnings under the {rule} rule")
 
 
+# --- A shelf of recent steps ---------------------------------------------------------------------
+
+
+def circle(x, y):
+    return [y[1], -y[0]]
+
+
+def amounts_of(module, step, x):
+    """What the coefficients alone give; a step itself has at its end the amounts that were reached."""
+    return module.Step(step.xold, math.nan, step.h, step.y, step._coefficients)(x)
+
+
+def shelved(module, f, end, modified_at=0, **settings):
+    """A run with a shelf, and all its steps since the point was modified."""
+    shelf, steps = module.Shelf(), []
+
+    def report(xold, x, y, step):
+        steps.extend([step] if step else [])
+        if next(count) != modified_at:
+            return None
+        steps.clear()
+        return module.Modified(x, [y[0] + 0.125, y[1]])
+
+    for _ in range(2):  # a run begins with an empty shelf
+        steps.clear()
+        count = itertools.count(1)
+        module.solve(f, (0.0, end), [2.0, 0.0], report=report, shelf=shelf, **settings)
+    return shelf, steps
+
+
+def check_shelf(module):
+    """A shelf beside a list of all steps: forwards, backwards, past 48 steps, a modified point and shortened steps; and
+    the same where no step is offered."""
+    fine = {"rtol": 1e-9, "atol": 1e-9}
+    runs = ((circle, 40.0, 0, fine), (circle, -40.0, 0, fine), (circle, 40.0, 60, fine),
+            (relaxation, 2.0, 0, {"rtol": 1e-2, "atol": 1e-2}))
+    left_out = 0
+    for f, end, modified_at, settings in runs:
+        shelf, steps = shelved(module, f, end, modified_at, dense_output=True, **settings)
+        quiet, _ = shelved(module, f, end, modified_at, **settings)
+        insist(len(shelf) == min(len(steps), 48) > 0, f"{len(shelf)} steps are kept")
+        ends = [(*step.bounds(), step.x) for step in steps]
+        left_out += sum(not low <= x <= high for low, high, x in ends)
+        points = [x for low, high, x in ends for x in (low, (low + high) / 2, high, x)]
+        for x in (*points, math.nan, 1e9, -1e9):
+            held = [step for step in steps[-48:] if step.bounds()[0] <= x <= step.bounds()[1]]
+            wanted = amounts_of(module, held[-1], x) if held else None
+            insist(shelf.at(x) == wanted, f"the shelf has {shelf.at(x)} at {x!r}, and not {wanted}")
+            insist(quiet.at(x) == wanted, f"with no step offered it has {quiet.at(x)} at {x!r}, and not {wanted}")
+    insist(left_out > 0, "no step was shortened")
+    insist(module.Shelf().at(0.0) is None, "an empty shelf answers")
+
+
 # --- What is taken for a library -----------------------------------------------------------------
 
 
@@ -322,6 +375,7 @@ def check(module, path):
     check_points(module)
     check_rounding(module)
     check_shortened(module)
+    check_shelf(module)
     check_readme(path)
     sheet = ROOT / "cylinders" / "nitric_oxide.sheet"
     found = [module.forecast(given) for given in (sheet, sheet.read_text(), sheet.read_bytes())]

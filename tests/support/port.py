@@ -22,6 +22,8 @@ CRATES = {
     "bits": ["words"],
     "scalar": ["words"],
     "dense": ["words", "scalar"],
+    "shelf": ["words", "scalar", "dense"],
+    "export_shelf": ["words", "scalar", "dense", "shelf"],
     "state": ["words"],
     "matrix": ["words", "scalar", "state"],
     "opening": ["words", "scalar", "state"],

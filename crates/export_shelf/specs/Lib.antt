@@ -1,0 +1,2 @@
+-- A shelf's state as two numbers.
+pub mod Border
