@@ -73,26 +73,26 @@ def others():
 
 # Calls of a shelf.
 EMPTIED, FORGED_SHELF, MANY, ONE, ASKED = 0, 1, 2, 3, 8
+BACKWARD = 192  # the usual step with the other sign
 
 
-def shelf_calls(count, ends=(USUAL, USUAL)):
-    """So many steps one after the other, then a question at each quarter of the newest and of an older one."""
-    put = bytes([NOT_SELDOM, *ends, NOT_SELDOM])
+def shelf_questions(count, ends=None):
+    """So many steps one after the other, then a question at each quarter of the newest and of older ones."""
+    put = bytes([MANY, count]) if ends is None else bytes([ONE, NOT_SELDOM, *ends, NOT_SELDOM]) * count
     questions = [bytes([ASKED, back, quarter, USUAL, NOT_SELDOM]) for back in (0, 1, 49) for quarter in range(5)]
-    return bytes([MANY, count]) + put * count + b"".join(questions)
+    return put + b"".join(questions)
 
 
 def shelves():
     """Few and many steps of few and many amounts, forwards and backwards, emptied and gone on with, asked at a NaN, and
     shelves of other words and lengths."""
-    back = (USUAL, 192)
-    filled = [bytes([seed, size]) + shelf_calls(count, ends) for seed, size in enumerate((0, 1, 3, 231))
-              for count in (1, 5) for ends in ((USUAL, USUAL), back)]
+    filled = [bytes([seed, size]) + shelf_questions(count, ends) for seed, size in enumerate((0, 1, 3, 231))
+              for count, ends in ((1, None), (5, None), (48, None), (99, None), (9, (USUAL, BACKWARD)))]
     full = bytes([7, 1, MANY, 55])
     tails = [bytes([ASKED, 0, 0, NAN, NOT_SELDOM]), bytes([EMPTIED, ASKED, USUAL, NOT_SELDOM]),
              bytes([FORGED_SHELF, SELDOM, SELDOM, 3, SELDOM, SELDOM, 2, ASKED, 0, 2, USUAL, NOT_SELDOM]),
              bytes([ASKED, 0, 2, USUAL, SELDOM, 1]), bytes([ONE, NOT_SELDOM, USUAL, USUAL, SELDOM, 1, 0, 0])]
-    return filled + [full + bytes(4 * 55) + tail for tail in tails]
+    return filled + [full + tail for tail in tails]
 
 
 OVER_AND_OVER = 63  # a first byte by which nights.cpp has the lines over and over

@@ -97,7 +97,7 @@ class Session {
     static size_t size_of(uint8_t choice) { return choice < 200 ? choice % 4 : choice % 33; }
 
     void empty();
-    void put();
+    void put(Input &bytes);
     void ask();
     void forge();
     Guarded resized(const Guarded &part);
@@ -164,15 +164,16 @@ void Session::judge_put(const Guarded &before, const Guarded &before_ends) const
     if (known) judge_kept();
 }
 
-void Session::put() {
+// A step as these bytes have it; where there are none, one that follows the last.
+void Session::put(Input &bytes) {
     Guarded cont(4 * n, rubbish);
-    bool drawn = input.seldom();
+    bool drawn = bytes.seldom();
     for (size_t k = 0; k < 4 * n; k++) {
         double usual = static_cast<double>(rubbish.word() % 1000) / 8.0;
-        cont.words().set(k, drawn ? input.number(usual) : usual);
+        cont.words().set(k, drawn ? bytes.number(usual) : usual);
     }
-    double xold = input.number(steps.empty() ? 0.0 : steps.back().xold + steps.back().h), h = input.number(0.5);
-    bool odd = input.seldom();
+    double xold = bytes.number(steps.empty() ? 0.0 : steps.back().xold + steps.back().h), h = bytes.number(0.5);
+    bool odd = bytes.seldom();
     Guarded given = odd ? resized(cont) : cont, room = odd ? resized(coefficients) : coefficients;
     Guarded pairs = odd ? resized(ends) : ends;
     const Guarded before = room, before_ends = pairs, before_shelf = shelf;
@@ -251,8 +252,12 @@ void Session::call() {
     switch (input.below(16)) {
     case 0: return empty();
     case 1: return forge();
-    case 2: for (size_t count = input.below(100); count > 0; count--) put(); return;
-    case 3: case 4: case 5: case 6: case 7: return put();
+    case 2: {
+        Input none(nullptr, 0);
+        for (size_t count = input.below(100); count > 0; count--) put(none);
+        return;
+    }
+    case 3: case 4: case 5: case 6: case 7: return put(input);
     default: return ask();
     }
 }
