@@ -1,12 +1,18 @@
 // The solver where a run stands: `solve` (radau.rs) from one call of the host to the next, on two lent arrays that hold
 // the run and are changed in place. Its definitions, and the laws that its proofs cite, stand in `solve_blocks`.
+mod attempt;
+mod control;
 mod entries;
 mod estimate;
+mod jacobian;
+mod judge;
 mod kept;
 mod matrices;
 mod newton;
 mod passes;
 mod places;
+mod report;
+mod round;
 mod scale;
 mod stage;
 mod step;

@@ -30,7 +30,7 @@ ghost use Rattle.solve_blocks.specs.Setters.{inCounts, inControl, oneLu};
 ghost use Rattle.solve_blocks.specs.Matrices.{missed, failedOf, isErr, tried, complexTriedOf};
 ghost use Rattle.solve_blocks.specs.Matrices.{realTriedOf, triedOf, passesOn, passesOf};
 ghost use Rattle.solve_blocks.specs.Needs.{Fit, StepFit, FactorsLong};
-ghost use Rattle.radau_core.specs.Places.{runAt, Sized, stepAt};
+ghost use Rattle.radau_core.specs.Places.{_#_, runAt, Sized, stepAt};
 
 // After any attempt that is not accepted.
 pub fn missed(words: &mut [usize; WORDS], doubles: &mut [f64; DOUBLES])
@@ -94,7 +94,7 @@ fn complex_tried(
     ip2: &mut [usize],
 ) -> Step
     requires { ⌜ Sized (now words) (now doubles) ⌝ }
-    requires { ⌜ Fit 1 (runAt (now words) (now doubles) .shape .n) (runAt (now words) (now doubles)) ⌝ }
+    requires { ⌜ Fit 1 (now words # 16) (runAt (now words) (now doubles)) ⌝ }
     ensures { λ _. ⌜ Sized (now (words .exit)) (now (doubles .exit)) ⌝ }
     ensures { λ r. ⌜ ((e1 : List Float) (ip1 : List ℕ)
         → tried (stepAt r (runAt (now (words .exit)) (now (doubles .exit))))
@@ -121,7 +121,7 @@ fn real_tried(
     ip2: &mut [usize],
 ) -> Step
     requires { ⌜ Sized (now words) (now doubles) ⌝ }
-    requires { ⌜ Fit 2 (runAt (now words) (now doubles) .shape .n) (runAt (now words) (now doubles)) ⌝ }
+    requires { ⌜ Fit 2 (now words # 16) (runAt (now words) (now doubles)) ⌝ }
     ensures { λ _. ⌜ Sized (now (words .exit)) (now (doubles .exit)) ⌝ }
     ensures { λ r. ⌜ tried (stepAt r (runAt (now (words .exit)) (now (doubles .exit))))
         (factors (now (e1 .exit)) (now (e2r .exit)) (now (e2i .exit)) (now (ip1 .exit)) (now (ip2 .exit)))
@@ -151,10 +151,10 @@ fn tried(
     ip2: &mut [usize],
 ) -> Step
     requires { ⌜ Sized (now words) (now doubles) ⌝ }
-    requires { ⌜ Fit 2 (runAt (now words) (now doubles) .shape .n) (runAt (now words) (now doubles)) ⌝ }
-    requires { ⌜ Square (runAt (now words) (now doubles) .shape .n) (now mass)
-        × Square (runAt (now words) (now doubles) .shape .n) (now jac)
-        × FactorsLong (runAt (now words) (now doubles) .shape .n)
+    requires { ⌜ Fit 2 (now words # 16) (runAt (now words) (now doubles)) ⌝ }
+    requires { ⌜ Square (now words # 16) (now mass)
+        × Square (now words # 16) (now jac)
+        × FactorsLong (now words # 16)
         (factors (now e1) (now e2r) (now e2i) (now ip1) (now ip2)) ⌝ }
     ensures { λ _. ⌜ Sized (now (words .exit)) (now (doubles .exit)) ⌝ }
     ensures { λ r. ⌜ tried (stepAt r (runAt (now (words .exit)) (now (doubles .exit))))
@@ -199,15 +199,16 @@ pub fn passes(
     ip2: &mut [usize],
 ) -> Step
     requires { ⌜ Sized (now words) (now doubles) ⌝ }
-    requires { ⌜ StepFit 12 (runAt (now words) (now doubles) .shape .n) (stepAt step (runAt (now words) (now doubles))) ⌝ }
-    requires { ⌜ Square (runAt (now words) (now doubles) .shape .n) (now mass)
-        × Square (runAt (now words) (now doubles) .shape .n) (now jac)
-        × FactorsLong (runAt (now words) (now doubles) .shape .n)
+    requires { ⌜ StepFit 12 (now words # 16) (stepAt step (runAt (now words) (now doubles))) ⌝ }
+    requires { ⌜ Square (now words # 16) (now mass)
+        × Square (now words # 16) (now jac)
+        × FactorsLong (now words # 16)
         (factors (now e1) (now e2r) (now e2i) (now ip1) (now ip2)) ⌝ }
     ensures { λ _. ⌜ Sized (now (words .exit)) (now (doubles .exit)) ⌝ }
     ensures { λ r. ⌜ tried (stepAt r (runAt (now (words .exit)) (now (doubles .exit))))
         (factors (now (e1 .exit)) (now (e2r .exit)) (now (e2i .exit)) (now (ip1 .exit)) (now (ip2 .exit)))
-        ≡ passesOf (stepAt step (runAt (now (words .entry)) (now (doubles .entry)))) (now (mass .entry)) (now (jac .entry))
+        ≡ passesOf (stepAt step (runAt (now (words .entry)) (now (doubles .entry))))
+        (now (mass .entry)) (now (jac .entry))
         (factors (now (e1 .entry)) (now (e2r .entry)) (now (e2i .entry)) (now (ip1 .entry))
         (now (ip2 .entry))) .core ⌝ }
 {

@@ -12,7 +12,7 @@ ghost use mathlib.Core.Path.{_≡_};
 ghost use Rattle.state.specs.Numbers.{statusNumber};
 ghost use Rattle.solve_blocks.specs.Setters.{atStage};
 ghost use Rattle.solve_blocks.specs.Matrices.{endedOf};
-ghost use Rattle.radau_core.specs.Choices.{stageTag, stagePart};
+ghost use Rattle.radau_core.specs.Choices.{statusOf, stageTag, stagePart};
 ghost use Rattle.radau_core.specs.Places.{runAt, Sized, callAt};
 
 fn status_word(status: Status) -> usize
@@ -24,6 +24,19 @@ fn status_word(status: Status) -> usize
         Status::NeedLargerNMax => 2,
         Status::StepSizeTooSmall => 3,
         Status::SingularMatrix => 5,
+    }
+}
+
+// The status with a number.
+pub fn status_at(word: usize) -> Status
+    ensures { λ r. ⌜ r ≡ statusOf word ⌝ }
+{
+    match word {
+        1 => Status::UserInterrupt,
+        2 => Status::NeedLargerNMax,
+        3 => Status::StepSizeTooSmall,
+        5 => Status::SingularMatrix,
+        _ => Status::Success,
     }
 }
 
