@@ -1,2 +1,3 @@
--- The laws of the places, which the proofs of the code cite.
+-- The laws that the proofs of the code cite: of the places, and of an advance.
 pub mod PlaceLaws
+pub mod CoreLaws

@@ -5,6 +5,7 @@
 --     flag-back, unflagged    a flag is read as it was written; denied twice it is itself
 --     flag-set, flag-clear    a flag that was tested
 --     run-back                the run of a step is the run
+--     at-first-report, ..     a stage by its number
 use Prim.Native.Nat.{ℕ, zero, suc, _+_}
 use mathlib.Core.Bool.{Bool, true, false, not}
 use mathlib.Core.Path.{_≡_, refl, sym, ap, _∙_}
@@ -98,3 +99,75 @@ module _ {k : ℕ} where
 
   pub flag-clear : k ≡ 0 → flagOf k ≡ false
   flag-clear h = ap not (eq-eqb k 0 h)
+
+-- ---- a stage by its number
+
+module _ (part : ℕ) {k : ℕ} where
+  pub at-first-report : k ≡ 1 → stageOf k part ≡ stage.FirstReport
+  unfolding stageOf pick
+  at-first-report e = rw e
+
+  pub at-first-derivative-again : k ≡ 2 → stageOf k part ≡ stage.FirstDerivativeAgain
+  unfolding stageOf pick
+  at-first-derivative-again e = rw e
+
+  pub at-jacobian : k ≡ 3 → stageOf k part ≡ stage.Jacobian
+  unfolding stageOf pick
+  at-jacobian e = rw e
+
+  pub at-column : k ≡ 4 → stageOf k part ≡ stage.Column part
+  unfolding stageOf pick
+  at-column e = rw e
+
+  pub at-newton-1 : k ≡ 5 → stageOf k part ≡ stage.Newton1
+  unfolding stageOf pick
+  at-newton-1 e = rw e
+
+  pub at-newton-2 : k ≡ 6 → stageOf k part ≡ stage.Newton2
+  unfolding stageOf pick
+  at-newton-2 e = rw e
+
+  pub at-newton-3 : k ≡ 7 → stageOf k part ≡ stage.Newton3
+  unfolding stageOf pick
+  at-newton-3 e = rw e
+
+  pub at-refinement : k ≡ 8 → stageOf k part ≡ stage.Refinement
+  unfolding stageOf pick
+  at-refinement e = rw e
+
+  pub at-accepted : k ≡ 9 → stageOf k part ≡ stage.Accepted
+  unfolding stageOf pick
+  at-accepted e = rw e
+
+  pub at-report : k ≡ 10 → stageOf k part ≡ stage.Report
+  unfolding stageOf pick
+  at-report e = rw e
+
+  pub at-derivative-again : k ≡ 11 → stageOf k part ≡ stage.DerivativeAgain
+  unfolding stageOf pick
+  at-derivative-again e = rw e
+
+  pub at-ended : k ≡ 12 → stageOf k part ≡ stage.Ended (statusOf part)
+  unfolding stageOf pick
+  at-ended e = rw e
+
+  -- any other number is that of the first
+  pub at-first-derivative : (k ≡ 1 → ⊥) → (k ≡ 2 → ⊥) → (k ≡ 3 → ⊥) → (k ≡ 4 → ⊥) → (k ≡ 5 → ⊥) → (k ≡ 6 → ⊥)
+      → (k ≡ 7 → ⊥) → (k ≡ 8 → ⊥) → (k ≡ 9 → ⊥) → (k ≡ 10 → ⊥) → (k ≡ 11 → ⊥) → (k ≡ 12 → ⊥)
+      → stageOf k part ≡ stage.FirstDerivative
+  unfolding stageOf pick
+  at-first-derivative a b c d e f g h i j l m =
+      rw (
+        ne-eqb k 1 a,
+        ne-eqb k 2 b,
+        ne-eqb k 3 c,
+        ne-eqb k 4 d,
+        ne-eqb k 5 e,
+        ne-eqb k 6 f,
+        ne-eqb k 7 g,
+        ne-eqb k 8 h,
+        ne-eqb k 9 i,
+        ne-eqb k 10 j,
+        ne-eqb k 11 l,
+        ne-eqb k 12 m,
+      )

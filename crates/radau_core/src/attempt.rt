@@ -294,9 +294,10 @@ pub fn attempt(
         (newton (now (z1 .entry)) (now (z2 .entry)) (now (z3 .entry)) (now (f1 .entry)) (now (f2 .entry))
         (now (f3 .entry))) .core ⌝ }
 {
+    let most = words[MAX_STEPS];
     let total = words[TOTAL] + 1;
     words[TOTAL] = total;
-    if words[MAX_STEPS] < total {
+    if most < total {
         return ended(words, doubles, Status::NeedLargerNMax);
     }
     if 0.1 * abs(doubles[H]) <= abs(doubles[X]) * doubles[UROUND] {

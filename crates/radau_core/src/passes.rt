@@ -189,6 +189,7 @@ fn passes_on(step: Step, words: &[usize; WORDS]) -> bool
 pub fn passes(
     words: &mut [usize; WORDS],
     doubles: &mut [f64; DOUBLES],
+    n: usize,
     step: Step,
     mass: &[f64],
     jac: &[f64],
@@ -199,10 +200,10 @@ pub fn passes(
     ip2: &mut [usize],
 ) -> Step
     requires { ⌜ Sized (now words) (now doubles) ⌝ }
-    requires { ⌜ StepFit 12 (now words # 16) (stepAt step (runAt (now words) (now doubles))) ⌝ }
-    requires { ⌜ Square (now words # 16) (now mass)
-        × Square (now words # 16) (now jac)
-        × FactorsLong (now words # 16)
+    requires { ⌜ StepFit 12 n (stepAt step (runAt (now words) (now doubles))) ⌝ }
+    requires { ⌜ Square n (now mass)
+        × Square n (now jac)
+        × FactorsLong n
         (factors (now e1) (now e2r) (now e2i) (now ip1) (now ip2)) ⌝ }
     ensures { λ _. ⌜ Sized (now (words .exit)) (now (doubles .exit)) ⌝ }
     ensures { λ r. ⌜ tried (stepAt r (runAt (now (words .exit)) (now (doubles .exit))))

@@ -10,21 +10,21 @@ use Rattle.solve_blocks.specs.Matrices.{Tried, tried}
 use Rattle.solve_blocks.specs.Needs.{FactorsLong}
 use Rattle.solve_blocks.proofs.PassLaws.{passed, passes-turned, passes-stopped, passes-ended}
 use Rattle.solve_blocks.proofs.FitLaws.{next-fit, pass-asks}
-use Rattle.radau_core.specs.Places.{_#_, runAt, Sized, stepAt}
+use Rattle.radau_core.specs.Places.{runAt, Sized, stepAt}
 use Rattle.radau_core.proofs.PlaceLaws.{run-back}
 use borrow.Author.Needs.{needs}
 use Rattle.radau_core.proofs.passes.passes.Statement.{statement}
 use Rattle.radau_core.proofs.passes.passes.Tie as tie
 
 abbrev Inv-loop : tie.InvT-loop
-Inv-loop words₀ doubles₀ mass jac e1₀ e2r₀ e2i₀ ip1₀ ip2₀ s₀ counter₀ words doubles e1 e2r e2i ip1 ip2 s counter =
+Inv-loop words₀ doubles₀ n mass jac e1₀ e2r₀ e2i₀ ip1₀ ip2₀ s₀ counter₀ words doubles e1 e2r e2i ip1 ip2 s counter =
     Sized words doubles
-    × Ran (passed mass jac) (λ (t : Tried). FactorsLong (words₀ # 16) (t .factors)) 0 6 counter
+    × Ran (passed mass jac) (λ (t : Tried). FactorsLong n (t .factors)) 0 6 counter
     (tried (stepAt s₀ (runAt words₀ doubles₀)) (factors e1₀ e2r₀ e2i₀ ip1₀ ip2₀))
     (tried (stepAt s (runAt words doubles)) (factors e1 e2r e2i ip1 ip2))
 
 abbrev μ-loop : tie.MeasureT-loop
-μ-loop words₀ doubles₀ mass jac e1₀ e2r₀ e2i₀ ip1₀ ip2₀ s₀ counter₀ words doubles e1 e2r e2i ip1 ip2 s counter =
+μ-loop words₀ doubles₀ n mass jac e1₀ e2r₀ e2i₀ ip1₀ ip2₀ s₀ counter₀ words doubles e1 e2r e2i ip1 ip2 s counter =
     6 - counter
 
 loop-holds : tie.Need-loop-holds Inv-loop μ-loop
