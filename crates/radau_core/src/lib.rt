@@ -1,5 +1,6 @@
 // The solver where a run stands: `solve` (radau.rs) from one call of the host to the next, on two lent arrays that hold
 // the run and are changed in place. Its definitions, and the laws that its proofs cite, stand in `solve_blocks`.
+pub mod advance;
 mod attempt;
 mod control;
 mod entries;
@@ -10,9 +11,9 @@ mod kept;
 mod matrices;
 mod newton;
 mod passes;
-mod places;
+pub mod places;
 mod report;
 mod round;
 mod scale;
 mod stage;
-mod step;
+pub mod step;

@@ -14,6 +14,12 @@ weighted-requires : tie.Need-weighted-requires
 weighted-requires c κs = rw (c .before .before .shape-at .ensures) (omega (arith, c .before .before .before .before
     .before .before .before .before .before .before .before .before .before .before .before .pre .1))
 
+started-requires : tie.Need-started-requires
+started-requires c κs = c .before .before .before .before .before .before .before .before .before .before .before
+    .before .before .before .before .before .before .before .before .before .before .before .before .before .before
+    .before .before .before .before .before .before .before .before .before .before .before .before .before .before
+    .before .before .before .pre .0
+
 ask-first-requires : tie.Need-ask-first-requires
 ask-first-requires c κs =
     let e = ap (λ (r : Run). r .shape .n) (c .before .before .before .before .started .ensures .1) in (
@@ -90,6 +96,6 @@ returns c =
 pub began-spec : {M : Type 1} → statement M
 began-spec =
     tie.close (tie.spec (λ c. search needs) (λ c. search needs) (λ c κs. search needs) (λ c. search needs)
-    weighted-requires (λ c. search needs) (λ c. search needs) (λ c κs. search needs) (λ c κs. search needs)
+    weighted-requires (λ c. search needs) (λ c. search needs) (λ c κs. search needs) started-requires
     ask-first-requires same-length (λ c. search needs) same-length-3 same-length-4 same-length-5 same-length-6
     same-length-7 same-length-8 returns)

@@ -10,6 +10,12 @@ use borrow.Author.Needs.{needs}
 use Rattle.radau_core.proofs.judge.estimate.Statement.{statement}
 use Rattle.radau_core.proofs.judge.estimate.Tie as tie
 
+solve-first-requires : tie.Need-solve-first-requires
+solve-first-requires c κs = omega (arith, c .before .before .before .before .before .before .before .before .before
+    .before .before .before .before .before .before .before .before .before .before .before .before .before .before
+    .before .before .before .before .before .before .pre .1, c .before .before .before .before .before .error-sides
+    .kept)
+
 error-requires : tie.Need-error-requires
 error-requires c κs =
     let p = c .before .before .before .before .before .before .before .before .before .before .before .before .before
@@ -97,5 +103,5 @@ returns c =
 pub estimate-spec : {M : Type 1} → statement M
 estimate-spec =
     tie.close (tie.spec (λ c. search needs) (λ c κs. search needs) (λ c. search needs) (λ c. search needs)
-    (λ c κs. search needs) (λ c κs. search needs) (λ c κs. search needs) error-requires counted-requires
-    tested-requires same-length same-length-2 same-length-3 same-length-4 returns)
+    (λ c κs. search needs) (λ c κs. search needs) solve-first-requires error-requires counted-requires tested-requires
+    same-length same-length-2 same-length-3 same-length-4 returns)
