@@ -1,8 +1,9 @@
 -- How a choice stands at its place as a number. Read, every number means something: 0 the one, any other the other.
 use Prim.Native.Nat.{ℕ}
-use mathlib.Core.Bool.{Bool, not}
+use mathlib.Core.Bool.{Bool, true, false, not}
 use lib.Dec.{eqb}
 use lib.Ieee.{Float}
+use Rattle.words.specs.Constants.{«0·0»}
 use Rattle.words.specs.Loop.{pick}
 use Rattle.state.specs.declared.settings.Number.{Number}
 use Rattle.state.specs.declared.settings.Number.the-variants as number
@@ -99,3 +100,45 @@ stagePart stage.Accepted = 0
 stagePart stage.Report = 0
 stagePart stage.DerivativeAgain = 0
 stagePart (stage.Ended s) = statusNumber s
+
+-- ---- written: the other is 1, and what is absent is 0
+
+abbrev pub flagWord : Bool → ℕ
+flagWord false = 0
+flagWord true = 1
+
+abbrev pub numberTag : Number → ℕ
+numberTag number.Absent = 0
+numberTag (number.Given x) = 1
+
+abbrev pub numberValue : Number → Float
+numberValue number.Absent = «0·0»
+numberValue (number.Given x) = x
+
+abbrev pub wholeTag : Whole → ℕ
+wholeTag whole.Absent = 0
+wholeTag (whole.Given k) = 1
+
+abbrev pub massWord : Mass → ℕ
+massWord mass.Identity = 0
+massWord mass.Full = 1
+
+abbrev pub sourceWord : Source → ℕ
+sourceWord source.Host = 0
+sourceWord source.Differences = 1
+
+abbrev pub ruleWord : Rule → ℕ
+ruleWord rule.Rust = 0
+ruleWord rule.Book = 1
+
+abbrev pub tolerancesTag : Tolerances → ℕ
+tolerancesTag (tolerances.Scalars rtol atol) = 0
+tolerancesTag tolerances.Lists = 1
+
+abbrev pub rtolValue : Tolerances → Float
+rtolValue (tolerances.Scalars rtol atol) = rtol
+rtolValue tolerances.Lists = «0·0»
+
+abbrev pub atolValue : Tolerances → Float
+atolValue (tolerances.Scalars rtol atol) = atol
+atolValue tolerances.Lists = «0·0»

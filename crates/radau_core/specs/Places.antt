@@ -2,7 +2,7 @@
 -- `solve_blocks` that the code's stand for where the run is r.
 use Prim.Native.Nat.{ℕ}
 use mathlib.Core.Path.{_≡_}
-use mathlib.Core.List.{List}
+use mathlib.Core.List.{List, [], _∷_}
 use lib.Ieee.{Float}
 use lib.ListN.{getD, length}
 use Rattle.words.specs.Words.{_!_}
@@ -13,6 +13,7 @@ use Rattle.state.specs.declared.run.Fixed.{Fixed}
 use Rattle.state.specs.declared.run.Counts.{Counts}
 use Rattle.state.specs.declared.run.Control.{Control}
 use Rattle.state.specs.declared.run.Numbers.{Numbers}
+use Rattle.state.specs.Settings.{orNone}
 use Rattle.solve_blocks.specs.declared.step.Call as theCall
 use Rattle.solve_blocks.specs.declared.step.Step as theStep
 use Rattle.solve_blocks.specs.declared.step.Step.the-variants as step
@@ -28,6 +29,8 @@ use Rattle.radau_core.specs.declared.step.Round.the-variants.{Newton, Es
 use Rattle.radau_core.specs.declared.step.Heard.{Heard}
 use Rattle.radau_core.specs.declared.step.Heard.the-variants as held
 use Rattle.radau_core.specs.Choices.{flagOf, numberOf, wholeOf, massOf, sourceOf, ruleOf, tolerancesOf, stageOf}
+use Rattle.radau_core.specs.Choices.{stageTag, stagePart, flagWord, numberTag, numberValue, wholeTag}
+use Rattle.radau_core.specs.Choices.{massWord, sourceWord, ruleWord, tolerancesTag, rtolValue, atolValue}
 
 infixl 90 _#_
 abbrev pub _#_ : List ℕ → ℕ → ℕ
@@ -143,3 +146,80 @@ roundAt (Over s) r = round.Over (stepAt s r)
 abbrev pub heardAt : Heard → Run → theHeard.Heard
 heardAt (held.Asked c) r = heard.Asked (callAt c r)
 heardAt held.Reported r = heard.Reported r
+
+-- ---- a run put into its places
+
+abbrev pub wordsOf : Run → List ℕ
+wordsOf r =
+    stageTag (r .stage)
+    ∷ stagePart (r .stage)
+    ∷ r .counts .ode
+    ∷ r .counts .jac
+    ∷ r .counts .lu
+    ∷ r .counts .total
+    ∷ r .counts .accepted
+    ∷ r .counts .rejected
+    ∷ flagWord (r .control .first)
+    ∷ flagWord (r .control .last)
+    ∷ flagWord (r .control .reject)
+    ∷ flagWord (r .control .«call_jac»)
+    ∷ flagWord (r .control .«call_decomp»)
+    ∷ r .control .«singular_count»
+    ∷ r .control .«newt_iter»
+    ∷ numberTag (r .numbers .xout)
+    ∷ r .shape .n
+    ∷ r .shape .nind1
+    ∷ r .shape .nind2
+    ∷ r .shape .nind3
+    ∷ tolerancesTag (r .fixed .tolerances)
+    ∷ r .settings .«max_steps»
+    ∷ r .settings .«newton_maxiter»
+    ∷ flagWord (r .settings .predictive)
+    ∷ massWord (r .settings .mass)
+    ∷ sourceWord (r .settings .source)
+    ∷ flagWord (r .settings .«dense_output»)
+    ∷ ruleWord (r .settings .rule)
+    ∷ numberTag (r .settings .«max_step»)
+    ∷ numberTag (r .settings .«min_step»)
+    ∷ numberTag (r .settings .«newton_tol»)
+    ∷ numberTag (r .settings .«first_step»)
+    ∷ wholeTag (r .settings .nind1)
+    ∷ orNone (r .settings .nind1)
+    ∷ wholeTag (r .settings .nind2)
+    ∷ orNone (r .settings .nind2)
+    ∷ wholeTag (r .settings .nind3)
+    ∷ orNone (r .settings .nind3)
+    ∷ []
+
+abbrev pub doublesOf : Run → List Float
+doublesOf r =
+    r .numbers .x
+    ∷ r .numbers .xold
+    ∷ r .numbers .xph
+    ∷ r .numbers .h
+    ∷ r .numbers .hold
+    ∷ r .numbers .hnew
+    ∷ r .numbers .hhfac
+    ∷ r .numbers .«h_acc»
+    ∷ r .numbers .«err_acc»
+    ∷ r .numbers .faccon
+    ∷ r .numbers .theta
+    ∷ r .numbers .dynold
+    ∷ r .numbers .thqold
+    ∷ numberValue (r .numbers .xout)
+    ∷ r .fixed .«newton_tol»
+    ∷ r .fixed .xend
+    ∷ r .fixed .posneg
+    ∷ r .fixed .hmax
+    ∷ r .fixed .hmin
+    ∷ rtolValue (r .fixed .tolerances)
+    ∷ atolValue (r .fixed .tolerances)
+    ∷ r .settings .uround
+    ∷ r .settings .«safety_factor»
+    ∷ r .settings .«scale_min»
+    ∷ r .settings .«scale_max»
+    ∷ numberValue (r .settings .«max_step»)
+    ∷ numberValue (r .settings .«min_step»)
+    ∷ numberValue (r .settings .«newton_tol»)
+    ∷ numberValue (r .settings .«first_step»)
+    ∷ []

@@ -12,8 +12,8 @@ ghost use mathlib.Core.Path.{_≡_};
 ghost use Rattle.state.specs.Numbers.{statusNumber};
 ghost use Rattle.solve_blocks.specs.Setters.{atStage};
 ghost use Rattle.solve_blocks.specs.Matrices.{endedOf};
-ghost use Rattle.radau_core.specs.Choices.{statusOf, stageTag, stagePart};
-ghost use Rattle.radau_core.specs.Places.{runAt, Sized, callAt};
+ghost use Rattle.radau_core.specs.Choices.{statusOf, stageOf, stageTag, stagePart};
+ghost use Rattle.radau_core.specs.Places.{_#_, runAt, Sized, callAt};
 
 fn status_word(status: Status) -> usize
     ensures { λ r. ⌜ r ≡ statusNumber status ⌝ }
@@ -40,7 +40,7 @@ pub fn status_at(word: usize) -> Status
     }
 }
 
-fn stage_tag(stage: Stage) -> usize
+pub fn stage_tag(stage: Stage) -> usize
     ensures { λ r. ⌜ r ≡ stageTag stage ⌝ }
 {
     match stage {
@@ -60,7 +60,7 @@ fn stage_tag(stage: Stage) -> usize
     }
 }
 
-fn stage_part(stage: Stage) -> usize
+pub fn stage_part(stage: Stage) -> usize
     ensures { λ r. ⌜ r ≡ stagePart stage ⌝ }
 {
     match stage {
@@ -77,6 +77,27 @@ fn stage_part(stage: Stage) -> usize
         Stage::Report => 0,
         Stage::DerivativeAgain => 0,
         Stage::Ended(status) => status_word(status),
+    }
+}
+
+pub fn stage_at(words: &[usize; WORDS]) -> Stage
+    ensures { λ r. ⌜ r ≡ stageOf (now (words .entry) # 0) (now (words .entry) # 1) ⌝ }
+{
+    let tag = words[STAGE];
+    match tag {
+        1 => Stage::FirstReport,
+        2 => Stage::FirstDerivativeAgain,
+        3 => Stage::Jacobian,
+        4 => Stage::Column(words[PART]),
+        5 => Stage::Newton1,
+        6 => Stage::Newton2,
+        7 => Stage::Newton3,
+        8 => Stage::Refinement,
+        9 => Stage::Accepted,
+        10 => Stage::Report,
+        11 => Stage::DerivativeAgain,
+        12 => Stage::Ended(status_at(words[PART])),
+        _ => Stage::FirstDerivative,
     }
 }
 
