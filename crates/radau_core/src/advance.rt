@@ -302,22 +302,7 @@ fn replied(
                 f2,
             )
         }
-        8 => {
-            refined(
-                words,
-                doubles,
-                e1,
-                ip1,
-                scal,
-                y,
-                cont,
-                z1,
-                z2,
-                z3,
-                f1,
-                f2,
-            )
-        }
+        8 => { refined(words, doubles, e1, ip1, scal, y, cont, z1, z2, z3, f1, f2) }
         9 => {
             let n = words[N];
             let tolerances = tolerances_at(words, doubles);

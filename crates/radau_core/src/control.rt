@@ -7,12 +7,12 @@ use crate::places::DOUBLES;
 use crate::places::ERR_ACC;
 use crate::places::FIRST;
 use crate::places::H;
+use crate::places::H_ACC;
 use crate::places::HHFAC;
 use crate::places::HNEW;
 use crate::places::HOLD;
-use crate::places::H_ACC;
-use crate::places::NEWTON_MAXITER;
 use crate::places::NEWT_ITER;
+use crate::places::NEWTON_MAXITER;
 use crate::places::PREDICTIVE;
 use crate::places::REJECTED;
 use crate::places::SAFETY_FACTOR;
@@ -63,7 +63,8 @@ fn predictive_quot(words: &[usize; WORDS], doubles: &[f64; DOUBLES], err: f64, q
     ensures { λ r. ⌜ r ≡ predictiveQuot (runAt (now (words .entry)) (now (doubles .entry))) err quot ⌝ }
 {
     if (words[PREDICTIVE] != 0) & (1 < words[ACCEPTED] + 1) {
-        let facgus = (doubles[H_ACC] / doubles[H]) * quarter(err * err / doubles[ERR_ACC]) / doubles[SAFETY_FACTOR];
+        let facgus = (doubles[H_ACC] / doubles[H]) * quarter(err * err / doubles[ERR_ACC])
+            / doubles[SAFETY_FACTOR];
         return max(quot, between(words, doubles, facgus));
     }
     quot

@@ -73,7 +73,12 @@ fn moved(n: usize, z1: &[f64], z2: &[f64], z3: &[f64], y: &mut [f64], cont: &mut
 }
 
 // A derivative is asked at the run's x.
-pub fn ask_derivative(words: &mut [usize; WORDS], doubles: &mut [f64; DOUBLES], stage: Stage, place: Place) -> Call
+pub fn ask_derivative(
+    words: &mut [usize; WORDS],
+    doubles: &mut [f64; DOUBLES],
+    stage: Stage,
+    place: Place,
+) -> Call
     requires { ⌜ Sized (now words) (now doubles) ⌝ }
     requires { ⌜ runAt (now words) (now doubles) .counts .ode + 1 < 2 ^ 64 ⌝ }
     ensures { λ _. ⌜ Sized (now (words .exit)) (now (doubles .exit)) ⌝ }

@@ -13,22 +13,36 @@ use crate::places::DYNOLD;
 use crate::places::ERR_ACC;
 use crate::places::FACCON;
 use crate::places::FIRST;
+use crate::places::GIVEN_FIRST_STEP;
+use crate::places::GIVEN_MAX_STEP;
+use crate::places::GIVEN_MIN_STEP;
+use crate::places::GIVEN_NEWTON_TOL;
+use crate::places::GIVEN_NIND1;
+use crate::places::GIVEN_NIND2;
+use crate::places::GIVEN_NIND3;
 use crate::places::H;
+use crate::places::H_ACC;
+use crate::places::HAS_FIRST_STEP;
+use crate::places::HAS_MAX_STEP;
+use crate::places::HAS_MIN_STEP;
+use crate::places::HAS_NEWTON_TOL;
+use crate::places::HAS_NIND1;
+use crate::places::HAS_NIND2;
+use crate::places::HAS_NIND3;
 use crate::places::HHFAC;
 use crate::places::HMAX;
 use crate::places::HMIN;
 use crate::places::HNEW;
 use crate::places::HOLD;
-use crate::places::H_ACC;
 use crate::places::JAC;
 use crate::places::LAST;
 use crate::places::LU;
 use crate::places::MARKED;
 use crate::places::MASS;
 use crate::places::MAX_STEPS;
+use crate::places::NEWT_ITER;
 use crate::places::NEWTON_MAXITER;
 use crate::places::NEWTON_TOL;
-use crate::places::NEWT_ITER;
 use crate::places::ODE;
 use crate::places::POSNEG;
 use crate::places::PREDICTIVE;
@@ -368,17 +382,17 @@ fn settings_at(words: &[usize; WORDS], doubles: &[f64; DOUBLES]) -> Settings
         safety_factor: doubles[SAFETY_FACTOR],
         scale_min: doubles[SCALE_MIN],
         scale_max: doubles[SCALE_MAX],
-        max_step: number_at(words[28], doubles[25]),
-        min_step: number_at(words[29], doubles[26]),
+        max_step: number_at(words[HAS_MAX_STEP], doubles[GIVEN_MAX_STEP]),
+        min_step: number_at(words[HAS_MIN_STEP], doubles[GIVEN_MIN_STEP]),
         newton_maxiter: words[NEWTON_MAXITER],
-        newton_tol: number_at(words[30], doubles[27]),
+        newton_tol: number_at(words[HAS_NEWTON_TOL], doubles[GIVEN_NEWTON_TOL]),
         predictive: words[PREDICTIVE] != 0,
-        nind1: whole_at(words[32], words[33]),
-        nind2: whole_at(words[34], words[35]),
-        nind3: whole_at(words[36], words[37]),
+        nind1: whole_at(words[HAS_NIND1], words[GIVEN_NIND1]),
+        nind2: whole_at(words[HAS_NIND2], words[GIVEN_NIND2]),
+        nind3: whole_at(words[HAS_NIND3], words[GIVEN_NIND3]),
         mass: mass_mode(words[MASS]),
         source: source_mode(words[SOURCE]),
-        first_step: number_at(words[31], doubles[28]),
+        first_step: number_at(words[HAS_FIRST_STEP], doubles[GIVEN_FIRST_STEP]),
         dense_output: words[DENSE_OUTPUT] != 0,
         rule: rule_mode(words[RULE]),
     }

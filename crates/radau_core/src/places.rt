@@ -39,7 +39,7 @@ pub const NEWT_ITER: usize = 14;
 // Whether XOUT was given.
 pub const MARKED: usize = 15;
 
-// ---- whole numbers that stay as the opening left them; settings past these are no business of the solver
+// ---- whole numbers that stay as the opening left them
 pub const N: usize = 16;
 
 pub const NIND1: usize = 17;
@@ -64,6 +64,27 @@ pub const SOURCE: usize = 25;
 pub const DENSE_OUTPUT: usize = 26;
 
 pub const RULE: usize = 27;
+
+// ---- settings that the opening has worked up: whether each was given, and the number as given
+pub const HAS_MAX_STEP: usize = 28;
+
+pub const HAS_MIN_STEP: usize = 29;
+
+pub const HAS_NEWTON_TOL: usize = 30;
+
+pub const HAS_FIRST_STEP: usize = 31;
+
+pub const HAS_NIND1: usize = 32;
+
+pub const GIVEN_NIND1: usize = 33;
+
+pub const HAS_NIND2: usize = 34;
+
+pub const GIVEN_NIND2: usize = 35;
+
+pub const HAS_NIND3: usize = 36;
+
+pub const GIVEN_NIND3: usize = 37;
 
 // ---- doubles that an advance changes
 pub const X: usize = 0;
@@ -116,3 +137,12 @@ pub const SAFETY_FACTOR: usize = 22;
 pub const SCALE_MIN: usize = 23;
 
 pub const SCALE_MAX: usize = 24;
+
+// ---- settings that the opening has worked up, as given
+pub const GIVEN_MAX_STEP: usize = 25;
+
+pub const GIVEN_MIN_STEP: usize = 26;
+
+pub const GIVEN_NEWTON_TOL: usize = 27;
+
+pub const GIVEN_FIRST_STEP: usize = 28;

@@ -83,7 +83,12 @@ pub fn ask_report(words: &mut [usize; WORDS], doubles: &mut [f64; DOUBLES]) -> C
 }
 
 // The reply to a report; `again` is the stage of the derivative that a modified point asks for.
-pub fn reported(words: &mut [usize; WORDS], doubles: &mut [f64; DOUBLES], again: Stage, reply: Reply) -> Heard
+pub fn reported(
+    words: &mut [usize; WORDS],
+    doubles: &mut [f64; DOUBLES],
+    again: Stage,
+    reply: Reply,
+) -> Heard
     requires { ⌜ Sized (now words) (now doubles) ⌝ }
     requires { ⌜ runAt (now words) (now doubles) .counts .ode + 1 < 2 ^ 64 ⌝ }
     ensures { λ _. ⌜ Sized (now (words .exit)) (now (doubles .exit)) ⌝ }

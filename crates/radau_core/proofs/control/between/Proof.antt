@@ -1,6 +1,6 @@
 -- `between` meets its contract.
-use Rattle.solve_blocks.specs.Judge.{between}
 use borrow.Author.Needs.{needs}
+use Rattle.solve_blocks.specs.Judge.{between}
 use Rattle.radau_core.proofs.control.between.Statement.{statement}
 use Rattle.radau_core.proofs.control.between.Tie as tie
 
@@ -10,4 +10,5 @@ returns c = rw (c .max .ensures, c .before .min .ensures)
 
 pub between-spec : {M : Type 1} → statement M
 between-spec =
-    tie.close (tie.spec (λ c. search needs) (λ c. search needs) (λ c κs. search needs) (λ c κs. search needs) returns)
+    tie.close
+    (tie.spec (λ c. search needs) (λ c. search needs) (λ c κs. search needs) (λ c κs. search needs) returns)

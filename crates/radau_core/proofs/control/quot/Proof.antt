@@ -1,6 +1,6 @@
 -- `quot` meets its contract.
-use Rattle.solve_blocks.specs.Judge.{quotOf}
 use borrow.Author.Needs.{needs}
+use Rattle.solve_blocks.specs.Judge.{quotOf}
 use Rattle.radau_core.proofs.control.quot.Statement.{statement}
 use Rattle.radau_core.proofs.control.quot.Tie as tie
 
@@ -10,4 +10,5 @@ returns c = rw (c .between .ensures, c .before .fac .ensures, c .before .before 
 
 pub quot-spec : {M : Type 1} → statement M
 quot-spec =
-    tie.close (tie.spec (λ c κs. search needs) (λ c κs. search needs) (λ c κs. search needs) returns)
+    tie.close
+    (tie.spec (λ c κs. search needs) (λ c κs. search needs) (λ c κs. search needs) returns)

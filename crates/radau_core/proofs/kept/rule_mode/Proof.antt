@@ -3,7 +3,6 @@ use mathlib.Core.Path.{refl}
 use borrow.Author.Tests.{eq-eqb, ne-eqb}
 use Rattle.words.proofs.Branch.{yes, no}
 use Rattle.radau_core.specs.Choices.{ruleOf}
-use borrow.Author.Needs.{needs}
 use Rattle.radau_core.proofs.kept.rule_mode.Statement.{statement}
 use Rattle.radau_core.proofs.kept.rule_mode.Tie as tie
 
@@ -17,4 +16,5 @@ returns-2 c = no _ _ _ (ne-eqb _ _ (c .if1 .left)) refl
 
 pub rule-mode-spec : {M : Type 1} → statement M
 rule-mode-spec =
-    tie.close (tie.spec returns returns-2)
+    tie.close
+    (tie.spec returns returns-2)

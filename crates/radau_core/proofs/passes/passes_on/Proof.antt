@@ -1,6 +1,6 @@
 -- `passes_on` meets its contract, by the step's four variants.
-use Rattle.radau_core.proofs.PlaceLaws.{unflagged}
 use borrow.Author.Needs.{needs}
+use Rattle.radau_core.proofs.PlaceLaws.{unflagged}
 use Rattle.radau_core.proofs.passes.passes_on.Statement.{statement}
 use Rattle.radau_core.proofs.passes.passes_on.Tie as tie
 
@@ -18,5 +18,6 @@ returns-4 c = λ d. rw (c .enum-told4 .given .1)
 
 pub passes-on-spec : {M : Type 1} → statement M
 passes-on-spec =
-    tie.close (tie.spec (λ c. search needs) (λ c. search needs) (λ c. search needs) (λ c. search needs)
-    (λ c. search needs) returns returns-2 returns-3 returns-4)
+    tie.close
+    (tie.spec (λ c. search needs) (λ c. search needs) (λ c. search needs) (λ c. search needs) (λ c. search needs)
+    returns returns-2 returns-3 returns-4)

@@ -1,8 +1,8 @@
 -- `fresh` meets its contract.
 use mathlib.Core.Path.{refl}
 use lib.ListN.{length-set}
-use Rattle.radau_core.proofs.PlaceLaws.{words-at, doubles-at, resized, flag-back}
 use borrow.Author.Needs.{needs}
+use Rattle.radau_core.proofs.PlaceLaws.{words-at, doubles-at, resized, flag-back}
 use Rattle.radau_core.proofs.report.fresh.Statement.{statement}
 use Rattle.radau_core.proofs.report.fresh.Tie as tie
 
@@ -14,5 +14,6 @@ returns c = (
 
 pub fresh-spec : {M : Type 1} → statement M
 fresh-spec =
-    tie.close (tie.spec (λ c. search needs) (λ c. search needs) (λ c. search needs) (λ c. search needs)
-    (λ c. search needs) (λ c. search needs) returns)
+    tie.close
+    (tie.spec (λ c. search needs) (λ c. search needs) (λ c. search needs) (λ c. search needs) (λ c. search needs)
+    (λ c. search needs) returns)

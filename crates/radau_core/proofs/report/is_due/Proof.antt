@@ -1,9 +1,9 @@
 -- `is_due` meets its contract.
 use Rattle.words.specs.Loop.{pick}
 use borrow.Author.Tests.{eq-eqb, ne-eqb}
+use borrow.Author.Needs.{needs}
 use Rattle.solve_blocks.specs.Report.{isDue}
 use Rattle.radau_core.specs.Choices.{numberOf}
-use borrow.Author.Needs.{needs}
 use Rattle.radau_core.proofs.report.is_due.Statement.{statement}
 use Rattle.radau_core.proofs.report.is_due.Tie as tie
 
@@ -17,4 +17,5 @@ returns-2 c = rw (ne-eqb _ 0 (c .before .before .if1 .left))
 
 pub is-due-spec : {M : Type 1} → statement M
 is-due-spec =
-    tie.close (tie.spec (λ c. search needs) returns (λ c. search needs) (λ c. search needs) returns-2)
+    tie.close
+    (tie.spec (λ c. search needs) returns (λ c. search needs) (λ c. search needs) returns-2)

@@ -1,9 +1,9 @@
 -- `rate` meets its contract.
 use mathlib.Core.Path.{refl}
 use borrow.Author.Tests.{eq-eqb, ne-eqb}
+use borrow.Author.Needs.{needs}
 use Rattle.words.proofs.Branch.{yes, no}
 use Rattle.solve_blocks.specs.Newton.{rateOf}
-use borrow.Author.Needs.{needs}
 use Rattle.radau_core.proofs.round.rate.Statement.{statement}
 use Rattle.radau_core.proofs.round.rate.Tie as tie
 
@@ -17,4 +17,5 @@ returns-2 c = no _ _ _ (ne-eqb _ _ (c .before .before .if1 .left)) (c .sqrt .ens
 
 pub rate-spec : {M : Type 1} → statement M
 rate-spec =
-    tie.close (tie.spec (λ c. search needs) returns (λ c. search needs) (λ c κs. search needs) returns-2)
+    tie.close
+    (tie.spec (λ c. search needs) returns (λ c. search needs) (λ c κs. search needs) returns-2)

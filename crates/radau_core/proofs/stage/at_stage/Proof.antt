@@ -1,8 +1,8 @@
 -- `at_stage` meets its contract.
 use mathlib.Core.Path.{refl}
 use lib.ListN.{length-set}
-use Rattle.radau_core.proofs.PlaceLaws.{words-at, resized, stage-back}
 use borrow.Author.Needs.{needs}
+use Rattle.radau_core.proofs.PlaceLaws.{words-at, resized, stage-back}
 use Rattle.radau_core.proofs.stage.at_stage.Statement.{statement}
 use Rattle.radau_core.proofs.stage.at_stage.Tie as tie
 
@@ -14,4 +14,5 @@ returns c = (
 
 pub at-stage-spec : {M : Type 1} → statement M
 at-stage-spec =
-    tie.close (tie.spec (λ c κs. search needs) (λ c. search needs) (λ c κs. search needs) (λ c. search needs) returns)
+    tie.close
+    (tie.spec (λ c κs. search needs) (λ c. search needs) (λ c κs. search needs) (λ c. search needs) returns)
