@@ -2,7 +2,5 @@
 // (radau.rs). The work is that of `radau_core`, where a run stands in two arrays. Here a run that is not fit is
 // refused, so that each offered function is settled by its contract for every input, and asks nothing of its caller.
 pub mod advance;
-pub mod held;
 
 pub use advance::Resumed;
-pub use held::held_step;
