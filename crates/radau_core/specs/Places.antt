@@ -13,6 +13,7 @@ use Rattle.state.specs.declared.run.Fixed.{Fixed}
 use Rattle.state.specs.declared.run.Counts.{Counts}
 use Rattle.state.specs.declared.run.Control.{Control}
 use Rattle.state.specs.declared.run.Numbers.{Numbers}
+use Rattle.state.specs.declared.run.Stage.{Stage}
 use Rattle.state.specs.Settings.{orNone}
 use Rattle.solve_blocks.specs.declared.step.Call as theCall
 use Rattle.solve_blocks.specs.declared.step.Step as theStep
@@ -112,6 +113,9 @@ settingsAt w d = record {
   rule = ruleOf (w # 27);
 }
 
+abbrev pub stageAt : List ℕ → Stage
+stageAt w = stageOf (w # 0) (w # 1)
+
 abbrev pub runAt : List ℕ → List Float → Run
 runAt w d = record {
   settings = settingsAt w d;
@@ -120,7 +124,7 @@ runAt w d = record {
   counts = countsAt w;
   control = controlAt w;
   numbers = numbersAt w d;
-  stage = stageOf (w # 0) (w # 1);
+  stage = stageAt w;
 }
 
 pub record Sized (w : List ℕ) (d : List Float) : Type 0 where

@@ -45,7 +45,7 @@ ghost use Rattle.state.specs.Memory.{amounts, newton, given, factors, differenc
 ghost use Rattle.solve_blocks.specs.Advance.{stepped, startedOf, returnedOf, concludeOf, repliedOf};
 ghost use Rattle.solve_blocks.specs.Advance.{called, calledOf, advanceOutcome, advanceBy};
 ghost use Rattle.solve_blocks.specs.Needs.{Fit, StepFit, RoundFit, HeardFit, MemoryLong, NewtonLong, StageFit};
-ghost use Rattle.radau_core.specs.Places.{_#_, runAt, Sized, callAt, stepAt, roundAt, heardAt};
+ghost use Rattle.radau_core.specs.Places.{runAt, Sized, callAt, stepAt, roundAt, heardAt, shapeAt};
 
 // Past the first report: the scale, then the passes.
 fn started(
@@ -194,9 +194,9 @@ fn replied(
     f_origin: &[f64],
 ) -> Step
     requires { ⌜ Sized (now words) (now doubles) ⌝ }
-    requires { ⌜ Fit 16 (now words # 16) (runAt (now words) (now doubles))
-        × StageFit (now words # 16) (runAt (now words) (now doubles)) ⌝ }
-    requires { ⌜ MemoryLong (now words # 16) (memory
+    requires { ⌜ Fit 16 (shapeAt (now words) .n) (runAt (now words) (now doubles))
+        × StageFit (shapeAt (now words) .n) (runAt (now words) (now doubles)) ⌝ }
+    requires { ⌜ MemoryLong (shapeAt (now words) .n) (memory
         (amounts (now y) (now f0) (now scal) (now cont))
         (newton (now z1) (now z2) (now z3) (now f1) (now f2) (now f3))
         (given (now rtol) (now atol) (now mass) (now jac))
@@ -399,9 +399,9 @@ pub fn advanced(
     f_origin: &mut [f64],
 ) -> Call
     requires { ⌜ Sized (now words) (now doubles) ⌝ }
-    requires { ⌜ Fit 16 (now words # 16) (runAt (now words) (now doubles))
-        × StageFit (now words # 16) (runAt (now words) (now doubles)) ⌝ }
-    requires { ⌜ MemoryLong (now words # 16) (memory
+    requires { ⌜ Fit 16 (shapeAt (now words) .n) (runAt (now words) (now doubles))
+        × StageFit (shapeAt (now words) .n) (runAt (now words) (now doubles)) ⌝ }
+    requires { ⌜ MemoryLong (shapeAt (now words) .n) (memory
         (amounts (now y) (now f0) (now scal) (now cont))
         (newton (now z1) (now z2) (now z3) (now f1) (now f2) (now f3))
         (given (now rtol) (now atol) (now mass) (now jac))

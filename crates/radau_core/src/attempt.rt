@@ -50,7 +50,7 @@ ghost use Rattle.state.specs.Memory.{newton};
 ghost use Rattle.solve_blocks.specs.Attempt.{stageSumAt, staged, askStageOf, askFirstOf, guessed};
 ghost use Rattle.solve_blocks.specs.Attempt.{guessAt, guessOf, begunAs, started, beganOf, attemptOf};
 ghost use Rattle.solve_blocks.specs.Needs.{Fit, NewtonLong};
-ghost use Rattle.radau_core.specs.Places.{_#_, runAt, Sized, callAt};
+ghost use Rattle.radau_core.specs.Places.{runAt, Sized, callAt, shapeAt};
 
 // cont[i] = y[i] + z[i]
 fn stage_sum(n: usize, y: &[f64], z: &[f64], cont: &mut [f64])
@@ -74,10 +74,10 @@ pub fn ask_stage(
     cont: &mut [f64],
 ) -> Call
     requires { ⌜ Sized (now words) (now doubles) ⌝ }
-    requires { ⌜ Fit 1 (now words # 16) (runAt (now words) (now doubles)) ⌝ }
-    requires { ⌜ (length (now y) ≡ now words # 16)
-        × (length (now z) ≡ now words # 16)
-        × (length (now cont) ≡ 4 * (now words # 16)) ⌝ }
+    requires { ⌜ Fit 1 (shapeAt (now words) .n) (runAt (now words) (now doubles)) ⌝ }
+    requires { ⌜ (length (now y) ≡ shapeAt (now words) .n)
+        × (length (now z) ≡ shapeAt (now words) .n)
+        × (length (now cont) ≡ 4 * (shapeAt (now words) .n)) ⌝ }
     ensures { λ _. ⌜ Sized (now (words .exit)) (now (doubles .exit)) ⌝ }
     ensures { λ r. ⌜ staged (callAt r (runAt (now (words .exit)) (now (doubles .exit)))) (now (cont .exit))
         ≡ askStageOf (runAt (now (words .entry)) (now (doubles .entry))) stage x place
@@ -101,10 +101,10 @@ pub fn ask_first(
     cont: &mut [f64],
 ) -> Call
     requires { ⌜ Sized (now words) (now doubles) ⌝ }
-    requires { ⌜ Fit 1 (now words # 16) (runAt (now words) (now doubles)) ⌝ }
-    requires { ⌜ (length (now y) ≡ now words # 16)
-        × (length (now z1) ≡ now words # 16)
-        × (length (now cont) ≡ 4 * (now words # 16)) ⌝ }
+    requires { ⌜ Fit 1 (shapeAt (now words) .n) (runAt (now words) (now doubles)) ⌝ }
+    requires { ⌜ (length (now y) ≡ shapeAt (now words) .n)
+        × (length (now z1) ≡ shapeAt (now words) .n)
+        × (length (now cont) ≡ 4 * (shapeAt (now words) .n)) ⌝ }
     ensures { λ _. ⌜ Sized (now (words .exit)) (now (doubles .exit)) ⌝ }
     ensures { λ r. ⌜ staged (callAt r (runAt (now (words .exit)) (now (doubles .exit)))) (now (cont .exit))
         ≡ askFirstOf (runAt (now (words .entry)) (now (doubles .entry)))
@@ -231,11 +231,11 @@ fn began(
     f3: &mut [f64],
 ) -> Call
     requires { ⌜ Sized (now words) (now doubles) ⌝ }
-    requires { ⌜ Fit 1 (now words # 16) (runAt (now words) (now doubles)) ⌝ }
-    requires { ⌜ (length (now y) ≡ now words # 16)
-        × (length (now scal) ≡ now words # 16)
-        × (length (now cont) ≡ 4 * (now words # 16))
-        × NewtonLong (now words # 16) (newton (now z1) (now z2) (now z3) (now f1) (now f2) (now f3)) ⌝ }
+    requires { ⌜ Fit 1 (shapeAt (now words) .n) (runAt (now words) (now doubles)) ⌝ }
+    requires { ⌜ (length (now y) ≡ shapeAt (now words) .n)
+        × (length (now scal) ≡ shapeAt (now words) .n)
+        × (length (now cont) ≡ 4 * (shapeAt (now words) .n))
+        × NewtonLong (shapeAt (now words) .n) (newton (now z1) (now z2) (now z3) (now f1) (now f2) (now f3)) ⌝ }
     ensures { λ _. ⌜ Sized (now (words .exit)) (now (doubles .exit)) ⌝ }
     ensures { λ r. ⌜ begunAs (callAt r (runAt (now (words .exit)) (now (doubles .exit))))
         (now (scal .exit)) (now (cont .exit))
@@ -280,11 +280,11 @@ pub fn attempt(
     f3: &mut [f64],
 ) -> Call
     requires { ⌜ Sized (now words) (now doubles) ⌝ }
-    requires { ⌜ Fit 2 (now words # 16) (runAt (now words) (now doubles)) ⌝ }
-    requires { ⌜ (length (now y) ≡ now words # 16)
-        × (length (now scal) ≡ now words # 16)
-        × (length (now cont) ≡ 4 * (now words # 16))
-        × NewtonLong (now words # 16) (newton (now z1) (now z2) (now z3) (now f1) (now f2) (now f3)) ⌝ }
+    requires { ⌜ Fit 2 (shapeAt (now words) .n) (runAt (now words) (now doubles)) ⌝ }
+    requires { ⌜ (length (now y) ≡ shapeAt (now words) .n)
+        × (length (now scal) ≡ shapeAt (now words) .n)
+        × (length (now cont) ≡ 4 * (shapeAt (now words) .n))
+        × NewtonLong (shapeAt (now words) .n) (newton (now z1) (now z2) (now z3) (now f1) (now f2) (now f3)) ⌝ }
     ensures { λ _. ⌜ Sized (now (words .exit)) (now (doubles .exit)) ⌝ }
     ensures { λ r. ⌜ begunAs (callAt r (runAt (now (words .exit)) (now (doubles .exit))))
         (now (scal .exit)) (now (cont .exit))

@@ -27,14 +27,17 @@ use scalar::min;
 use scalar::quarter;
 ghost use mathlib.Core.Path.{_≡_};
 ghost use Prim.Native.Nat.{_+_, _≤_, _<_, _^_};
-ghost use Rattle.solve_blocks.specs.Judge.{facOf, between, quotOf, predictiveQuot, remembered, acceptedOf, rejectedOf};
-ghost use Rattle.radau_core.specs.Places.{_#_, runAt, settingsAt, Sized};
+ghost use Rattle.solve_blocks.specs.Judge.{facOf, between, quotOf, predictiveQuot, remembered};
+ghost use Rattle.solve_blocks.specs.Judge.{acceptedPoint, acceptedOf, rejectedOf};
+ghost use Rattle.radau_core.specs.Places.{runAt, settingsAt, Sized, controlAt, countsAt};
 
 // The safety factor, lessened by the rounds that were needed.
 fn fac(words: &[usize; WORDS], doubles: &[f64; DOUBLES]) -> f64
-    requires { ⌜ (now words # 22 ≤ 16) × (now words # 14 ≤ 17) ⌝ }
+    requires { ⌜ (settingsAt (now words) (now doubles) .«newton_maxiter» ≤ 16)
+        × (controlAt (now words) .«newt_iter» ≤ 17) ⌝ }
     ensures { λ r. ⌜ r
-        ≡ facOf (settingsAt (now (words .entry)) (now (doubles .entry))) (now (words .entry) # 14) ⌝ }
+        ≡ facOf (settingsAt (now (words .entry)) (now (doubles .entry)))
+        (controlAt (now (words .entry)) .«newt_iter») ⌝ }
 {
     let safety = doubles[SAFETY_FACTOR];
     let rounds = 2.0 * as_float(words[NEWTON_MAXITER]);
@@ -50,16 +53,18 @@ fn between(words: &[usize; WORDS], doubles: &[f64; DOUBLES], q: f64) -> f64
 }
 
 pub fn quot(words: &[usize; WORDS], doubles: &[f64; DOUBLES], err: f64) -> f64
-    requires { ⌜ (now words # 22 ≤ 16) × (now words # 14 ≤ 17) ⌝ }
+    requires { ⌜ (settingsAt (now words) (now doubles) .«newton_maxiter» ≤ 16)
+        × (controlAt (now words) .«newt_iter» ≤ 17) ⌝ }
     ensures { λ r. ⌜ r
-        ≡ quotOf (settingsAt (now (words .entry)) (now (doubles .entry))) (now (words .entry) # 14) err ⌝ }
+        ≡ quotOf (settingsAt (now (words .entry)) (now (doubles .entry)))
+        (controlAt (now (words .entry)) .«newt_iter») err ⌝ }
 {
     between(words, doubles, quarter(err) / fac(words, doubles))
 }
 
 // The predictive controller, from the second acceptance on.
 fn predictive_quot(words: &[usize; WORDS], doubles: &[f64; DOUBLES], err: f64, quot: f64) -> f64
-    requires { ⌜ now words # 6 + 1 < 2 ^ 64 ⌝ }
+    requires { ⌜ countsAt (now words) .accepted + 1 < 2 ^ 64 ⌝ }
     ensures { λ r. ⌜ r ≡ predictiveQuot (runAt (now (words .entry)) (now (doubles .entry))) err quot ⌝ }
 {
     if (words[PREDICTIVE] != 0) & (1 < words[ACCEPTED] + 1) {
@@ -83,6 +88,21 @@ fn remembered(words: &mut [usize; WORDS], doubles: &mut [f64; DOUBLES], err: f64
     }
 }
 
+// What every acceptance leaves in the run, whatever its error was.
+fn accepted_point(words: &mut [usize; WORDS], doubles: &mut [f64; DOUBLES])
+    requires { ⌜ Sized (now words) (now doubles) ⌝ }
+    requires { ⌜ runAt (now words) (now doubles) .counts .accepted + 1 < 2 ^ 64 ⌝ }
+    ensures { λ _. ⌜ Sized (now (words .exit)) (now (doubles .exit)) ⌝ }
+    ensures { λ _. ⌜ runAt (now (words .exit)) (now (doubles .exit))
+        ≡ acceptedPoint (runAt (now (words .entry)) (now (doubles .entry))) ⌝ }
+{
+    words[ACCEPTED] = words[ACCEPTED] + 1;
+    words[FIRST] = 0;
+    doubles[XOLD] = doubles[X];
+    doubles[HOLD] = doubles[H];
+    doubles[X] = doubles[XPH];
+}
+
 pub fn accepted(words: &mut [usize; WORDS], doubles: &mut [f64; DOUBLES], err: f64, quot: f64)
     requires { ⌜ Sized (now words) (now doubles) ⌝ }
     requires { ⌜ runAt (now words) (now doubles) .counts .accepted + 1 < 2 ^ 64 ⌝ }
@@ -90,17 +110,9 @@ pub fn accepted(words: &mut [usize; WORDS], doubles: &mut [f64; DOUBLES], err: f
     ensures { λ _. ⌜ runAt (now (words .exit)) (now (doubles .exit))
         ≡ acceptedOf (runAt (now (words .entry)) (now (doubles .entry))) err quot ⌝ }
 {
-    let accepted = words[ACCEPTED] + 1;
-    let x = doubles[X];
-    let h = doubles[H];
-    let xph = doubles[XPH];
-    doubles[HNEW] = h / predictive_quot(words, doubles, err, quot);
+    doubles[HNEW] = doubles[H] / predictive_quot(words, doubles, err, quot);
     remembered(words, doubles, err);
-    words[ACCEPTED] = accepted;
-    words[FIRST] = 0;
-    doubles[XOLD] = x;
-    doubles[HOLD] = h;
-    doubles[X] = xph;
+    accepted_point(words, doubles);
 }
 
 pub fn rejected(words: &mut [usize; WORDS], doubles: &mut [f64; DOUBLES], hnew: f64)

@@ -28,7 +28,7 @@ ghost use Rattle.state.specs.Memory.{differences};
 ghost use Rattle.solve_blocks.specs.Setters.{inCounts, oneJac};
 ghost use Rattle.solve_blocks.specs.Jacobian.{asking, askJacobianOf, perturbation};
 ghost use Rattle.solve_blocks.specs.Jacobian.{columned, askColumnOf, columnAt, columnOf};
-ghost use Rattle.radau_core.specs.Places.{_#_, runAt, Sized, callAt, stepAt};
+ghost use Rattle.radau_core.specs.Places.{runAt, Sized, callAt, stepAt, countsAt, shapeAt};
 
 // Copies one part into another of the same length.
 fn copy(from: &[f64], to: &mut [f64])
@@ -45,7 +45,7 @@ fn copy(from: &[f64], to: &mut [f64])
 // A Jacobian is counted with its first request.
 fn wanted(words: &mut [usize; WORDS], doubles: &mut [f64; DOUBLES])
     requires { ⌜ Sized (now words) (now doubles) ⌝ }
-    requires { ⌜ now words # 3 + 1 < 2 ^ 64 ⌝ }
+    requires { ⌜ countsAt (now words) .jac + 1 < 2 ^ 64 ⌝ }
     ensures { λ _. ⌜ Sized (now (words .exit)) (now (doubles .exit)) ⌝ }
     ensures { λ _. ⌜ runAt (now (words .exit)) (now (doubles .exit))
         ≡ inCounts oneJac (runAt (now (words .entry)) (now (doubles .entry))) ⌝ }
@@ -62,11 +62,11 @@ pub fn ask_jacobian(
     f_origin: &mut [f64],
 ) -> Call
     requires { ⌜ Sized (now words) (now doubles) ⌝ }
-    requires { ⌜ (now words # 3 + 1 < 2 ^ 64)
-        × (length (now y) ≡ now words # 16)
-        × (length (now «y_perturbed») ≡ now words # 16)
-        × (length (now «f_perturbed») ≡ now words # 16)
-        × (length (now «f_origin») ≡ now words # 16) ⌝ }
+    requires { ⌜ (countsAt (now words) .jac + 1 < 2 ^ 64)
+        × (length (now y) ≡ shapeAt (now words) .n)
+        × (length (now «y_perturbed») ≡ shapeAt (now words) .n)
+        × (length (now «f_perturbed») ≡ shapeAt (now words) .n)
+        × (length (now «f_origin») ≡ shapeAt (now words) .n) ⌝ }
     ensures { λ _. ⌜ Sized (now (words .exit)) (now (doubles .exit)) ⌝ }
     ensures { λ r. ⌜ asking (callAt r (runAt (now (words .exit)) (now (doubles .exit))))
         (differences (now («y_perturbed» .exit)) (now («f_perturbed» .exit)) (now («f_origin» .exit)))
@@ -151,13 +151,13 @@ pub fn column(
     jac: &mut [f64],
 ) -> Step
     requires { ⌜ Sized (now words) (now doubles) ⌝ }
-    requires { ⌜ (1 ≤ now words # 16)
-        × (c ≤ now words # 16)
-        × (length (now y) ≡ now words # 16)
-        × (length (now «y_perturbed») ≡ now words # 16)
-        × (length (now «f_perturbed») ≡ now words # 16)
-        × (length (now «f_origin») ≡ now words # 16)
-        × Square (now words # 16) (now jac) ⌝ }
+    requires { ⌜ (1 ≤ shapeAt (now words) .n)
+        × (c ≤ shapeAt (now words) .n)
+        × (length (now y) ≡ shapeAt (now words) .n)
+        × (length (now «y_perturbed») ≡ shapeAt (now words) .n)
+        × (length (now «f_perturbed») ≡ shapeAt (now words) .n)
+        × (length (now «f_origin») ≡ shapeAt (now words) .n)
+        × Square (shapeAt (now words) .n) (now jac) ⌝ }
     ensures { λ _. ⌜ Sized (now (words .exit)) (now (doubles .exit)) ⌝ }
     ensures { λ r. ⌜ columned (stepAt r (runAt (now (words .exit)) (now (doubles .exit))))
         (now («y_perturbed» .exit)) (now (jac .exit))

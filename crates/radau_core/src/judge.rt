@@ -39,12 +39,11 @@ ghost use lib.Ieee.{Float};
 ghost use Rattle.words.specs.Grid.{Square};
 ghost use Rattle.state.specs.Memory.{newton};
 ghost use Rattle.solve_blocks.specs.Entries.{three};
-ghost use Rattle.solve_blocks.specs.Judge.{moved, movedOf, askAccepted, judged, judgedOf};
+ghost use Rattle.solve_blocks.specs.Judge.{moved, movedOf, judged, judgedOf};
 ghost use Rattle.solve_blocks.specs.Judge.{estimated, testedOf, estimateOf, refinedOf};
-ghost use Rattle.solve_blocks.specs.Setters.{inCounts, oneOde, atStage};
-ghost use Rattle.solve_blocks.specs.Matrices.{call};
+ghost use Rattle.solve_blocks.specs.Matrices.{askDerivative};
 ghost use Rattle.solve_blocks.specs.Needs.{Fit};
-ghost use Rattle.radau_core.specs.Places.{_#_, runAt, Sized, callAt, stepAt};
+ghost use Rattle.radau_core.specs.Places.{runAt, Sized, callAt, stepAt, shapeAt};
 
 // The new amounts, and the coefficients of the dense output.
 fn moved(n: usize, z1: &[f64], z2: &[f64], z3: &[f64], y: &mut [f64], cont: &mut [f64])
@@ -83,8 +82,8 @@ pub fn ask_derivative(
     requires { ⌜ runAt (now words) (now doubles) .counts .ode + 1 < 2 ^ 64 ⌝ }
     ensures { λ _. ⌜ Sized (now (words .exit)) (now (doubles .exit)) ⌝ }
     ensures { λ r. ⌜ callAt r (runAt (now (words .exit)) (now (doubles .exit)))
-        ≡ call (atStage stage (inCounts oneOde (runAt (now (words .entry)) (now (doubles .entry)))))
-        (Request.Derivative (runAt (now (words .entry)) (now (doubles .entry)) .numbers .x)) place ⌝ }
+        ≡ askDerivative (runAt (now (words .entry)) (now (doubles .entry))) stage
+        (runAt (now (words .entry)) (now (doubles .entry)) .numbers .x) place ⌝ }
 {
     words[ODE] = words[ODE] + 1;
     let x = doubles[X];
@@ -107,12 +106,12 @@ fn judge(
     cont: &mut [f64],
 ) -> Step
     requires { ⌜ Sized (now words) (now doubles) ⌝ }
-    requires { ⌜ Fit 1 (now words # 16) (runAt (now words) (now doubles)) ⌝ }
-    requires { ⌜ (length (now z1) ≡ now words # 16)
-        × (length (now z2) ≡ now words # 16)
-        × (length (now z3) ≡ now words # 16)
-        × (length (now y) ≡ now words # 16)
-        × (length (now cont) ≡ 4 * (now words # 16)) ⌝ }
+    requires { ⌜ Fit 1 (shapeAt (now words) .n) (runAt (now words) (now doubles)) ⌝ }
+    requires { ⌜ (length (now z1) ≡ shapeAt (now words) .n)
+        × (length (now z2) ≡ shapeAt (now words) .n)
+        × (length (now z3) ≡ shapeAt (now words) .n)
+        × (length (now y) ≡ shapeAt (now words) .n)
+        × (length (now cont) ≡ 4 * (shapeAt (now words) .n)) ⌝ }
     ensures { λ _. ⌜ Sized (now (words .exit)) (now (doubles .exit)) ⌝ }
     ensures { λ r. ⌜ judged (stepAt r (runAt (now (words .exit)) (now (doubles .exit))))
         (now (y .exit)) (now (cont .exit))
@@ -145,12 +144,12 @@ fn tested(
     cont: &mut [f64],
 ) -> Step
     requires { ⌜ Sized (now words) (now doubles) ⌝ }
-    requires { ⌜ Fit 1 (now words # 16) (runAt (now words) (now doubles)) ⌝ }
-    requires { ⌜ (length (now z1) ≡ now words # 16)
-        × (length (now z2) ≡ now words # 16)
-        × (length (now z3) ≡ now words # 16)
-        × (length (now y) ≡ now words # 16)
-        × (length (now cont) ≡ 4 * (now words # 16)) ⌝ }
+    requires { ⌜ Fit 1 (shapeAt (now words) .n) (runAt (now words) (now doubles)) ⌝ }
+    requires { ⌜ (length (now z1) ≡ shapeAt (now words) .n)
+        × (length (now z2) ≡ shapeAt (now words) .n)
+        × (length (now z3) ≡ shapeAt (now words) .n)
+        × (length (now y) ≡ shapeAt (now words) .n)
+        × (length (now cont) ≡ 4 * (shapeAt (now words) .n)) ⌝ }
     ensures { λ _. ⌜ Sized (now (words .exit)) (now (doubles .exit)) ⌝ }
     ensures { λ r. ⌜ judged (stepAt r (runAt (now (words .exit)) (now (doubles .exit))))
         (now (y .exit)) (now (cont .exit))
@@ -183,17 +182,17 @@ pub fn estimate(
     f2: &mut [f64],
 ) -> Step
     requires { ⌜ Sized (now words) (now doubles) ⌝ }
-    requires { ⌜ Fit 2 (now words # 16) (runAt (now words) (now doubles))
-        × Square (now words # 16) (now mass)
-        × (length (now f0) ≡ now words # 16)
-        × (length (now scal) ≡ now words # 16)
-        × (length (now y) ≡ now words # 16)
-        × (length (now cont) ≡ 4 * (now words # 16)) ⌝ }
-    requires { ⌜ (length (now z1) ≡ now words # 16)
-        × (length (now z2) ≡ now words # 16)
-        × (length (now z3) ≡ now words # 16)
-        × (length (now f1) ≡ now words # 16)
-        × (length (now f2) ≡ now words # 16) ⌝ }
+    requires { ⌜ Fit 2 (shapeAt (now words) .n) (runAt (now words) (now doubles))
+        × Square (shapeAt (now words) .n) (now mass)
+        × (length (now f0) ≡ shapeAt (now words) .n)
+        × (length (now scal) ≡ shapeAt (now words) .n)
+        × (length (now y) ≡ shapeAt (now words) .n)
+        × (length (now cont) ≡ 4 * (shapeAt (now words) .n)) ⌝ }
+    requires { ⌜ (length (now z1) ≡ shapeAt (now words) .n)
+        × (length (now z2) ≡ shapeAt (now words) .n)
+        × (length (now z3) ≡ shapeAt (now words) .n)
+        × (length (now f1) ≡ shapeAt (now words) .n)
+        × (length (now f2) ≡ shapeAt (now words) .n) ⌝ }
     ensures { λ _. ⌜ Sized (now (words .exit)) (now (doubles .exit)) ⌝ }
     ensures { λ r. ⌜ ((f3 : List Float)
         → estimated (stepAt r (runAt (now (words .exit)) (now (doubles .exit))))
@@ -230,15 +229,15 @@ pub fn refined(
     f2: &[f64],
 ) -> Step
     requires { ⌜ Sized (now words) (now doubles) ⌝ }
-    requires { ⌜ Fit 1 (now words # 16) (runAt (now words) (now doubles))
-        × (length (now scal) ≡ now words # 16)
-        × (length (now y) ≡ now words # 16)
-        × (length (now cont) ≡ 4 * (now words # 16)) ⌝ }
-    requires { ⌜ (length (now z1) ≡ now words # 16)
-        × (length (now z2) ≡ now words # 16)
-        × (length (now z3) ≡ now words # 16)
-        × (length (now f1) ≡ now words # 16)
-        × (length (now f2) ≡ now words # 16) ⌝ }
+    requires { ⌜ Fit 1 (shapeAt (now words) .n) (runAt (now words) (now doubles))
+        × (length (now scal) ≡ shapeAt (now words) .n)
+        × (length (now y) ≡ shapeAt (now words) .n)
+        × (length (now cont) ≡ 4 * (shapeAt (now words) .n)) ⌝ }
+    requires { ⌜ (length (now z1) ≡ shapeAt (now words) .n)
+        × (length (now z2) ≡ shapeAt (now words) .n)
+        × (length (now z3) ≡ shapeAt (now words) .n)
+        × (length (now f1) ≡ shapeAt (now words) .n)
+        × (length (now f2) ≡ shapeAt (now words) .n) ⌝ }
     ensures { λ _. ⌜ Sized (now (words .exit)) (now (doubles .exit)) ⌝ }
     ensures { λ r. ⌜ ((f3 : List Float)
         → judged (stepAt r (runAt (now (words .exit)) (now (doubles .exit)))) (now (y .exit)) (now (cont .exit))

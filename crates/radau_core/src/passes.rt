@@ -26,18 +26,18 @@ ghost use lib.ListN.{length};
 ghost use lib.Ieee.{Float};
 ghost use Rattle.words.specs.Grid.{Square};
 ghost use Rattle.state.specs.Memory.{factors};
-ghost use Rattle.solve_blocks.specs.Setters.{inCounts, inControl, oneLu};
-ghost use Rattle.solve_blocks.specs.Matrices.{missed, failedOf, isErr, tried, complexTriedOf};
+ghost use Rattle.solve_blocks.specs.Setters.{inCounts, oneLu};
+ghost use Rattle.solve_blocks.specs.Matrices.{missedOf, failedOf, isErr, tried, complexTriedOf};
 ghost use Rattle.solve_blocks.specs.Matrices.{realTriedOf, triedOf, passesOn, passesOf};
 ghost use Rattle.solve_blocks.specs.Needs.{Fit, StepFit, FactorsLong};
-ghost use Rattle.radau_core.specs.Places.{_#_, runAt, Sized, stepAt};
+ghost use Rattle.radau_core.specs.Places.{runAt, Sized, stepAt, shapeAt};
 
 // After any attempt that is not accepted.
 pub fn missed(words: &mut [usize; WORDS], doubles: &mut [f64; DOUBLES])
     requires { ⌜ Sized (now words) (now doubles) ⌝ }
     ensures { λ _. ⌜ Sized (now (words .exit)) (now (doubles .exit)) ⌝ }
     ensures { λ _. ⌜ runAt (now (words .exit)) (now (doubles .exit))
-        ≡ inControl missed (runAt (now (words .entry)) (now (doubles .entry))) ⌝ }
+        ≡ missedOf (runAt (now (words .entry)) (now (doubles .entry))) ⌝ }
 {
     words[REJECT] = 1;
     words[LAST] = 0;
@@ -94,7 +94,7 @@ fn complex_tried(
     ip2: &mut [usize],
 ) -> Step
     requires { ⌜ Sized (now words) (now doubles) ⌝ }
-    requires { ⌜ Fit 1 (now words # 16) (runAt (now words) (now doubles)) ⌝ }
+    requires { ⌜ Fit 1 (shapeAt (now words) .n) (runAt (now words) (now doubles)) ⌝ }
     ensures { λ _. ⌜ Sized (now (words .exit)) (now (doubles .exit)) ⌝ }
     ensures { λ r. ⌜ ((e1 : List Float) (ip1 : List ℕ)
         → tried (stepAt r (runAt (now (words .exit)) (now (doubles .exit))))
@@ -121,7 +121,7 @@ fn real_tried(
     ip2: &mut [usize],
 ) -> Step
     requires { ⌜ Sized (now words) (now doubles) ⌝ }
-    requires { ⌜ Fit 2 (now words # 16) (runAt (now words) (now doubles)) ⌝ }
+    requires { ⌜ Fit 2 (shapeAt (now words) .n) (runAt (now words) (now doubles)) ⌝ }
     ensures { λ _. ⌜ Sized (now (words .exit)) (now (doubles .exit)) ⌝ }
     ensures { λ r. ⌜ tried (stepAt r (runAt (now (words .exit)) (now (doubles .exit))))
         (factors (now (e1 .exit)) (now (e2r .exit)) (now (e2i .exit)) (now (ip1 .exit)) (now (ip2 .exit)))
@@ -151,10 +151,10 @@ fn tried(
     ip2: &mut [usize],
 ) -> Step
     requires { ⌜ Sized (now words) (now doubles) ⌝ }
-    requires { ⌜ Fit 2 (now words # 16) (runAt (now words) (now doubles)) ⌝ }
-    requires { ⌜ Square (now words # 16) (now mass)
-        × Square (now words # 16) (now jac)
-        × FactorsLong (now words # 16)
+    requires { ⌜ Fit 2 (shapeAt (now words) .n) (runAt (now words) (now doubles)) ⌝ }
+    requires { ⌜ Square (shapeAt (now words) .n) (now mass)
+        × Square (shapeAt (now words) .n) (now jac)
+        × FactorsLong (shapeAt (now words) .n)
         (factors (now e1) (now e2r) (now e2i) (now ip1) (now ip2)) ⌝ }
     ensures { λ _. ⌜ Sized (now (words .exit)) (now (doubles .exit)) ⌝ }
     ensures { λ r. ⌜ tried (stepAt r (runAt (now (words .exit)) (now (doubles .exit))))

@@ -12,8 +12,8 @@ ghost use mathlib.Core.Path.{_≡_};
 ghost use Rattle.state.specs.Numbers.{statusNumber};
 ghost use Rattle.solve_blocks.specs.Setters.{atStage};
 ghost use Rattle.solve_blocks.specs.Matrices.{endedOf};
-ghost use Rattle.radau_core.specs.Choices.{statusOf, stageOf, stageTag, stagePart};
-ghost use Rattle.radau_core.specs.Places.{_#_, runAt, Sized, callAt};
+ghost use Rattle.radau_core.specs.Choices.{statusOf, stageTag, stagePart};
+ghost use Rattle.radau_core.specs.Places.{stageAt, runAt, Sized, callAt};
 
 fn status_word(status: Status) -> usize
     ensures { λ r. ⌜ r ≡ statusNumber status ⌝ }
@@ -81,7 +81,7 @@ pub fn stage_part(stage: Stage) -> usize
 }
 
 pub fn stage_at(words: &[usize; WORDS]) -> Stage
-    ensures { λ r. ⌜ r ≡ stageOf (now (words .entry) # 0) (now (words .entry) # 1) ⌝ }
+    ensures { λ r. ⌜ r ≡ stageAt (now (words .entry)) ⌝ }
 {
     let tag = words[STAGE];
     match tag {
