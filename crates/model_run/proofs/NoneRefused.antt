@@ -6,7 +6,8 @@ use mathlib.Core.Path.{_≡_, sym, subst}
 use mathlib.Core.List.{List, []}
 use lib.Ieee.{Float}
 use Rattle.words.proofs.Branch.{pick-all}
-use Rattle.opening.specs.Rows.{Opening, NoneHolds, openingRows}
+use Rattle.opening.specs.Rows.{Opening, openingRows}
+use Rattle.opening.proofs.RowLaws.{NoneHolds}
 use Rattle.history.specs.Host.{Action, isEnd}
 use Rattle.history.specs.History.{Point}
 use Rattle.account.specs.Journal.{Journal, journal, next}
