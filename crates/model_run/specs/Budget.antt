@@ -1,5 +1,7 @@
 -- A run that is answered by a host up to its end.
 use Prim.Native.Nat.{ℕ, zero, suc, _*_}
+use mathlib.Core.Bool.{false}
+use mathlib.Core.Path.{_≡_}
 use mathlib.Core.List.{List, _++_}
 use lib.Dec.{leb}
 use lib.ListN.{take, drop}
