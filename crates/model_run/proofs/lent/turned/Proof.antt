@@ -68,9 +68,9 @@ returns c =
       at-advanced .advanced .ensures .0,
       turn-admitted (a .reactions) (a .rates .now) (a .species .now) (here-at start) (at-answer .answer .ensures .0)
           (at-answer .answer .ensures .1 (a .scal .now) (a .f2 .now) (a .f3 .now)
-    (given (a .rtol .now) (a .atol .now) (a .mass .now) (a .jac .now))
-    (factors (a .e1 .now) (a .e2r .now) (a .e2i .now) (a .ip1 .now) (a .ip2 .now))) (start .pre .1) (at-advanced
-    .advanced .ensures .1),
+          (given (a .rtol .now) (a .atol .now) (a .mass .now) (a .jac .now))
+          (factors (a .e1 .now) (a .e2r .now) (a .e2i .now) (a .ip1 .now) (a .ip2 .now))) (start .pre .1) (at-advanced
+          .advanced .ensures .1),
     )
 
 same-length : tie.Need-same-length
