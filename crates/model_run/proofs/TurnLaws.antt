@@ -11,14 +11,20 @@ use mathlib.Core.List.{List}
 use native.Mathlib.Omega.{arith}
 use lib.Ieee.{Float}
 use Rattle.words.proofs.Branch.{pick-yes, pick-no}
+use Rattle.state.specs.declared.run.Run.{Run}
 use Rattle.state.specs.declared.talk.Answer.{Answer}
+use Rattle.state.specs.declared.talk.Answer.the-variants.{Asked}
+use Rattle.state.specs.declared.talk.Place.{Place}
 use Rattle.state.specs.declared.talk.Reply.{Reply}
+use Rattle.state.specs.declared.talk.Request.{Request}
+use Rattle.state.specs.declared.talk.Verdict.{Verdict}
+use Rattle.state.specs.declared.talk.Verdict.the-variants.{Passed}
 use Rattle.state.specs.Memory.{Memory}
-use Rattle.solve_blocks.specs.Advance.{AdvanceOutcome, advanceOutcome, advanceOf}
+use Rattle.solve_blocks.specs.Advance.{AdvanceOutcome, advanceOutcome, advanceBy, advanceOf}
 use Rattle.history.specs.Host.{isEnd, wrote}
-use Rattle.history.specs.History.{Point, nextPoint}
+use Rattle.history.specs.History.{Point, point, nextPoint}
 use Rattle.model_run.specs.Host.{replyTo, answeredBy}
-use Rattle.model_run.specs.Budget.{Answering, turnOf, lastOf, standingAt}
+use Rattle.model_run.specs.Budget.{Answering, turnOf, lastOf, standingAt, Admits}
 use Rattle.model_run.proofs.HostLaws.{replies}
 
 -- ---- one turn
@@ -40,6 +46,27 @@ turn-of reactions rates species here {p} {m} said written led =
     ∙ ap (λ (x : Memory). advanceOf (here .run)
     (answeredBy reactions rates species (here .request) (here .place) (here .memory) .reply) x .core)
     written)
+
+-- the same of an advance that is admitted, by which no refusal has to be told apart
+pub turn-admitted : (reactions : ℕ) (rates : List Float) (species : List ℕ) (here : Point)
+    {p : Reply} {m w : Memory} {r : Run} {q : Request} {l : Place}
+    → p ≡ replyTo (here .request)
+    → m
+    ≡ wrote (here .request) (here .place)
+    (answeredBy reactions rates species (here .request) (here .place) (here .memory)) (here .memory)
+    → Admits (answeredBy reactions rates species) here
+    → advanceOutcome (Asked r q l) w ≡ advanceBy Passed (here .run) p m .core
+    → point r q l w ≡ turnOf (answeredBy reactions rates species) here
+unfolding turnOf nextPoint
+turn-admitted reactions rates species here {p} {m} said written admits led =
+    let a = answeredBy reactions rates species (here .request) (here .place) (here .memory) in
+    ap (λ (o : AdvanceOutcome). nextPoint here (o .answer) (o .memory))
+    (led
+    ∙ ap (λ (x : Reply). advanceBy Passed (here .run) x m .core)
+    (said ∙ sym (replies reactions rates species (here .request) (here .place) (here .memory)))
+    ∙ ap (λ (x : Memory). advanceBy Passed (here .run) (a .reply) x .core) written
+    ∙ ap (λ (v : Verdict).
+    advanceBy v (here .run) (a .reply) (wrote (here .request) (here .place) a (here .memory)) .core) (sym admits))
 
 -- ---- turn after turn
 
