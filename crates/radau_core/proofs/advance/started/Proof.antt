@@ -3,7 +3,7 @@ use mathlib.Core.Path.{ap}
 use native.Mathlib.Omega.{arith}
 use borrow.Author.Needs.{needs}
 use Rattle.state.specs.Memory.{memory, amounts, given}
-use Rattle.solve_blocks.proofs.AdvanceLaws.{started-asked, started-on, told-fits}
+use Rattle.solve_blocks.proofs.AdvanceLaws.{started-asked, started-on, heard-fits}
 use Rattle.radau_core.specs.declared.step.Heard.{Heard}
 use Rattle.radau_core.specs.Places.{runAt, heardAt}
 use Rattle.radau_core.proofs.advance.started.Statement.{statement}
@@ -15,7 +15,7 @@ scaled-requires c κs =
     let start = at-enum-told .before .before .before .before .before .before in
     let a = start .args in
     let r = runAt (a .words .now) (a .doubles .now) in
-    let f = told-fits (ap (λ (h : Heard). heardAt h r) (at-enum-told .enum-told .given .1)) (start .pre .0) in (
+    let f = heard-fits (ap (λ (h : Heard). heardAt h r) (at-enum-told .enum-told .given .1)) (start .pre .0) in (
       omega (arith, f, start .pre .1),
       omega (arith, f, start .pre .2),
       omega (arith, f),

@@ -1,5 +1,4 @@
 -- `accepted_point` meets its contract.
-use mathlib.Core.Path.{refl}
 use lib.ListN.{length-set}
 use borrow.Author.Needs.{needs}
 use Rattle.radau_core.proofs.PlaceLaws.{words-at, doubles-at, resized}
@@ -7,7 +6,14 @@ use Rattle.radau_core.proofs.control.accepted_point.Statement.{statemen
 use Rattle.radau_core.proofs.control.accepted_point.Tie as tie
 
 returns : tie.Need-returns
-returns c = ?
+returns c =
+    let start = c .before .before .before .before in (
+      resized (start .pre .0) (simp length-set) (simp length-set),
+      rw (words-at (start .pre .0), doubles-at (start .pre .0)),
+    )
 
 pub accepted-point-spec : {M : Type 1} → statement M
-accepted-point-spec = tie.close (tie.spec returns)
+accepted-point-spec =
+    tie.close
+    (tie.spec (λ c. search needs) (λ c. search needs) (λ c. search needs) (λ c. search needs) (λ c. search needs)
+    (λ c. search needs) (λ c. search needs) (λ c. search needs) (λ c. search needs) (λ c. search needs) returns)
