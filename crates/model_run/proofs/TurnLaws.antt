@@ -4,12 +4,15 @@
 --                                          what is left of b turns leads on from it
 --     going, turned, stopped, spent        where it begins; after a turn; where the run has ended; where no turn is
 --                                          left
+--     admits                               where no turn is refused the next one is not
 use Prim.Native.Nat.{ℕ, zero, suc, _+_, _-_, _≤_, _<_}
 use mathlib.Core.Bool.{true, false}
-use mathlib.Core.Path.{_≡_, refl, sym, ap, _∙_}
+use mathlib.Core.Path.{_≡_, refl, sym, ap, subst, _∙_}
 use mathlib.Core.List.{List}
+use native.Mathlib.Numerals.{add-one}
 use native.Mathlib.Omega.{arith}
 use lib.Ieee.{Float}
+use Rattle.words.specs.Loop.{pick}
 use Rattle.words.proofs.Branch.{pick-yes, pick-no}
 use Rattle.state.specs.declared.run.Run.{Run}
 use Rattle.state.specs.declared.talk.Answer.{Answer}
@@ -24,7 +27,7 @@ use Rattle.solve_blocks.specs.Advance.{AdvanceOutcome, advanceOutcome, advanceB
 use Rattle.history.specs.Host.{isEnd, wrote}
 use Rattle.history.specs.History.{Point, point, nextPoint}
 use Rattle.model_run.specs.Host.{replyTo, answeredBy}
-use Rattle.model_run.specs.Budget.{Answering, turnOf, lastOf, standingAt, Admits}
+use Rattle.model_run.specs.Budget.{Answering, turnOf, lastOf, standingAt, Admits, NoneRefused}
 use Rattle.model_run.proofs.HostLaws.{replies}
 
 -- ---- one turn
@@ -82,6 +85,13 @@ module _ (host : Answering) where
   last-ended zero here e = refl
   last-ended (suc k) here e = ap (lastOf host k) (pick-yes here (turnOf host here) e) ∙ last-ended k here e
 
+  -- one turn more
+  last-next : (k : ℕ) (here : Point) → isEnd (lastOf host k here .request) ≡ false
+      → lastOf host (suc k) here ≡ turnOf host (lastOf host k here)
+  unfolding lastOf
+  last-next zero here e = pick-no here (turnOf host here) e
+  last-next (suc k) here e = last-next k (pick (isEnd (here .request)) here (turnOf host here)) e
+
   last-none : (here : Point) → lastOf host zero here ≡ here
   unfolding lastOf
   last-none here = refl
@@ -89,13 +99,25 @@ module _ (host : Answering) where
 pub record Going (host : Answering) (b i : ℕ) (here₀ here : Point) : Type 0 where
   pub within : i ≤ b
   pub leads : lastOf host (b - i) here ≡ lastOf host b here₀
+  pub comes : here ≡ lastOf host i here₀
 
 module _ {host : Answering} {b : ℕ} where
   pub going : (here : Point) → Going host b 0 here here
   going here =
-      let e : b - 0 ≡ b = omega arith in record { within = omega arith; leads = ap (λ (k : ℕ). lastOf host k here) e }
+      let e : b - 0 ≡ b = omega arith in
+      record {
+        within = omega arith;
+        leads = ap (λ (k : ℕ). lastOf host k here) e;
+        comes = sym (last-none host here);
+      }
 
   module _ {i : ℕ} {here₀ here : Point} (g : Going host b i here₀ here) where
+    ends : isEnd (here .request) ≡ false → isEnd (lastOf host i here₀ .request) ≡ false
+    ends e = ap (λ (p : Point). isEnd (p .request)) (sym (g .comes)) ∙ e
+
+    pub admits : NoneRefused host here₀ → isEnd (here .request) ≡ false → Admits host here
+    admits none e = subst (Admits host) (sym (g .comes)) (none i (ends e))
+
     pub turned : {there : Point} → i < b → isEnd (here .request) ≡ false → there ≡ turnOf host here
         → Going host b (i + 1) here₀ there
     turned h e t =
@@ -107,6 +129,11 @@ module _ {host : Answering} {b : ℕ} where
               ∙ sym (last-more host (b - (i + 1)) here e)
               ∙ ap (λ (k : ℕ). lastOf host k here) (sym s)
               ∙ g .leads;
+          comes =
+              t
+              ∙ ap (turnOf host) (g .comes)
+              ∙ sym (last-next host i here₀ (ends e))
+              ∙ ap (λ (k : ℕ). lastOf host k here₀) (sym (add-one i));
         }
 
     pub stopped : isEnd (here .request) ≡ true → standingAt here ≡ standingAt (lastOf host b here₀)
