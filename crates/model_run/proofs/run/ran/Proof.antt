@@ -10,63 +10,63 @@ part-y-end : tie.Need-part-y-end
 part-y-end c =
     let s = c .before .before .before .before .before .before .before .before .before .before .before .before .before
     .before .before .before .before .before .before .before .before .before .before .before in
-    rw (length-unmapped Float (s .args .task .amounts) 32 (s .good .0 .1 .1 .1 .1 .1 .1 .1 .1 .0 .1 .0 .1)) (s .pre .0)
+    rw (length-unmapped Float (s .args .task .amounts) 32 (s .good .0 .1 .1 .1 .1 .1 .1 .1 .1 .0 .1 .0 .1)) (s .pre .0 .0)
 
 part-f0-end : tie.Need-part-f0-end
 part-f0-end c =
     let at-vector = c .before .before .before .before .before .before .before .before .before .before .before .before
     .before .before .before .before .before .before .before .before .before in
     let start = at-vector .before .before .before .before in
-    zeros-fit (at-vector .vector .ensures) (start .pre .0)
+    zeros-fit (at-vector .vector .ensures) (start .pre .0 .0)
 
 part-scal-end : tie.Need-part-scal-end
 part-scal-end c =
     let at-vector2 = c .before .before .before .before .before .before .before .before .before .before .before .before
     .before .before .before .before .before .before .before .before .before in
     let start = at-vector2 .before .before .before .before .before in
-    zeros-fit (at-vector2 .vector2 .ensures) (start .pre .0)
+    zeros-fit (at-vector2 .vector2 .ensures) (start .pre .0 .0)
 
 part-cont-end : tie.Need-part-cont-end
 part-cont-end c =
     let at-coefficients = c .before .before .before .before .before .before .before .before .before .before .before
     .before .before .before .before .before .before .before .before .before .before in
     let start = at-coefficients .before .before .before .before .before .before in
-    zeros-fit (at-coefficients .coefficients .ensures) (four-small (start .pre))
+    zeros-fit (at-coefficients .coefficients .ensures) (four-small (start .pre .0))
 
 part-z1-end : tie.Need-part-z1-end
 part-z1-end c =
     let at-vector3 = c .before .before .before .before .before .before .before .before .before .before .before .before
     .before .before .before .before .before .before .before .before .before in
     let start = at-vector3 .before .before .before .before .before .before .before in
-    zeros-fit (at-vector3 .vector3 .ensures) (start .pre .0)
+    zeros-fit (at-vector3 .vector3 .ensures) (start .pre .0 .0)
 
 part-z2-end : tie.Need-part-z2-end
 part-z2-end c =
     let at-vector4 = c .before .before .before .before .before .before .before .before .before .before .before .before
     .before .before .before .before .before .before .before .before .before in
     let start = at-vector4 .before .before .before .before .before .before .before .before in
-    zeros-fit (at-vector4 .vector4 .ensures) (start .pre .0)
+    zeros-fit (at-vector4 .vector4 .ensures) (start .pre .0 .0)
 
 part-z3-end : tie.Need-part-z3-end
 part-z3-end c =
     let at-vector5 = c .before .before .before .before .before .before .before .before .before .before .before .before
     .before .before .before .before .before .before .before .before .before in
     let start = at-vector5 .before .before .before .before .before .before .before .before .before in
-    zeros-fit (at-vector5 .vector5 .ensures) (start .pre .0)
+    zeros-fit (at-vector5 .vector5 .ensures) (start .pre .0 .0)
 
 part-f1-end : tie.Need-part-f1-end
 part-f1-end c =
     let at-vector6 = c .before .before .before .before .before .before .before .before .before .before .before .before
     .before .before .before .before .before .before .before .before .before in
     let start = at-vector6 .before .before .before .before .before .before .before .before .before .before in
-    zeros-fit (at-vector6 .vector6 .ensures) (start .pre .0)
+    zeros-fit (at-vector6 .vector6 .ensures) (start .pre .0 .0)
 
 part-f2-end : tie.Need-part-f2-end
 part-f2-end c =
     let at-vector7 = c .before .before .before .before .before .before .before .before .before .before .before .before
     .before .before .before .before .before .before .before .before .before in
     let start = at-vector7 .before .before .before .before .before .before .before .before .before .before .before in
-    zeros-fit (at-vector7 .vector7 .ensures) (start .pre .0)
+    zeros-fit (at-vector7 .vector7 .ensures) (start .pre .0 .0)
 
 part-f3-end : tie.Need-part-f3-end
 part-f3-end c =
@@ -74,7 +74,7 @@ part-f3-end c =
     .before .before .before .before .before .before .before .before .before in
     let start =
     at-vector8 .before .before .before .before .before .before .before .before .before .before .before .before in
-    zeros-fit (at-vector8 .vector8 .ensures) (start .pre .0)
+    zeros-fit (at-vector8 .vector8 .ensures) (start .pre .0 .0)
 
 part-to-end-end : tie.Need-part-to-end-end
 part-to-end-end c =
@@ -82,7 +82,7 @@ part-to-end-end c =
     .before .before .before .before .before .before .before .before .before .before in
     let start = at-vector9 .before .before .before .before .before .before .before
     .before .before .before .before .before .before in
-    zeros-fit (at-vector9 .vector9 .ensures) (start .pre .0)
+    zeros-fit (at-vector9 .vector9 .ensures) (start .pre .0 .0)
 
 part-to-end-end-2 : tie.Need-part-to-end-end-2
 part-to-end-end-2 c =
@@ -90,7 +90,7 @@ part-to-end-end-2 c =
     .before .before .before .before .before .before .before .before .before .before .before in
     let start = at-vector10 .before .before .before .before .before .before .before
     .before .before .before .before .before .before .before in
-    zeros-fit (at-vector10 .vector10 .ensures) (start .pre .0)
+    zeros-fit (at-vector10 .vector10 .ensures) (start .pre .0 .0)
 
 part-to-end-end-3 : tie.Need-part-to-end-end-3
 part-to-end-end-3 c =
@@ -98,7 +98,7 @@ part-to-end-end-3 c =
     .before .before .before .before .before .before .before .before .before .before .before .before in
     let start = at-matrix .before .before .before .before .before .before .before .before .before .before .before
     .before .before .before .before in
-    zeros-fit (at-matrix .matrix .ensures) (square-small (start .pre))
+    zeros-fit (at-matrix .matrix .ensures) (square-small (start .pre .0))
 
 part-jac-end : tie.Need-part-jac-end
 part-jac-end c =
@@ -106,7 +106,7 @@ part-jac-end c =
     .before .before .before .before .before .before .before .before .before .before .before .before in
     let start = at-matrix2 .before .before .before .before .before .before .before .before .before .before .before
     .before .before .before .before .before in
-    zeros-fit (at-matrix2 .matrix2 .ensures) (square-small (start .pre))
+    zeros-fit (at-matrix2 .matrix2 .ensures) (square-small (start .pre .0))
 
 part-e1-end : tie.Need-part-e1-end
 part-e1-end c =
@@ -114,7 +114,7 @@ part-e1-end c =
     .before .before .before .before .before .before .before .before .before .before .before .before in
     let start = at-matrix3 .before .before .before .before .before .before .before .before .before .before .before
     .before .before .before .before .before .before in
-    zeros-fit (at-matrix3 .matrix3 .ensures) (square-small (start .pre))
+    zeros-fit (at-matrix3 .matrix3 .ensures) (square-small (start .pre .0))
 
 part-e2r-end : tie.Need-part-e2r-end
 part-e2r-end c =
@@ -122,7 +122,7 @@ part-e2r-end c =
     .before .before .before .before .before .before .before .before .before .before .before .before in
     let start = at-matrix4 .before .before .before .before .before .before .before .before .before .before .before
     .before .before .before .before .before .before .before in
-    zeros-fit (at-matrix4 .matrix4 .ensures) (square-small (start .pre))
+    zeros-fit (at-matrix4 .matrix4 .ensures) (square-small (start .pre .0))
 
 part-e2i-end : tie.Need-part-e2i-end
 part-e2i-end c =
@@ -130,7 +130,7 @@ part-e2i-end c =
     .before .before .before .before .before .before .before .before .before .before .before .before in
     let start = at-matrix5 .before .before .before .before .before .before .before .before .before .before .before
     .before .before .before .before .before .before .before .before in
-    zeros-fit (at-matrix5 .matrix5 .ensures) (square-small (start .pre))
+    zeros-fit (at-matrix5 .matrix5 .ensures) (square-small (start .pre .0))
 
 part-ip1-end : tie.Need-part-ip1-end
 part-ip1-end c =
@@ -138,7 +138,7 @@ part-ip1-end c =
     .before .before .before .before .before .before .before .before .before .before .before .before in
     let start = at-pivots .before .before .before .before .before .before .before .before .before .before .before
     .before .before .before .before .before .before .before .before .before in
-    noughts-fit (at-pivots .pivots .ensures) (start .pre .0)
+    noughts-fit (at-pivots .pivots .ensures) (start .pre .0 .0)
 
 part-ip2-end : tie.Need-part-ip2-end
 part-ip2-end c =
@@ -146,7 +146,7 @@ part-ip2-end c =
     .before .before .before .before .before .before .before .before .before .before .before .before in
     let start = at-pivots2 .before .before .before .before .before .before .before .before .before .before .before
     .before .before .before .before .before .before .before .before .before .before in
-    noughts-fit (at-pivots2 .pivots2 .ensures) (start .pre .0)
+    noughts-fit (at-pivots2 .pivots2 .ensures) (start .pre .0 .0)
 
 part-y-perturbed-end : tie.Need-part-y-perturbed-end
 part-y-perturbed-end c =
@@ -154,7 +154,7 @@ part-y-perturbed-end c =
     .before .before .before .before .before .before .before .before .before .before .before .before in
     let start = at-vector11 .before .before .before .before .before .before .before .before .before .before .before
     .before .before .before .before .before .before .before .before .before .before .before in
-    zeros-fit (at-vector11 .vector11 .ensures) (start .pre .0)
+    zeros-fit (at-vector11 .vector11 .ensures) (start .pre .0 .0)
 
 part-f-perturbed-end : tie.Need-part-f-perturbed-end
 part-f-perturbed-end c =
@@ -162,7 +162,7 @@ part-f-perturbed-end c =
     .before .before .before .before .before .before .before .before .before .before .before .before in
     let start = at-vector12 .before .before .before .before .before .before .before .before .before .before .before
     .before .before .before .before .before .before .before .before .before .before .before .before in
-    zeros-fit (at-vector12 .vector12 .ensures) (start .pre .0)
+    zeros-fit (at-vector12 .vector12 .ensures) (start .pre .0 .0)
 
 part-f-origin-end : tie.Need-part-f-origin-end
 part-f-origin-end c =
@@ -170,7 +170,7 @@ part-f-origin-end c =
     .before .before .before .before .before .before .before .before .before .before .before .before in
     let start = at-vector13 .before .before .before .before .before .before .before .before .before .before .before
     .before .before .before .before .before .before .before .before .before .before .before .before .before in
-    zeros-fit (at-vector13 .vector13 .ensures) (start .pre .0)
+    zeros-fit (at-vector13 .vector13 .ensures) (start .pre .0 .0)
 
 returns : tie.Need-returns
 returns c =
@@ -181,8 +181,8 @@ returns c =
     let s = m .before .before .before .before .before .before .before .before .before .before .before .before .before
     .before .before .before .before .before .before .before .before .before .before .before in
     ran-is (s .args .task) (s .args .rates .now) (s .args .species .now) (s .args .pending .run)
-    (s .args .pending .request) (s .args .pending .place) (s .pre .1)
-    (lent-is (s .args .task) (s .pre) (m .before .before .before .before .before .before .before .before .before .before
+    (s .args .pending .request) (s .args .pending .place) (s .pre .0 .1)
+    (lent-is (s .args .task) (s .pre .0) (m .before .before .before .before .before .before .before .before .before .before
     .before .before .before .before .before .before .before .before .before .before .vector .ensures)
     (m .before .before .before .before .before .before .before .before .before .before .before .before .before .before
     .before .before .before .before .before .vector2 .ensures)

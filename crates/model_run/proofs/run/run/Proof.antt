@@ -3,6 +3,7 @@
 use mathlib.Core.Path.{_∙_}
 use borrow.Author.Needs.{needs}
 use Rattle.model_run.proofs.Room.{square-fits}
+use Rattle.model_run.proofs.NoneRefused.{task-none-refused}
 use Rattle.model_run.proofs.TaskLaws.{run-refused, run-ran}
 use Rattle.model_run.proofs.run.run.Statement.{statement}
 use Rattle.model_run.proofs.run.run.Tie as tie
