@@ -1,8 +1,11 @@
 -- `ran` meets its contract: each part that it lends is the front of its array, and behind the amounts
 -- stands what was not lent.
+use mathlib.Core.Path.{_≡_}
 use lib.Ieee.{Float}
 use borrow.Author.Needs.{zero≤, length-unmapped}
-use Rattle.model_run.proofs.Room.{zeros-fit, noughts-fit, four-small, square-small, lent-is, ran-is}
+use Rattle.state.specs.Memory.{Memory, memory, amounts, newton, given, factors, differences}
+use Rattle.model_run.specs.Budget.{memoryOf}
+use Rattle.model_run.proofs.Room.{zeros-fit, noughts-fit, four-small, square-small, first, lent-is, none-lent, ran-is}
 use Rattle.model_run.proofs.run.ran.Statement.{statement}
 use Rattle.model_run.proofs.run.ran.Tie as tie
 
@@ -172,44 +175,94 @@ part-f-origin-end c =
     .before .before .before .before .before .before .before .before .before .before .before .before .before in
     zeros-fit (at-vector13 .vector13 .ensures) (start .pre .0 .0)
 
+abbrev start-at : (c : tie.After-vector13) → tie.Start
+start-at c =
+    c .before .before .before .before .before .before .before .before .before .before .before .before .before .before
+    .before .before .before .before .before .before .before .before .before .before
+
+-- the memory that is lent is that of the task
+abbrev memory-lent : (c : tie.After-vector13) → Memory
+memory-lent c =
+    let a = start-at c .args in
+    memory
+    (amounts (first (a .n) (a .task .amounts)) (first (a .n) (c .before .before .before .before .before .before
+    .before .before .before .before .before .before .before .before .before .before .before .before .before .before
+    .vector .result)) (first (a .n) (c .before .before .before .before .before .before .before .before .before .before
+    .before .before .before .before .before .before .before .before .before .vector2 .result)) (first (a .n4) (c
+    .before .before .before .before .before .before .before .before .before .before .before .before .before .before
+    .before .before .before .before .coefficients .result)))
+    (newton (first (a .n) (c .before .before .before .before .before .before .before .before .before .before .before
+    .before .before .before .before .before .before .vector3 .result)) (first (a .n) (c .before .before .before
+    .before .before .before .before .before .before .before .before .before .before .before .before .before .vector4
+    .result)) (first (a .n) (c .before .before .before .before .before .before .before .before .before .before .before
+    .before .before .before .before .vector5 .result)) (first (a .n) (c .before .before .before .before .before
+    .before .before .before .before .before .before .before .before .before .vector6 .result)) (first (a .n) (c
+    .before .before .before .before .before .before .before .before .before .before .before .before .before .vector7
+    .result)) (first (a .n) (c .before .before .before .before .before .before .before .before .before .before .before
+    .before .vector8 .result)))
+    (given (first (a .n) (c .before .before .before .before .before .before .before .before .before .before .before
+    .vector9 .result)) (first (a .n) (c .before .before .before .before .before .before .before .before .before
+    .before .vector10 .result)) (first (a .nn) (c .before .before .before .before .before .before .before .before
+    .before .matrix .result)) (first (a .nn) (c .before .before .before .before .before .before .before .before
+    .matrix2 .result)))
+    (factors (first (a .nn) (c .before .before .before .before .before .before .before .matrix3 .result)) (first (a
+    .nn) (c .before .before .before .before .before .before .matrix4 .result)) (first (a .nn) (c .before .before
+    .before .before .before .matrix5 .result)) (first (a .n) (c .before .before .before .before .pivots .result))
+    (first (a .n) (c .before .before .before .pivots2 .result)))
+    (differences (first (a .n) (c .before .before .vector11 .result)) (first (a .n) (c .before .vector12 .result))
+    (first (a .n) (c .vector13 .result)))
+
+lent : (c : tie.After-vector13) → memory-lent c ≡ memoryOf (start-at c .args .task)
+lent c =
+    lent-is (start-at c .args .task) (start-at c .pre .0)
+    (c .before .before .before .before .before .before .before .before .before .before .before .before .before .before
+    .before .before .before .before .before .before .vector .ensures)
+    (c .before .before .before .before .before .before .before .before .before .before .before .before .before .before
+    .before .before .before .before .before .vector2 .ensures)
+    (c .before .before .before .before .before .before .before .before .before .before .before .before .before .before
+    .before .before .before .before .coefficients .ensures)
+    (c .before .before .before .before .before .before .before .before .before .before .before .before .before .before
+    .before .before .before .vector3 .ensures)
+    (c .before .before .before .before .before .before .before .before .before .before .before .before .before .before
+    .before .before .vector4 .ensures)
+    (c .before .before .before .before .before .before .before .before .before .before .before .before .before .before
+    .before .vector5 .ensures)
+    (c .before .before .before .before .before .before .before .before .before .before .before .before .before .before
+    .vector6 .ensures)
+    (c .before .before .before .before .before .before .before .before .before .before .before .before .before
+    .vector7 .ensures)
+    (c .before .before .before .before .before .before .before .before .before .before .before .before .vector8
+    .ensures)
+    (c .before .before .before .before .before .before .before .before .before .before .before .vector9 .ensures)
+    (c .before .before .before .before .before .before .before .before .before .before .vector10 .ensures)
+    (c .before .before .before .before .before .before .before .before .before .matrix .ensures)
+    (c .before .before .before .before .before .before .before .before .matrix2 .ensures)
+    (c .before .before .before .before .before .before .before .matrix3 .ensures)
+    (c .before .before .before .before .before .before .matrix4 .ensures)
+    (c .before .before .before .before .before .matrix5 .ensures)
+    (c .before .before .before .before .pivots .ensures)
+    (c .before .before .before .pivots2 .ensures)
+    (c .before .before .vector11 .ensures)
+    (c .before .vector12 .ensures)
+    (c .vector13 .ensures)
+
+to-end-requires : tie.Need-to-end-requires
+to-end-requires c κs =
+    let m = c .before .before .before .before .before .before .before .before .before .before .before .before .before
+    .before .before .before .before .before .before .before .before .before .before .before .before in
+    let s = start-at m in
+    none-lent (s .args .task) (s .args .rates .now) (s .args .species .now) (s .args .pending .run)
+    (s .args .pending .request) (s .args .pending .place) (lent m) (s .pre .1)
+
 returns : tie.Need-returns
 returns c =
     let at-to-end = c .before .before .before .before .before .before .before .before .before .before .before .before
     .before .before .before .before .before .before .before in
     let m = at-to-end .before .before .before .before .before .before .before .before .before .before .before .before
     .before .before .before .before .before .before .before .before .before .before .before .before .before .before in
-    let s = m .before .before .before .before .before .before .before .before .before .before .before .before .before
-    .before .before .before .before .before .before .before .before .before .before .before in
+    let s = start-at m in
     ran-is (s .args .task) (s .args .rates .now) (s .args .species .now) (s .args .pending .run)
-    (s .args .pending .request) (s .args .pending .place) (s .pre .0 .1)
-    (lent-is (s .args .task) (s .pre .0) (m .before .before .before .before .before .before .before .before .before .before
-    .before .before .before .before .before .before .before .before .before .before .vector .ensures)
-    (m .before .before .before .before .before .before .before .before .before .before .before .before .before .before
-    .before .before .before .before .before .vector2 .ensures)
-    (m .before .before .before .before .before .before .before .before .before .before .before .before .before .before
-    .before .before .before .before .coefficients .ensures)
-    (m .before .before .before .before .before .before .before .before .before .before .before .before .before .before
-    .before .before .before .vector3 .ensures)
-    (m .before .before .before .before .before .before .before .before .before .before .before .before .before .before
-    .before .before .vector4 .ensures)
-    (m .before .before .before .before .before .before .before .before .before
-    .before .before .before .before .before .before .vector5 .ensures)
-    (m .before .before .before .before .before .before .before .before .before
-    .before .before .before .before .before .vector6 .ensures)
-    (m .before .before .before .before .before .before .before .before .before
-    .before .before .before .before .vector7 .ensures)
-    (m .before .before .before .before .before .before .before .before .before
-    .before .before .before .vector8 .ensures)
-    (m .before .before .before .before .before .before .before .before .before .before .before .vector9 .ensures)
-    (m .before .before .before .before .before .before .before .before .before .before .vector10 .ensures)
-    (m .before .before .before .before .before .before .before .before .before .matrix .ensures)
-    (m .before .before .before .before .before .before .before .before .matrix2 .ensures)
-    (m .before .before .before .before .before .before .before .matrix3 .ensures)
-    (m .before .before .before .before .before .before .matrix4 .ensures)
-    (m .before .before .before .before .before .matrix5 .ensures) (m .before .before .before .before .pivots .ensures)
-    (m .before .before .before .pivots2 .ensures) (m .before .before .vector11 .ensures) (m .before .vector12 .ensures)
-    (m .vector13 .ensures))
-    (at-to-end .to-end .ensures)
+    (s .args .pending .request) (s .args .pending .place) (s .pre .0 .1) (lent m) (at-to-end .to-end .ensures)
 
 pub ran-spec : {M : Type 1} → statement M
 ran-spec =
@@ -302,5 +355,5 @@ ran-spec =
     (λ c. zero≤)
     (λ c. zero≤)
     part-f-origin-end
-    (λ c κs. tt)
+    to-end-requires
     returns)
