@@ -183,68 +183,70 @@ start-at c =
 -- the memory that is lent is that of the task
 abbrev memory-lent : (c : tie.After-vector13) → Memory
 memory-lent c =
+    let at-vector12 = c .before in
+    let at-vector11 = at-vector12 .before in
+    let at-pivots2 = at-vector11 .before in
+    let at-pivots = at-pivots2 .before in
+    let at-matrix5 = at-pivots .before in
+    let at-matrix4 = at-matrix5 .before in
+    let at-matrix3 = at-matrix4 .before in
+    let at-matrix2 = at-matrix3 .before in
+    let at-matrix = at-matrix2 .before in
+    let at-vector10 = at-matrix .before in
+    let at-vector9 = at-vector10 .before in
+    let at-vector8 = at-vector9 .before in
+    let at-vector7 = at-vector8 .before in
+    let at-vector6 = at-vector7 .before in
+    let at-vector5 = at-vector6 .before in
+    let at-vector4 = at-vector5 .before in
+    let at-vector3 = at-vector4 .before in
+    let at-coefficients = at-vector3 .before in
+    let at-vector2 = at-coefficients .before in
+    let at-vector = at-vector2 .before in
     let a = start-at c .args in
     memory
-    (amounts (first (a .n) (a .task .amounts)) (first (a .n) (c .before .before .before .before .before .before
-    .before .before .before .before .before .before .before .before .before .before .before .before .before .before
-    .vector .result)) (first (a .n) (c .before .before .before .before .before .before .before .before .before .before
-    .before .before .before .before .before .before .before .before .before .vector2 .result)) (first (a .n4) (c
-    .before .before .before .before .before .before .before .before .before .before .before .before .before .before
-    .before .before .before .before .coefficients .result)))
-    (newton (first (a .n) (c .before .before .before .before .before .before .before .before .before .before .before
-    .before .before .before .before .before .before .vector3 .result)) (first (a .n) (c .before .before .before
-    .before .before .before .before .before .before .before .before .before .before .before .before .before .vector4
-    .result)) (first (a .n) (c .before .before .before .before .before .before .before .before .before .before .before
-    .before .before .before .before .vector5 .result)) (first (a .n) (c .before .before .before .before .before
-    .before .before .before .before .before .before .before .before .before .vector6 .result)) (first (a .n) (c
-    .before .before .before .before .before .before .before .before .before .before .before .before .before .vector7
-    .result)) (first (a .n) (c .before .before .before .before .before .before .before .before .before .before .before
-    .before .vector8 .result)))
-    (given (first (a .n) (c .before .before .before .before .before .before .before .before .before .before .before
-    .vector9 .result)) (first (a .n) (c .before .before .before .before .before .before .before .before .before
-    .before .vector10 .result)) (first (a .nn) (c .before .before .before .before .before .before .before .before
-    .before .matrix .result)) (first (a .nn) (c .before .before .before .before .before .before .before .before
-    .matrix2 .result)))
-    (factors (first (a .nn) (c .before .before .before .before .before .before .before .matrix3 .result)) (first (a
-    .nn) (c .before .before .before .before .before .before .matrix4 .result)) (first (a .nn) (c .before .before
-    .before .before .before .matrix5 .result)) (first (a .n) (c .before .before .before .before .pivots .result))
-    (first (a .n) (c .before .before .before .pivots2 .result)))
-    (differences (first (a .n) (c .before .before .vector11 .result)) (first (a .n) (c .before .vector12 .result))
-    (first (a .n) (c .vector13 .result)))
+    (amounts (first (a .n) (a .task .amounts)) (first (a .n) (at-vector .vector .result)) (first (a .n) (at-vector2
+    .vector2 .result)) (first (a .n4) (at-coefficients .coefficients .result)))
+    (newton (first (a .n) (at-vector3 .vector3 .result)) (first (a .n) (at-vector4 .vector4 .result)) (first (a .n)
+    (at-vector5 .vector5 .result)) (first (a .n) (at-vector6 .vector6 .result)) (first (a .n) (at-vector7 .vector7
+    .result)) (first (a .n) (at-vector8 .vector8 .result)))
+    (given (first (a .n) (at-vector9 .vector9 .result)) (first (a .n) (at-vector10 .vector10 .result)) (first (a .nn)
+    (at-matrix .matrix .result)) (first (a .nn) (at-matrix2 .matrix2 .result)))
+    (factors (first (a .nn) (at-matrix3 .matrix3 .result)) (first (a .nn) (at-matrix4 .matrix4 .result)) (first (a
+    .nn) (at-matrix5 .matrix5 .result)) (first (a .n) (at-pivots .pivots .result)) (first (a .n) (at-pivots2 .pivots2
+    .result)))
+    (differences (first (a .n) (at-vector11 .vector11 .result)) (first (a .n) (at-vector12 .vector12 .result)) (first
+    (a .n) (c .vector13 .result)))
 
 lent : (c : tie.After-vector13) → memory-lent c ≡ memoryOf (start-at c .args .task)
 lent c =
+    let at-vector12 = c .before in
+    let at-vector11 = at-vector12 .before in
+    let at-pivots2 = at-vector11 .before in
+    let at-pivots = at-pivots2 .before in
+    let at-matrix5 = at-pivots .before in
+    let at-matrix4 = at-matrix5 .before in
+    let at-matrix3 = at-matrix4 .before in
+    let at-matrix2 = at-matrix3 .before in
+    let at-matrix = at-matrix2 .before in
+    let at-vector10 = at-matrix .before in
+    let at-vector9 = at-vector10 .before in
+    let at-vector8 = at-vector9 .before in
+    let at-vector7 = at-vector8 .before in
+    let at-vector6 = at-vector7 .before in
+    let at-vector5 = at-vector6 .before in
+    let at-vector4 = at-vector5 .before in
+    let at-vector3 = at-vector4 .before in
+    let at-coefficients = at-vector3 .before in
+    let at-vector2 = at-coefficients .before in
+    let at-vector = at-vector2 .before in
     lent-is (start-at c .args .task) (start-at c .pre .0)
-    (c .before .before .before .before .before .before .before .before .before .before .before .before .before .before
-    .before .before .before .before .before .before .vector .ensures)
-    (c .before .before .before .before .before .before .before .before .before .before .before .before .before .before
-    .before .before .before .before .before .vector2 .ensures)
-    (c .before .before .before .before .before .before .before .before .before .before .before .before .before .before
-    .before .before .before .before .coefficients .ensures)
-    (c .before .before .before .before .before .before .before .before .before .before .before .before .before .before
-    .before .before .before .vector3 .ensures)
-    (c .before .before .before .before .before .before .before .before .before .before .before .before .before .before
-    .before .before .vector4 .ensures)
-    (c .before .before .before .before .before .before .before .before .before .before .before .before .before .before
-    .before .vector5 .ensures)
-    (c .before .before .before .before .before .before .before .before .before .before .before .before .before .before
-    .vector6 .ensures)
-    (c .before .before .before .before .before .before .before .before .before .before .before .before .before
-    .vector7 .ensures)
-    (c .before .before .before .before .before .before .before .before .before .before .before .before .vector8
-    .ensures)
-    (c .before .before .before .before .before .before .before .before .before .before .before .vector9 .ensures)
-    (c .before .before .before .before .before .before .before .before .before .before .vector10 .ensures)
-    (c .before .before .before .before .before .before .before .before .before .matrix .ensures)
-    (c .before .before .before .before .before .before .before .before .matrix2 .ensures)
-    (c .before .before .before .before .before .before .before .matrix3 .ensures)
-    (c .before .before .before .before .before .before .matrix4 .ensures)
-    (c .before .before .before .before .before .matrix5 .ensures)
-    (c .before .before .before .before .pivots .ensures)
-    (c .before .before .before .pivots2 .ensures)
-    (c .before .before .vector11 .ensures)
-    (c .before .vector12 .ensures)
-    (c .vector13 .ensures)
+    (at-vector .vector .ensures) (at-vector2 .vector2 .ensures) (at-coefficients .coefficients .ensures) (at-vector3
+    .vector3 .ensures) (at-vector4 .vector4 .ensures) (at-vector5 .vector5 .ensures) (at-vector6 .vector6 .ensures)
+    (at-vector7 .vector7 .ensures) (at-vector8 .vector8 .ensures) (at-vector9 .vector9 .ensures) (at-vector10
+    .vector10 .ensures) (at-matrix .matrix .ensures) (at-matrix2 .matrix2 .ensures) (at-matrix3 .matrix3 .ensures)
+    (at-matrix4 .matrix4 .ensures) (at-matrix5 .matrix5 .ensures) (at-pivots .pivots .ensures) (at-pivots2 .pivots2
+    .ensures) (at-vector11 .vector11 .ensures) (at-vector12 .vector12 .ensures) (c .vector13 .ensures)
 
 to-end-requires : tie.Need-to-end-requires
 to-end-requires c κs =
