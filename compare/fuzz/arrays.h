@@ -47,7 +47,7 @@ static void judge_written(const Arrays &arrays, const std::string &sheet) {
     std::vector<uint8_t> less(sheet.size() - 1, '#'), more(sheet.size() + 1, '#');
     insist(arrays.write(less, length) == ELCHEPUR_REFUSED_BUFFER && length == 7, "a sheet is longer than its room");
     insist(less == std::vector<uint8_t>(sheet.size() - 1, '#'), "a sheet without room was written");
-    insist(arrays.write(more, length) == ELCHEPUR_DONE && length == sheet.size(), "a sheet that was read isn't written");
+    insist(arrays.write(more, length) == ELCHEPUR_DONE && length == sheet.size(), "a sheet that was read is refused");
     insist(std::string(more.begin(), more.end()) == sheet + "#", "a sheet comes back as another");
 }
 
