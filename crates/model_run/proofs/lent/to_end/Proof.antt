@@ -26,7 +26,8 @@ pub record Led (host : Answering) (i : ℕ) (here₀ here : Point) (w : List ℕ
 abbrev Inv-loop : tie.InvT-loop
 Inv-loop reactions rates species y₀ f0₀ scal₀ cont₀ z1₀ z2₀ z3₀ f1₀ f2₀ f3₀ rtol atol mass jac₀ e1₀ e2r₀ e2i₀ ip1₀ ip2₀
     y-perturbed₀ f-perturbed₀ f-origin₀ words₀ doubles₀ here₀ counter₀
-    y f0 scal cont z1 z2 z3 f1 f2 f3 jac e1 e2r e2i ip1 ip2 y-perturbed f-perturbed f-origin words doubles here counter =
+    y f0 scal cont z1 z2 z3 f1 f2 f3 jac e1 e2r e2i ip1 ip2 y-perturbed f-perturbed
+    f-origin words doubles here counter =
     Led (answeredBy reactions rates species) counter
     (point (runAt words₀ doubles₀) (here₀ .request) (here₀ .place)
     (memory (amounts y₀ f0₀ scal₀ cont₀) (newton z1₀ z2₀ z3₀ f1₀ f2₀ f3₀)
@@ -41,7 +42,8 @@ Inv-loop reactions rates species y₀ f0₀ scal₀ cont₀ z1₀ z2₀ z3₀ f1
 abbrev μ-loop : tie.MeasureT-loop
 μ-loop reactions rates species y₀ f0₀ scal₀ cont₀ z1₀ z2₀ z3₀ f1₀ f2₀ f3₀ rtol atol mass jac₀ e1₀ e2r₀ e2i₀ ip1₀ ip2₀
     y-perturbed₀ f-perturbed₀ f-origin₀ words₀ doubles₀ here₀ counter₀
-    y f0 scal cont z1 z2 z3 f1 f2 f3 jac e1 e2r e2i ip1 ip2 y-perturbed f-perturbed f-origin words doubles here counter =
+    y f0 scal cont z1 z2 z3 f1 f2 f3 jac e1 e2r e2i ip1 ip2 y-perturbed f-perturbed
+    f-origin words doubles here counter =
     budget - counter
 
 -- the memory and the point at entry, at a turn and past it
@@ -63,7 +65,8 @@ host-at c = let a = c .args in answeredBy (a .reactions) (a .rates .now) (a .spe
 
 abbrev start : (c : tie.At-loop Inv-loop μ-loop) → tie.Start Inv-loop μ-loop
 start c =
-    c .before .before .before .before .before .before .before .before .before .before .before .before .before .before .before .before .before .before .before .before .before .before .before .before .before .before .before .before
+    c .before .before .before .before .before .before .before .before .before .before .before .before .before .before
+    .before .before .before .before .before .before .before .before .before .before .before .before .before .before
 
 -- the run that was put into its places
 held : (c : tie.At-loop Inv-loop μ-loop)
@@ -84,7 +87,8 @@ point-in c =
 
 abbrev tested : (c : tie.After-turned Inv-loop μ-loop) → tie.Else1 Inv-loop μ-loop
 tested c =
-    c .before .before .before .before .before .before .before .before .before .before .before .before .before .before .before .before .before .before .before .before .before .before
+    c .before .before .before .before .before .before .before .before .before .before .before .before .before .before
+    .before .before .before .before .before .before .before .before
 
 abbrev looped : (c : tie.Else1 Inv-loop μ-loop) → tie.At-loop Inv-loop μ-loop
 looped c = c .before .before .before
@@ -93,7 +97,8 @@ abbrev memory-turned : (c : tie.After-turned Inv-loop μ-loop) → Memory
 memory-turned c =
     let a = start (looped (tested c)) .args in
     memory
-    (amounts (c .turned .last .1 .1 .1 .1 .1 .1 .0) (c .turned .last .1 .1 .1 .1 .1 .1 .1 .0) (c .turned .last .1 .1 .1 .1 .1 .1 .1 .1 .0)
+    (amounts (c .turned .last .1 .1 .1 .1 .1 .1 .0) (c .turned .last .1 .1 .1 .1 .1 .1 .1 .0)
+    (c .turned .last .1 .1 .1 .1 .1 .1 .1 .1 .0)
     (c .turned .last .1 .1 .1 .1 .1 .1 .1 .1 .1 .0))
     (newton (c .turned .last .1 .1 .1 .1 .1 .1 .1 .1 .1 .1 .0) (c .turned .last .1 .1 .1 .1 .1 .1 .1 .1 .1 .1 .1 .0)
     (c .turned .last .1 .1 .1 .1 .1 .1 .1 .1 .1 .1 .1 .1 .0) (c .turned .last .1 .1 .1 .1 .1 .1 .1 .1 .1 .1 .1 .1 .1 .0)
@@ -117,7 +122,8 @@ point-turned c =
 
 loop-holds : tie.Need-loop-holds Inv-loop μ-loop
 loop-holds c =
-    let s = c .before .before .before .before .before .before .before .before .before .before .before .before .before .before .before .before .before .before .before .before .before .before .before .before .before .before .before in
+    let s = c .before .before .before .before .before .before .before .before .before .before .before .before .before
+    .before .before .before .before .before .before .before .before .before .before .before .before .before .before in
     record {
       sized = sized-at (s .args .pending .run) (c .before .words-of .ensures) (c .doubles-of .ensures);
       turns = going _;
@@ -151,7 +157,8 @@ returns-2 c =
 
 turned-requires : tie.Need-turned-requires Inv-loop μ-loop
 turned-requires c κs =
-    let t = c .before .before .before .before .before .before .before .before .before .before .before .before .before .before .before .before .before .before .before .before .before in
+    let t = c .before .before .before .before .before .before .before .before .before .before .before .before .before
+    .before .before .before .before .before .before .before .before in
     let l = looped t in
     let p = start l .args .pending in
     let none = subst (λ (r : Run). NoneRefused (host-at (start l)) (point r (p .request) (p .place)

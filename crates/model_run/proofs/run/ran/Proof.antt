@@ -5,7 +5,8 @@ use lib.Ieee.{Float}
 use borrow.Author.Needs.{zero≤, length-unmapped}
 use Rattle.state.specs.Memory.{Memory, memory, amounts, newton, given, factors, differences}
 use Rattle.model_run.specs.Budget.{memoryOf}
-use Rattle.model_run.proofs.Room.{zeros-fit, noughts-fit, four-small, square-small, first, lent-is, none-lent, ran-is}
+use Rattle.model_run.proofs.Room.{zeros-fit, noughts-fit, four-small, square-small}
+use Rattle.model_run.proofs.Room.{first, lent-is, none-lent, ran-is}
 use Rattle.model_run.proofs.run.ran.Statement.{statement}
 use Rattle.model_run.proofs.run.ran.Tie as tie
 
@@ -13,7 +14,8 @@ part-y-end : tie.Need-part-y-end
 part-y-end c =
     let s = c .before .before .before .before .before .before .before .before .before .before .before .before .before
     .before .before .before .before .before .before .before .before .before .before .before in
-    rw (length-unmapped Float (s .args .task .amounts) 32 (s .good .0 .1 .1 .1 .1 .1 .1 .1 .1 .0 .1 .0 .1)) (s .pre .0 .0)
+    rw (length-unmapped Float (s .args .task .amounts) 32 (s .good .0 .1 .1 .1 .1 .1 .1 .1 .1 .0 .1 .0 .1))
+    (s .pre .0 .0)
 
 part-f0-end : tie.Need-part-f0-end
 part-f0-end c =
