@@ -18,7 +18,7 @@ from sheet import sheet_of
 TARGET = measure.ROOT / "target" / "bench" / "nightly"
 SPECIES = range(1, 9)
 REACTIONS = (2, 8, 32)
-SHEETS = 400
+SHEETS = 200
 MOST_STEPS = 1_000
 SEED = 24
 CONTESTANTS = ("ours", "rust")
@@ -46,9 +46,9 @@ def drawn():
 
 
 def instructions(program, row, contestant):
-    """Those of a sheet: what two passes over all take, less what one takes."""
-    one, two = (measure.instructions([program, "turns", row["file"], contestant, turns]) for turns in (1, 2))
-    return (two - one) / SHEETS
+    """Those of a sheet: what a process that makes one pass over all takes, less one that makes none."""
+    none, one = (measure.instructions([program, "turns", row["file"], contestant, turns]) for turns in (0, 1))
+    return (one - none) / SHEETS
 
 
 def counted(program, rows):
