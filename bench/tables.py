@@ -202,6 +202,7 @@ def all_of(rows):
 
 # ---- the nightly job
 
+SPELLED = {"n": "species", "reactions": "reactions"}
 STATUSES = ("success", "interrupted", "too many steps", "step too small", "", "singular matrix", "")
 
 
@@ -230,20 +231,24 @@ def night_ends(rows):
     return ", ".join(f"{name} {count:,}" for name, count in zip(STATUSES, ended) if count)
 
 
+def shares_by(rows, what):
+    """Ours as a share of the Rust's, over the sheets of each number of species, or of reactions."""
+    groups = [[row for row in rows if row[what] == number] for number in sorted({row[what] for row in rows})]
+    return table([SPELLED[what], *(str(each[0][what]) for each in groups)], [
+        [word, *(ratio(*(together(each, measure)[name] for name in (OURS, RUST))) for each in groups)]
+        for measure, word in (("ns", "time"), ("instructions", "instructions"))])
+
+
 def of_nights(rows, sheets, goal):
-    head = ["species", "reactions", "ours, sheets a second", "the Rust", "time, ours / Rust", "ours, instructions",
-            "the Rust", "ours / Rust"]
+    head = ["species", "reactions", "sheets a second", "the Rust", "time, share", "instructions", "the Rust", "share"]
     time = together(rows, "ns")
     met = "met" if time[OURS] <= goal * time[RUST] else "not met"
-    by_n = [[row for row in rows if row["n"] == n] for n in sorted({row["n"] for row in rows})]
-    shares = table(["species", *(str(each[0]["n"]) for each in by_n)], [
-        [word, *(ratio(*(together(each, what)[name] for name in (OURS, RUST))) for each in by_n)]
-        for what, word in (("ns", "time"), ("instructions", "instructions"))])
     words = [
         f"Made on {machine()}. {spread(rows)} {sheets} sheets in each row, {sheets * len(rows):,} in all; of every one "
         f"ours printed what the Rust came to with document 01's powers. They ended so: {night_ends(rows)}.",
         f"{night_total(rows)} The goal is {goal} of its time: {met}.",
-        "Ours as a share of the Rust's, by species; above 1 ours loses:",
+        "Ours as a share of the Rust's, by species and by reactions; above 1 ours loses:",
     ]
-    parts = [*(textwrap.fill(each, WIDE) for each in words), shares, table(head, [night_row(row) for row in rows])]
+    parts = [*(textwrap.fill(each, WIDE) for each in words), shares_by(rows, "n"), shares_by(rows, "reactions"),
+             table(head, [night_row(row) for row in rows])]
     return "\n\n".join(part.rstrip("\n") for part in parts) + "\n"
