@@ -1,6 +1,7 @@
--- The laws that the proofs of the code cite: of the places, of an advance, and of a run put into its places; and one
--- outcome for an input.
+-- The laws that the proofs of the code cite: of the places, of an advance, and of a run put into its places; one outcome
+-- for an input; and wrong programs.
 pub mod PlaceLaws
 pub mod CoreLaws
 pub mod PackLaws
 pub mod Determinism
+pub mod Refuted
