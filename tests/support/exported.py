@@ -11,12 +11,19 @@ import rust_text
 # The crates that offer functions to C.
 CRATES = ("export", "export_forecast", "export_sheet")
 MARKED = re.compile(r'#\[no_mangle\]\npub extern "C" fn (\w+)\(([^)]*)\)(?: -> (\w+))?\n')
-TYPE = re.compile(r"(&mut |&|)(\[)?(\w+)(?:; (\d+))?\]?")
+TYPE = re.compile(r"(&mut |&|)(\[)?(\w+)(?:; (\w+))?\]?")
+# The places of a state, and how many there are.
+PLACES = rust_text.ROOT / "crates" / "radau_core" / "src" / "places.rt"
 
 
 def insist(fact, words):
     if not fact:
         sys.exit(f"exported: {words}")
+
+
+def places():
+    """Each constant of the table of places."""
+    return {name: int(place) for name, place in re.findall(r"^pub const (\w+): usize = (\d+);", PLACES.read_text(), re.M)}
 
 
 def exported(crate="export"):
@@ -39,4 +46,4 @@ def parameter_of(kind):
     shape = TYPE.fullmatch(kind)
     insist(shape, f"a parameter has the type {kind}")
     lent, opens, item, count = shape.groups()
-    return lent, bool(opens and not count), item, count
+    return lent, bool(opens and not count), item, str(places().get(count, count)) if count else count

@@ -1,6 +1,6 @@
--- `elchepur_advance` meets its contract: words that are no state are refused, else the advance is told over them.
+-- `elchepur_advance` meets its contract: the advance of the run that the arrays hold is told.
 use Rattle.state.specs.Memory.{Memory, memory, amounts, newton, given, factors, differences}
-use Rattle.export.proofs.RunLaws.{are-many, advance-not, advance-run}
+use Rattle.export.proofs.RunLaws.{advance-left}
 use borrow.Author.Needs.{needs}
 use Rattle.export.proofs.run.elchepur_advance.Statement.{statement}
 use Rattle.export.proofs.run.elchepur_advance.Tie as tie
