@@ -28,7 +28,7 @@ CRATES = {
     "solve_blocks": ["words", "scalar", "matrix", "state", "opening"],
     "radau_core": ["words", "scalar", "matrix", "state", "opening", "solve_blocks"],
     "radau": ["words", "state", "opening", "solve_blocks", "radau_core"],
-    "export": ["words", "bits", "scalar", "matrix", "dense", "state", "opening", "solve_blocks", "radau"],
+    "export": ["words", "scalar", "matrix", "dense", "state", "opening", "solve_blocks", "radau_core", "radau"],
     "model": ["words", "state"],
     "sheet": ["words", "bits", "state"],
     "forecast_text": ["words", "bits", "state", "sheet"],
