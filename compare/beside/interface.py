@@ -1,15 +1,21 @@
 """The module `interface` of the program: every exported function of crates/export, under its own name and with its own
-types, whichever way it is linked.
+types, whichever way it is linked; and the places of a state.
 
 As a port, `export` is a crate of Rust's and its functions are passed on. In the archive a slice is a pointer and a
 count, and an array or a number that is lent is a pointer (include/elchepur.h): there each function is declared so, and
 a function with the types of the sources calls it."""
 
-from exported import exported, parameter_of
+from exported import exported, parameter_of, places
+
+
+def places_text():
+    """The places of a state, by their names."""
+    constants = "".join(f"    pub const {name}: usize = {place};\n" for name, place in places().items())
+    return f"pub mod places {{\n{constants}}}\n"
 
 
 def port_text():
-    return "".join(f"pub use export::{file}::{name};\n" for name, (file, _, _) in exported().items())
+    return places_text() + "".join(f"pub use export::{file}::{name};\n" for name, (file, _, _) in exported().items())
 
 
 def crossing(name, kind):
@@ -42,4 +48,4 @@ def archive_text():
     """What Rust lends doesn't overlap, which is all that the archive's functions ask."""
     made = [of_archive(name, pairs, result) for name, (_, pairs, result) in exported().items()]
     declarations = "".join(declaration for declaration, _ in made)
-    return f'mod archive {{\n    extern "C" {{\n{declarations}    }}\n}}\n' + "".join(function for _, function in made)
+    return places_text() + f'mod archive {{\n    extern "C" {{\n{declarations}    }}\n}}\n' + "".join(function for _, function in made)

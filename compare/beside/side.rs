@@ -152,8 +152,7 @@ impl Side {
     fn dense(&mut self, step: &StepInterpolant<'_>, xold: f64, x: f64) {
         let n = self.theirs.y.len();
         let xi = if self.draw.percent(10) { self.draw.any() } else { xold + (x - xold) * self.draw.unit() };
-        let (said, h) = self.ours.held_step();
-        insist(said == 0, || format!("the step held is refused by {said}"));
+        let h = self.ours.held_step();
         none(difference("step held", &[h], &[step.step_params().1]));
         let (mut ours, mut theirs) = (vec![1.0; n], vec![1.0; n]);
         let said = elchepur_interpolate(xi, &mut ours, &self.ours.memory.cont, self.ours.at[0], h);

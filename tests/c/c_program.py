@@ -212,8 +212,7 @@ def shim(name, crate, file, pairs, result):
     """A function as rustc can offer it to C: rustc itself passes a slice otherwise than Rattle."""
     words, values = [], []
     for parameter, kind in pairs:
-        lent, is_slice, item, count = exported.parameter_of(kind)
-        kind = f"{lent}[{item}; {count}]" if count else kind
+        lent, is_slice, item, _ = exported.parameter_of(kind)
         pointer, make = ("*mut", "from_raw_parts_mut") if lent == "&mut " else ("*const", "from_raw_parts")
         words.append(f"{parameter}: {pointer} {item}, {parameter}_count: usize" if is_slice else f"{parameter}: {kind}")
         values.append(f"std::slice::{make}({parameter}, {parameter}_count)" if is_slice else parameter)

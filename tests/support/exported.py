@@ -11,8 +11,8 @@ import rust_text
 # The crates that offer functions to C.
 CRATES = ("export", "export_forecast", "export_sheet")
 MARKED = re.compile(r'#\[no_mangle\]\npub extern "C" fn (\w+)\(([^)]*)\)(?: -> (\w+))?\n')
-TYPE = re.compile(r"(&mut |&|)(\[)?(\w+)(?:; (\w+))?\]?")
-# The places of a state, and how many there are.
+TYPE = re.compile(r"(&mut |&|)(\[)?(\w+)(?:; (\d+))?\]?")
+# The places of a state, and how many there are of each sort.
 PLACES = rust_text.ROOT / "crates" / "radau_core" / "src" / "places.rt"
 
 
@@ -22,8 +22,13 @@ def insist(fact, words):
 
 
 def places():
-    """Each constant of the table of places."""
+    """Each constant of the table of places, by its name."""
     return {name: int(place) for name, place in re.findall(r"^pub const (\w+): usize = (\d+);", PLACES.read_text(), re.M)}
+
+
+def numbered(parameters):
+    """With lengths as numbers, where they stand by name."""
+    return re.sub(r"; ([A-Z]\w*)\]", lambda length: f"; {places()[length.group(1)]}]", parameters)
 
 
 def exported(crate="export"):
@@ -35,7 +40,7 @@ def exported(crate="export"):
         insist(len(marked) == text.count('extern "C"') == text.count("#[no_mangle]"),
                f"{file.name} exports a function in a form that is not expected")
         for name, parameters, result in marked:
-            pairs = [tuple(pair.strip().split(": ", 1)) for pair in re.split(r",(?![^\[]*\])", parameters)
+            pairs = [tuple(pair.strip().split(": ", 1)) for pair in re.split(r",(?![^\[]*\])", numbered(parameters))
                      if pair.strip()]
             found[name] = (file.stem, pairs, result)
     return found
@@ -46,4 +51,4 @@ def parameter_of(kind):
     shape = TYPE.fullmatch(kind)
     insist(shape, f"a parameter has the type {kind}")
     lent, opens, item, count = shape.groups()
-    return lent, bool(opens and not count), item, str(places().get(count, count)) if count else count
+    return lent, bool(opens and not count), item, count
