@@ -34,6 +34,8 @@ CRATES = {
     "forecast_text": ["words", "bits", "state", "sheet"],
     "sheet_write": ["words", "bits", "state", "sheet", "forecast_text"],
     "export_sheet": ["words", "bits", "state", "sheet", "forecast_text", "sheet_write"],
+    "night_totals": ["words", "bits", "state", "sheet", "forecast_text"],
+    "export_totals": ["words", "sheet", "forecast_text", "night_totals"],
     "model_run": ["words", "scalar", "matrix", "state", "opening", "solve_blocks", "model", "radau"],
     "forecast": ["words", "bits", "state", "sheet", "forecast_text", "model_run"],
     "export_forecast": ["words", "sheet", "forecast_text", "forecast"],
@@ -42,7 +44,10 @@ CRATES = {
 
 def stripped(text):
     """Without `ghost use`, `requires` and `ensures`, each up to its last bracket, and without the form for C, in which
-    rustc passes slices otherwise than Rattle; types get what Rattle gives them unasked."""
+    rustc passes slices otherwise than Rattle; types get what Rattle gives them unasked, and sums that wrap the name
+    that they have in Rust."""
+    text = re.sub(r"use std::num::wrapping_add_\w+;\n", "", text)
+    text = re.sub(r"(?:std::num::)?wrapping_add_(\w+)\(", r"\1::wrapping_add(", text)
     lines, depth = [], 0
     for line in text.replace('#[no_mangle]\npub extern "C" fn', "pub fn").split("\n"):
         word = line.strip().split(" ")[0]
