@@ -103,8 +103,8 @@ Meets f =
     ≡ advanceBy Passed (runAt w d) p m .core
 
 passes : verdictOf (admissionRows (sampleAt stage.FirstDerivative) reply.Filled sampleMemory) ≡ Passed
-unfolding pick verdictOf amountsFit newtonFit givenFit factorsFit differencesFit askingAt answersReport stray strayAt le
-    ofBits
+unfolding pick loop verdictOf amountsFit newtonFit givenFit factorsFit differencesFit askingAt answersReport stray
+    strayAt le ofBits
 passes = refl
 
 -- the first advance asks for a report
