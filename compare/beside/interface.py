@@ -48,4 +48,5 @@ def archive_text():
     """What Rust lends doesn't overlap, which is all that the archive's functions ask."""
     made = [of_archive(name, pairs, result) for name, (_, pairs, result) in exported().items()]
     declarations = "".join(declaration for declaration, _ in made)
-    return places_text() + f'mod archive {{\n    extern "C" {{\n{declarations}    }}\n}}\n' + "".join(function for _, function in made)
+    foreign = f'mod archive {{\n    extern "C" {{\n{declarations}    }}\n}}\n'
+    return places_text() + foreign + "".join(function for _, function in made)

@@ -399,8 +399,10 @@ void Session::step() {
     switch (choice) {
     case 5: model = input.below(6); return reply(0);
     case 6: case 7: return go_on(1 + input.below(64));
-    case 8: return advance(input.whole(request_of(lent[STATE_WORDS]).kind == ELCHEPUR_KIND_REPORT ? ELCHEPUR_REPLY_FILLED
-                                       : ELCHEPUR_REPLY_CONTINUE), input.number(0.0));
+    case 8: {  // a reply of another kind
+        bool is_report = request_of(lent[STATE_WORDS]).kind == ELCHEPUR_KIND_REPORT;
+        return advance(input.whole(is_report ? ELCHEPUR_REPLY_FILLED : ELCHEPUR_REPLY_CONTINUE), input.number(0.0));
+    }
     case 9: case 12: {  // a state or a part that is wrong for this call alone
         const Lent before = lent;
         if (choice == 12) misfit();

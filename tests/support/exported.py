@@ -23,7 +23,8 @@ def insist(fact, words):
 
 def places():
     """Each constant of the table of places, by its name."""
-    return {name: int(place) for name, place in re.findall(r"^pub const (\w+): usize = (\d+);", PLACES.read_text(), re.M)}
+    found = re.findall(r"^pub const (\w+): usize = (\d+);", PLACES.read_text(), re.M)
+    return {name: int(place) for name, place in found}
 
 
 def numbered(parameters):

@@ -109,7 +109,8 @@ pub elchepur-open-once : Settles opens.Kinds.ps opens.Kinds.r opens.Reads.Asked 
 elchepur-open-once κs a = (
   tt,
   λ o p. one-part (λ (l : Left).
-      l .crossed .number ▹ tt ▹ tt ▹ tt ▹ tt ▹ tt ▹ tt ▹ tt ▹ tt ▹ l .crossed .words ▹ l .crossed .doubles ▹ l .crossed .told ▹ l .crossed .at
+      l .crossed .number ▹ tt ▹ tt ▹ tt ▹ tt ▹ tt ▹ tt ▹ tt ▹ tt ▹ l .crossed .words ▹ l .crossed .doubles ▹
+      l .crossed .told ▹ l .crossed .at
       ▹ tt ▹ l .memory .amounts .f0 ▹ l .memory .amounts .scal ▹ l .memory .amounts .cont ▹ l .memory .newton .z1
       ▹ l .memory .newton .z2 ▹ l .memory .newton .z3 ▹ l .memory .newton .f1 ▹ l .memory .newton .f2
       ▹ l .memory .newton .f3 ▹ l .memory .given .rtol ▹ l .memory .given .atol ▹ l .memory .given .mass
@@ -122,7 +123,8 @@ pub elchepur-advance-once : Settles advance.Kinds.ps advance.Kinds.r advance.Rea
 elchepur-advance-once κs a = (
   tt,
   λ o p. one-part (λ (l : Left).
-      l .crossed .number ▹ l .crossed .words ▹ l .crossed .doubles ▹ tt ▹ tt ▹ l .crossed .told ▹ l .crossed .at ▹ l .memory .amounts .y ▹ tt
+      l .crossed .number ▹ l .crossed .words ▹ l .crossed .doubles ▹ tt ▹ tt ▹
+      l .crossed .told ▹ l .crossed .at ▹ l .memory .amounts .y ▹ tt
       ▹ l .memory .amounts .scal ▹ l .memory .amounts .cont ▹ l .memory .newton .z1 ▹ l .memory .newton .z2
       ▹ l .memory .newton .z3 ▹ l .memory .newton .f1 ▹ l .memory .newton .f2 ▹ l .memory .newton .f3 ▹ tt ▹ tt ▹ tt
       ▹ l .memory .given .jac ▹ l .memory .factors .e1 ▹ l .memory .factors .e2r ▹ l .memory .factors .e2i

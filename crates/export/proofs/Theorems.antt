@@ -1,5 +1,5 @@
--- What is promised of a state that C holds, and of settings in two arrays: what a user cites, each theorem in words, its
--- statement, and where it is proved.
+-- What is promised of a state that C holds, and of settings in two arrays: what a user cites, each theorem in words,
+-- its statement, and where it is proved.
 use mathlib.Core.Path.{_≡_}
 use Rattle.state.specs.declared.settings.Settings.{Settings}
 use Rattle.state.specs.declared.run.Run.{Run}

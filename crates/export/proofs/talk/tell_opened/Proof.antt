@@ -18,7 +18,8 @@ returns-2 c =
     let at-words-of = at-doubles-of .before in
     rw (at-words-of .before .before .opened2 .given .1)
     (λ i.
-    crossed 0 (at-words-of .words-of .ensures i) (at-doubles-of .doubles-of .ensures i) (c .before .before .tell .ensures
+    crossed 0 (at-words-of .words-of .ensures i) (at-doubles-of .doubles-of .ensures i)
+    (c .before .before .tell .ensures
     i) (c .tell-points .ensures i))
 
 pub tell-opened-spec : {M : Type 1} → statement M
