@@ -39,7 +39,7 @@ CRATES = {
     "night_totals": ["words", "bits", "state", "sheet", "forecast_text"],
     "night_join": ["words", "night_totals"],
     "export_totals": ["words", "sheet", "forecast_text", "night_totals", "night_join"],
-    "model_run": ["words", "scalar", "matrix", "state", "opening", "solve_blocks", "model", "radau"],
+    "model_run": ["words", "scalar", "matrix", "state", "opening", "solve_blocks", "model", "radau_core"],
     "forecast": ["words", "bits", "state", "sheet", "forecast_text", "model_run"],
     "export_forecast": ["words", "sheet", "forecast_text", "forecast"],
 }
