@@ -48,11 +48,11 @@ module _ (words : List ℕ) (doubles : List Float) (told : List ℕ) (at : List 
       λ i. left (q i) (o i .memory)
 
 pub result-left :
-    {words : List ℕ} {doubles : List Float} {r : Run} {q : Result} {z : Ended} (numbers : List ℕ) (floats : List Float)
+    (words : List ℕ) (doubles : List Float) (numbers : List ℕ) (floats : List Float) {r : Run} {q : Result} {z : Ended}
     → r ≡ runAt words doubles
     → q ≡ resultOf r
     → z ≡ ofResult q numbers floats
     → z ≡ resultLeft words doubles numbers floats
-result-left numbers floats hr hq hz =
+result-left words doubles numbers floats hr hq hz =
     hz ∙ ap (λ (v : Result). ofResult v numbers floats) hq
     ∙ ap (λ (v : Run). ofResult (resultOf v) numbers floats) hr

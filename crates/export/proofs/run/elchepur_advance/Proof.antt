@@ -23,7 +23,7 @@ told-at c =
     .before .before .before .before .before
 
 abbrev held-at : (c : tie.After-advance) → tie.After-run-at
-held-at c = told-at c .before .before
+held-at c = told-at c .before
 
 abbrev start : (c : tie.After-advance) → tie.Start
 start c =

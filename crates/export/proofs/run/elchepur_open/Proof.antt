@@ -46,7 +46,7 @@ opened c =
     c .before .before .before .before .before .before .before .before .before .before .before .before .before .before
     .before .before .before .before .before .before .before .before .before .before .before .before .before .before
     .before .before .before .before .before .before .before .before .before .before .before .before .before .before
-    .before .before .before .before
+    .before .before .before .before .before
 
 abbrev start : (c : tie.After-open) → tie.Start
 start c =

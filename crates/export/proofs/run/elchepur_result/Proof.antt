@@ -7,8 +7,9 @@ use Rattle.export.proofs.run.elchepur_result.Tie as tie
 returns : tie.Need-returns
 returns c =
     let at-result = c .before .before .before in
-    let start = at-result .before .before .before in
-    result-left (start .args .numbers .now) (start .args .floats .now) (at-result .before .run-at .ensures)
+    let a = at-result .before .before .args in
+    result-left (a .words .now) (a .doubles .now) (a .numbers .now) (a .floats .now)
+    (at-result .before .run-at .ensures)
     (at-result .result .ensures) (c .tell-result .ensures)
 
 pub elchepur-result-spec : {M : Type 1} → statement M
