@@ -46,10 +46,11 @@ enum {
     ELCHEPUR_REFUSED_SINGULAR = 17,       /* the matrix is singular */
     ELCHEPUR_REFUSED_PIVOT = 18,          /* one of the first n - 1 pivots is n or more */
     ELCHEPUR_REFUSED_TARGET = 19,         /* the target is shorter than a quarter of the coefficients */
-    ELCHEPUR_REFUSED_SHEET_LINE = 20,     /* the sheet is wrong in a line, which is told */
+    ELCHEPUR_REFUSED_SHEET_LINE = 20,     /* the sheet, or a list of status lines, is wrong in a line, which is told */
     ELCHEPUR_REFUSED_SHEET_LONG = 21,     /* the sheet has more than 4,096 bytes */
     ELCHEPUR_REFUSED_MODEL = 23,          /* it is no model of document 01 */
     ELCHEPUR_REFUSED_BUFFER = 24,         /* the sheet is longer than the memory */
+    ELCHEPUR_REFUSED_MANY_LINES = 26,     /* there are more than 65,535 status lines */
     ELCHEPUR_REFUSED_NOT_ENDED = 29,      /* there is no result yet */
     ELCHEPUR_REFUSED_OUTSIDE = 30         /* the table has no such entry */
 };
@@ -340,6 +341,46 @@ uint64_t elchepur_write_sheet(
     const uint64_t settings[ELCHEPUR_SHEET_SETTINGS], const size_t counts[ELCHEPUR_SHEET_COUNTS],
     const uint64_t amounts[ELCHEPUR_SHEET_AMOUNTS], const uint64_t rates[ELCHEPUR_SHEET_RATES],
     const size_t species[ELCHEPUR_SHEET_SPECIES], uint8_t *sheet, size_t sheet_count, size_t *length);
+
+/* ---- The totals of a night: status lines as `decay` prints them, taken in pieces of any size ---- */
+
+/* A night is held in words: start it, feed it pieces, and have it told. Words that no call made are a night as well, if
+ * a senseless one: nothing is refused for them, and nothing goes wrong. */
+enum {
+    ELCHEPUR_NIGHT = 37,                /* words of a night */
+    ELCHEPUR_TOTALS = 15,               /* numbers of its totals, at these places: */
+    ELCHEPUR_TOTALS_LINES = 0,          /* how many lines there are */
+    ELCHEPUR_TOTALS_STATUS0 = 1,        /* how many of them have each status */
+    ELCHEPUR_TOTALS_STATUS1 = 2,
+    ELCHEPUR_TOTALS_STATUS2 = 3,
+    ELCHEPUR_TOTALS_STATUS3 = 4,
+    ELCHEPUR_TOTALS_STATUS5 = 5,
+    ELCHEPUR_TOTALS_STATUS7 = 6,
+    ELCHEPUR_TOTALS_ACCEPTED = 7,       /* the sums of the six counts */
+    ELCHEPUR_TOTALS_REJECTED = 8,
+    ELCHEPUR_TOTALS_TOTAL = 9,
+    ELCHEPUR_TOTALS_ODE = 10,
+    ELCHEPUR_TOTALS_JAC = 11,
+    ELCHEPUR_TOTALS_LU = 12,
+    ELCHEPUR_TOTALS_LARGEST = 13,       /* the largest ode, and the number of its first line: 0 of no lines */
+    ELCHEPUR_TOTALS_PLACE = 14,
+    ELCHEPUR_TOTALS_PRINTED = 4096      /* bytes of room for what is printed of a night */
+};
+
+/* Begins a night. */
+void elchepur_totals_start(uint64_t night[ELCHEPUR_NIGHT]);
+
+/* Takes the next piece, which may end anywhere in a line. */
+void elchepur_totals_fed(uint64_t night[ELCHEPUR_NIGHT], const uint8_t *piece, size_t piece_count);
+
+/* Writes the totals of all that was taken, where nothing more comes. Refuses with 20, and `line` becomes the first
+ * wrong line, from 1, or with 26; there are no totals then, and what else is lent stays as it was. */
+uint64_t elchepur_totals_told(
+    const uint64_t night[ELCHEPUR_NIGHT], uint64_t totals[ELCHEPUR_TOTALS], uint64_t *line);
+
+/* Writes over the first bytes of `printed` what the program `totals` prints of it, and answers how many bytes these
+ * are; no zero byte ends them, and the others stay as they were. A refusal is printed, as in `refused 20 7`. */
+uint64_t elchepur_totals_printed(const uint64_t night[ELCHEPUR_NIGHT], uint8_t printed[ELCHEPUR_TOTALS_PRINTED]);
 
 #ifdef __cplusplus
 }

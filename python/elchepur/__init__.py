@@ -1,11 +1,12 @@
 """The stiff solver RADAU (Radau IIA, order 5), proved in Rattle: the library behind include/elchepur.h, for Python.
 
-`solve` runs a problem of one's own, `forecast` a model sheet, which `Sheet` reads and writes. A result is a run that
-succeeded: every other end raises, unless one asks with `check=False` to be told by the result. README.md
-beside this folder says how to get the library."""
+`solve` runs a problem of one's own, `forecast` a model sheet, which `Sheet` reads and writes; `totals` adds up the
+status lines of many. A result is a run that succeeded: every other end raises, unless one asks with `check=False` to
+be told by the result. README.md beside this folder says how to get the library."""
 
 from ._errors import BrokenOff, Error, NoLibrary, Refused, ShortenedStep, Unproved
 from ._library import load
+from ._nights import Night, Totals, totals
 from ._run import Step
 from ._sheets import Forecast, Sheet, bits_of, double_of, forecast
 from ._solving import INTERRUPT, Mark, Modified, Result, Solution, solve
@@ -17,6 +18,7 @@ __all__ = [
     "Forecast",
     "Mark",
     "Modified",
+    "Night",
     "NoLibrary",
     "Refused",
     "Result",
@@ -24,10 +26,12 @@ __all__ = [
     "ShortenedStep",
     "Solution",
     "Step",
+    "Totals",
     "Unproved",
     "bits_of",
     "double_of",
     "forecast",
     "load",
     "solve",
+    "totals",
 ]

@@ -3,7 +3,7 @@
 from . import _numbers as numbers
 
 # Of a sheet alone, in words that a line can stand behind.
-OF_SHEETS = {20: "the sheet is wrong in its line", 21: "the sheet is too long"}
+OF_SHEETS = {20: "what was read is wrong in its line", 21: "the sheet is too long"}
 
 ENDINGS = {
     "SUCCESS": "an attempt aimed at the end point was accepted",

@@ -26,6 +26,7 @@ REFUSED_SHEET_LINE = 20
 REFUSED_SHEET_LONG = 21
 REFUSED_MODEL = 23
 REFUSED_BUFFER = 24
+REFUSED_MANY_LINES = 26
 REFUSED_NOT_ENDED = 29
 REFUSED_OUTSIDE = 30
 MOST = 32
@@ -104,6 +105,24 @@ SHEET_AMOUNTS = 32
 SHEET_RATES = 64
 SHEET_SPECIES = 256
 SHEET_MOST = 4096
+NIGHT = 37
+TOTALS = 15
+TOTALS_LINES = 0
+TOTALS_STATUS0 = 1
+TOTALS_STATUS1 = 2
+TOTALS_STATUS2 = 3
+TOTALS_STATUS3 = 4
+TOTALS_STATUS5 = 5
+TOTALS_STATUS7 = 6
+TOTALS_ACCEPTED = 7
+TOTALS_REJECTED = 8
+TOTALS_TOTAL = 9
+TOTALS_ODE = 10
+TOTALS_JAC = 11
+TOTALS_LU = 12
+TOTALS_LARGEST = 13
+TOTALS_PLACE = 14
+TOTALS_PRINTED = 4096
 
 # The header's words for each number that refuses.
 REFUSALS = {
@@ -126,10 +145,11 @@ REFUSALS = {
     17: "the matrix is singular",
     18: "one of the first n - 1 pivots is n or more",
     19: "the target is shorter than a quarter of the coefficients",
-    20: "the sheet is wrong in a line, which is told",
+    20: "the sheet, or a list of status lines, is wrong in a line, which is told",
     21: "the sheet has more than 4,096 bytes",
     23: "it is no model of document 01",
     24: "the sheet is longer than the memory",
+    26: "there are more than 65,535 status lines",
     29: "there is no result yet",
     30: "the table has no such entry",
 }
@@ -255,5 +275,17 @@ FUNCTIONS = {
     "elchepur_write_sheet": (
         "uint64_t", "const uint64_t *", "const size_t *", "const uint64_t *", "const uint64_t *", "const size_t *",
         "uint8_t *", "size_t", "size_t *",
+    ),
+    "elchepur_totals_start": (
+        "void", "uint64_t *",
+    ),
+    "elchepur_totals_fed": (
+        "void", "uint64_t *", "const uint8_t *", "size_t",
+    ),
+    "elchepur_totals_told": (
+        "uint64_t", "const uint64_t *", "uint64_t *", "uint64_t *",
+    ),
+    "elchepur_totals_printed": (
+        "uint64_t", "const uint64_t *", "uint8_t *",
     ),
 }

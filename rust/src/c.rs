@@ -4,6 +4,7 @@
 
 use crate::memory::Memory;
 use crate::numbers::{AT, FLOATS, NUMBERS, PRINTED, RESULT_FLOATS, RESULT_NUMBERS, STATE, TOLD};
+use crate::numbers::{NIGHT, TOTALS, TOTALS_PRINTED};
 use crate::numbers::{SHEET_AMOUNTS, SHEET_COUNTS, SHEET_MOST, SHEET_RATES, SHEET_SETTINGS, SHEET_SPECIES};
 
 /// What is handed to an opening besides memory.
@@ -86,7 +87,18 @@ extern "C" {
         rates: &[u64; SHEET_RATES], species: &[usize; SHEET_SPECIES],
         sheet: *mut u8, sheet_count: usize, length: &mut usize,
     ) -> u64;
+
+    fn elchepur_totals_start(night: &mut [u64; NIGHT]);
+
+    fn elchepur_totals_fed(night: &mut [u64; NIGHT], piece: *const u8, piece_count: usize);
+
+    fn elchepur_totals_told(night: &[u64; NIGHT], totals: &mut [u64; TOTALS], line: &mut u64) -> u64;
+
+    fn elchepur_totals_printed(night: &[u64; NIGHT], printed: &mut [u8; TOTALS_PRINTED]) -> u64;
 }
+
+/// A night as the header's words hold it.
+pub(crate) type NightWords = [u64; NIGHT];
 
 /// A model as the arrays of the header hold it.
 pub(crate) struct Arrays {
@@ -242,4 +254,34 @@ pub(crate) fn write_sheet(a: &Arrays) -> Result<Vec<u8>, u64> {
     };
     sheet.truncate(length);
     answered(number, sheet)
+}
+
+/// A night of which nothing has come.
+pub(crate) fn totals_start() -> NightWords {
+    let mut night = [0; NIGHT];
+    // SAFETY: the array has the header's length.
+    unsafe { elchepur_totals_start(&mut night) };
+    night
+}
+
+/// Takes a piece of the lines.
+pub(crate) fn totals_fed(night: &mut NightWords, piece: &[u8]) {
+    // SAFETY: the pointer goes with the length of its slice; the array has the header's length, and is not the slice.
+    unsafe { elchepur_totals_fed(night, piece.as_ptr(), piece.len()) };
+}
+
+/// The totals, or the number that refuses and the line that is told with 20.
+pub(crate) fn totals_told(night: &NightWords) -> Result<[u64; TOTALS], (u64, u64)> {
+    let (mut totals, mut line) = ([0; TOTALS], 0);
+    // SAFETY: the arrays have the header's lengths, each lent by itself.
+    let number = unsafe { elchepur_totals_told(night, &mut totals, &mut line) };
+    answered(number, totals).map_err(|number| (number, line))
+}
+
+/// What the program `totals` prints.
+pub(crate) fn totals_printed(night: &NightWords) -> Vec<u8> {
+    let mut printed = [0; TOTALS_PRINTED];
+    // SAFETY: the arrays have the header's lengths, each lent by itself.
+    let count = unsafe { elchepur_totals_printed(night, &mut printed) };
+    printed.iter().copied().take(usize::try_from(count).unwrap_or(TOTALS_PRINTED)).collect()
 }

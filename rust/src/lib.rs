@@ -41,6 +41,7 @@ mod forecast;
 mod found;
 pub mod matrix;
 mod memory;
+mod night;
 mod numbers;
 mod outcome;
 mod points;
@@ -55,6 +56,7 @@ mod system;
 mod tolerance;
 
 pub use crate::forecast::{forecast, BrokenOffSheet, Forecast, NoForecast};
+pub use crate::night::{totals, Night, NoTotals, Totals};
 pub use crate::sheet::{NoSheet, Reaction, Sheet};
 
 /// Whether the archive behind this crate bears the mark of the kit that proves. It does, unless whoever built this
@@ -81,6 +83,7 @@ pub mod prelude {
     pub use crate::ivp::FirstOrderSystem;
     pub use crate::matrix::{Matrix, MatrixStorage};
     pub use crate::methods::{Evals, IntegrationResult, RADAUBuilder, Rule, Steps, Tolerance, RADAU};
+    pub use crate::night::{Night, NoTotals, Totals};
     pub use crate::sheet::{NoSheet, Reaction, Sheet};
     pub use crate::solout::{AtPoints, ControlFlag, NoSolOut, SolOut};
     pub use crate::status::Status;

@@ -15,6 +15,9 @@ pub const SHEET_AMOUNTS: usize = 32;
 pub const SHEET_RATES: usize = 64;
 pub const SHEET_SPECIES: usize = 256;
 pub const SHEET_MOST: usize = 4096;
+pub const NIGHT: usize = 37;
+pub const TOTALS: usize = 15;
+pub const TOTALS_PRINTED: usize = 4096;
 
 pub const NUMBER_MAX_STEPS: usize = 0;
 pub const NUMBER_NEWTON_MAXITER: usize = 1;
@@ -96,3 +99,4 @@ pub const REFUSED_FIRST_STEP: u64 = 11;
 pub const REFUSED_STEP_LIMITS: u64 = 12;
 pub const REFUSED_SHEET_LINE: u64 = 20;
 pub const REFUSED_SHEET_LONG: u64 = 21;
+pub const REFUSED_MANY_LINES: u64 = 26;

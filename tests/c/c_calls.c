@@ -214,6 +214,51 @@ static void sheets(void) {
     same("the line after the last", line, 2);
 }
 
+// Hands lines over in pieces of a length and sees what is answered; `place` stands in the totals, or is the wrong line.
+static void night(const char *words, const char *lines, size_t step, uint64_t number, uint64_t place) {
+    uint64_t night[ELCHEPUR_NIGHT], totals[ELCHEPUR_TOTALS], line = 7;
+    size_t count = strlen(lines);
+    uint8_t printed[ELCHEPUR_TOTALS_PRINTED];
+    for (size_t k = 0; k < ELCHEPUR_TOTALS; k++) totals[k] = 9;
+    elchepur_totals_start(night);
+    for (size_t at = 0; at < count; at += step)
+        elchepur_totals_fed(night, (const uint8_t *)lines + at, step < count - at ? step : count - at);
+    same(words, elchepur_totals_told(night, totals, &line), number);
+    same("its place", number ? line : totals[ELCHEPUR_TOTALS_PLACE], place);
+    same("a total of refused lines", !number || totals[0] == 9, 1);
+    same("what is printed of it", elchepur_totals_printed(night, printed) > 10, 1);
+    same("its first byte", printed[0], number ? 'r' : 'l');
+}
+
+// Nights of a few lines, and words that no call made.
+static void nights(void) {
+    const char *two = "status 0 accepted 1 rejected 2 total 3 ode 4 jac 5 lu 6\n"
+                      "status 7 accepted 10000000000 rejected 0 total 0 ode 4 jac 0 lu 0\n";
+    uint64_t forged[ELCHEPUR_NIGHT], totals[ELCHEPUR_TOTALS], line = 7;
+    for (size_t step = 1; step < 80; step++) night("two lines", two, step, 0, 1);
+    night("no lines", "", 1, 0, 0);
+    night("a line without its end", "status 0", 3, ELCHEPUR_REFUSED_SHEET_LINE, 1);
+    night("an empty line", "\n", 3, ELCHEPUR_REFUSED_SHEET_LINE, 1);
+    elchepur_totals_start(forged);
+    elchepur_totals_fed(forged, (const uint8_t *)two, strlen(two));
+    same("two lines once more", elchepur_totals_told(forged, totals, &line), 0);
+    same("a line that is not told", line, 7);
+    const uint64_t wanted[ELCHEPUR_TOTALS] = {2, 1, 0, 0, 0, 0, 1, UINT64_C(10000000001), 2, 3, 8, 5, 6, 4, 1};
+    for (size_t k = 0; k < ELCHEPUR_TOTALS; k++) same("a total of two lines", totals[k], wanted[k]);
+    forged[0] = 65535;
+    same("no line too many", elchepur_totals_told(forged, totals, &line), 0);
+    elchepur_totals_fed(forged, (const uint8_t *)"s", 1);
+    same("a line too many", elchepur_totals_told(forged, totals, &line), ELCHEPUR_REFUSED_MANY_LINES);
+    for (size_t k = 0; k < ELCHEPUR_NIGHT; k++) forged[k] = UINT64_MAX - k;
+    elchepur_totals_fed(forged, (const uint8_t *)two, strlen(two));
+    same("words that no call made", elchepur_totals_told(forged, totals, &line), ELCHEPUR_REFUSED_MANY_LINES);
+    forged[15] = forged[20] = 0;
+    forged[0] = 3;
+    elchepur_totals_fed(forged, (const uint8_t *)two, strlen(two));
+    same("a place outside the line", elchepur_totals_told(forged, totals, &line), ELCHEPUR_REFUSED_SHEET_LINE);
+    same("the line behind those that are said to be there", line, 4);
+}
+
 int main(void) {
     scalars();
     matrices();
@@ -221,6 +266,7 @@ int main(void) {
     defaults();
     openings();
     sheets();
+    nights();
     printf("%d answers of single calls, %d wrong\n", seen, wrong);
     return wrong != 0;
 }

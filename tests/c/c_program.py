@@ -1,6 +1,6 @@
 #!/usr/bin/env python3
-"""The crates `export`, `export_forecast` and `export_sheet` as programs in C see them: their header, their
-archive, and runs through both.
+"""The crates `export`, `export_forecast`, `export_sheet` and `export_totals` as programs in C see them: their header,
+their archive, and runs through both.
 
     tests/c/c_program.py check [FOLDER]  hold the header to the sources, and run the programs in C: on the archive,
                                        where both are proved and were not edited since; else on their very sources,

@@ -111,6 +111,28 @@ def check_refusals(module):
         insist(error.number == 23, f"no model: {wrong}: {error}")
 
 
+LINE = b"status 5 accepted 1 rejected 2 total 3 ode 4 jac 5 lu 10000000000\n"
+
+
+def check_nights(module):
+    """Totals of a few lines, whatever the pieces, and what has none."""
+    wanted = module.Totals(2, {0: 0, 1: 0, 2: 0, 3: 0, 5: 2, 7: 0}, 2, 4, 6, 8, 10, 20000000000, 4, 1)
+    insist(module.totals(LINE * 2) == wanted, "totals of two lines")
+    insist(module.totals((LINE * 2).decode()) == wanted, "totals of a text")
+    night = module.Night()
+    insist(night.totals() == module.Totals(0, dict.fromkeys((0, 1, 2, 3, 5, 7), 0), *[0] * 8), "totals of no lines")
+    for byte in LINE * 2:
+        night.feed(bytes([byte]))
+    insist(night.totals() == wanted, "totals of single bytes")
+    insist(night.printed().endswith(b"\nlargest 4 line 1\n"), "what is printed of them")
+    night.feed(b"y")
+    for lines, number, line in ((LINE + b"x", 20, 2), (LINE[:-1], 20, 1), (LINE * 65536, 26, None)):
+        error = raised(module.Refused, module.totals, lines)
+        insist((error.number, error.line) == (number, line), f"{lines[:70]!r}: {error}")
+    insist(raised(module.Refused, night.totals).line == 3, "a byte behind two lines")
+    insist(night.printed() == b"refused 20 3\n", "a refusal is printed otherwise")
+
+
 def check_arguments(module):
     """What Python can't hand over is no refusal of the solver's, and is not cut to fit."""
     plain = (pair, (0.0, 1.0), [1.0, 2.0])
@@ -293,6 +315,7 @@ def check_readme(path):
 def check(module, path):
     """All of it, on the library at this path, which is loaded, and is so at the end."""
     check_refusals(module)
+    check_nights(module)
     check_arguments(module)
     check_exceptions(module)
     check_endings(module)

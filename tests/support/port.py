@@ -1,8 +1,8 @@
 """The Rattle sources as Rust: Rattle's syntax is Rust's, so with the contracts taken out rustc compiles the very code
 that is proved. For tests that hold it beside the Rust's.
 
-The branches of the solver are counted: each outcome of an `if` and each arm of a `match` of crates/radau, under the
-names that `build` gives."""
+The branches of the solver are counted: each outcome of an `if` and each arm of a `match` of crates/radau_core,
+under the names that `build` gives."""
 
 import fcntl
 import hashlib
@@ -26,13 +26,16 @@ CRATES = {
     "matrix": ["words", "scalar", "state"],
     "opening": ["words", "scalar", "state"],
     "solve_blocks": ["words", "scalar", "matrix", "state", "opening"],
-    "radau": ["words", "scalar", "matrix", "state", "opening", "solve_blocks"],
+    "radau_core": ["words", "scalar", "matrix", "state", "opening", "solve_blocks"],
+    "radau": ["words", "state", "opening", "solve_blocks", "radau_core"],
     "export": ["words", "bits", "scalar", "matrix", "dense", "state", "opening", "solve_blocks", "radau"],
     "model": ["words", "state"],
     "sheet": ["words", "bits", "state"],
     "forecast_text": ["words", "bits", "state", "sheet"],
     "sheet_write": ["words", "bits", "state", "sheet", "forecast_text"],
     "export_sheet": ["words", "bits", "state", "sheet", "forecast_text", "sheet_write"],
+    "night_totals": ["words", "bits", "state", "sheet", "forecast_text"],
+    "export_totals": ["words", "sheet", "forecast_text", "night_totals"],
     "model_run": ["words", "scalar", "matrix", "state", "opening", "solve_blocks", "model", "radau"],
     "forecast": ["words", "bits", "state", "sheet", "forecast_text", "model_run"],
     "export_forecast": ["words", "sheet", "forecast_text", "forecast"],
@@ -41,7 +44,10 @@ CRATES = {
 
 def stripped(text):
     """Without `ghost use`, `requires` and `ensures`, each up to its last bracket, and without the form for C, in which
-    rustc passes slices otherwise than Rattle; types get what Rattle gives them unasked."""
+    rustc passes slices otherwise than Rattle; types get what Rattle gives them unasked, and sums that wrap the name
+    that they have in Rust."""
+    text = re.sub(r"use std::num::wrapping_add_\w+;\n", "", text)
+    text = re.sub(r"(?:std::num::)?wrapping_add_(\w+)\(", r"\1::wrapping_add(", text)
     lines, depth = [], 0
     for line in text.replace('#[no_mangle]\npub extern "C" fn', "pub fn").split("\n"):
         word = line.strip().split(" ")[0]
@@ -56,7 +62,7 @@ def stripped(text):
 
 
 # The crate whose branches are counted, and what counts them there.
-COUNTED = "radau"
+COUNTED = "radau_core"
 COUNTER = """
 pub mod taken {
     use std::sync::atomic::{AtomicU64, Ordering::Relaxed};
@@ -84,7 +90,7 @@ def counting(text, file, names):
         indent = len(line) - len(line.lstrip())
         test = re.fullmatch(r"(.*\bif )(.*)( \{)", line)
         held = re.fullmatch(r"\s*if let (.*) = (\w+) \{", line)
-        arm = re.fullmatch(r"(\s*[A-Z]\w*::.* => )(.*)", line)
+        arm = re.fullmatch(r"(\s*(?:[A-Z]\w*::.*|\d+|_) => )(.*)", line)
         if held:
             line = f"crate::taken::test({len(names)}, matches!({held.group(2)}, {held.group(1)}));\n{line}"
             names += [unlike(names, f"{file}: if let {held.group(1)}: {outcome}") for outcome in ("yes", "no")]
@@ -92,7 +98,7 @@ def counting(text, file, names):
             line = f"{test.group(1)}crate::taken::test({len(names)}, {test.group(2)}){test.group(3)}"
             names += [unlike(names, f"{file}: if {test.group(2)}: {outcome}") for outcome in ("yes", "no")]
         elif arm:
-            whole = arm.group(2).endswith(",") or arm.group(2) == "{}"
+            whole = arm.group(2).endswith((",", "}"))
             line = f"{arm.group(1)}{{ crate::taken::arm({len(names)}); {arm.group(2).rstrip(',')}" + (" }" if whole
                 else "")
             names.append(unlike(names, f"{file}: {arm.group(1).strip()[:-3]}"))

@@ -29,31 +29,31 @@ use Rattle.radau_core.specs.Choices.{tolerancesTag, rtolValue, atolValue
 use Rattle.radau_core.specs.Places.{_#_, runAt, wordsOf, doublesOf, Sized}
 use Rattle.radau_core.proofs.PlaceLaws.{stage-back}
 
-flag : (b : Bool) → flagOf (flagWord b) ≡ b
-flag true = refl
-flag false = refl
+pub flag-held : (b : Bool) → flagOf (flagWord b) ≡ b
+flag-held true = refl
+flag-held false = refl
 
 number-back : (x : Number) → numberOf (numberTag x) (numberValue x) ≡ x
 unfolding numberOf pick
 number-back number.Absent = refl
 number-back (number.Given x) = refl
 
-whole-back : (x : Whole) → wholeOf (wholeTag x) (orNone x) ≡ x
+pub whole-back : (x : Whole) → wholeOf (wholeTag x) (orNone x) ≡ x
 unfolding wholeOf pick orNone
 whole-back whole.Absent = refl
 whole-back (whole.Given k) = refl
 
-mass-back : (x : Mass) → massOf (massWord x) ≡ x
+pub mass-back : (x : Mass) → massOf (massWord x) ≡ x
 unfolding massOf pick
 mass-back mass.Identity = refl
 mass-back mass.Full = refl
 
-source-back : (x : Source) → sourceOf (sourceWord x) ≡ x
+pub source-back : (x : Source) → sourceOf (sourceWord x) ≡ x
 unfolding sourceOf pick
 source-back source.Host = refl
 source-back source.Differences = refl
 
-rule-back : (x : Rule) → ruleOf (ruleWord x) ≡ x
+pub rule-back : (x : Rule) → ruleOf (ruleWord x) ≡ x
 unfolding ruleOf pick
 rule-back rule.Rust = refl
 rule-back rule.Book = refl
@@ -69,15 +69,15 @@ run-held r =
     let c = r .control in
     rw (
       stage-back (r .stage),
-      flag (c .first),
-      flag (c .last),
-      flag (c .reject),
-      flag (c .«call_jac»),
-      flag (c .«call_decomp»),
+      flag-held (c .first),
+      flag-held (c .last),
+      flag-held (c .reject),
+      flag-held (c .«call_jac»),
+      flag-held (c .«call_decomp»),
       number-back (r .numbers .xout),
       tolerances-back (r .fixed .tolerances),
-      flag (s .predictive),
-      flag (s .«dense_output»),
+      flag-held (s .predictive),
+      flag-held (s .«dense_output»),
       mass-back (s .mass),
       source-back (s .source),
       rule-back (s .rule),
