@@ -36,7 +36,7 @@ CRATES = {
     "export_sheet": ["words", "bits", "state", "sheet", "forecast_text", "sheet_write"],
     "night_totals": ["words", "bits", "state", "sheet", "forecast_text"],
     "export_totals": ["words", "sheet", "forecast_text", "night_totals"],
-    "model_run": ["words", "scalar", "matrix", "state", "opening", "solve_blocks", "model", "radau"],
+    "model_run": ["words", "scalar", "matrix", "state", "opening", "solve_blocks", "model", "radau_core"],
     "forecast": ["words", "bits", "state", "sheet", "forecast_text", "model_run"],
     "export_forecast": ["words", "sheet", "forecast_text", "forecast"],
 }
