@@ -19,6 +19,8 @@ TARGET = measure.ROOT / "target" / "bench" / "nightly"
 SPECIES = range(1, 9)
 REACTIONS = (2, 8, 32)
 SHEETS = 200
+# Of a row's sheets so many are counted, since callgrind takes its time.
+COUNTED = 50
 MOST_STEPS = 1_000
 SEED = 24
 CONTESTANTS = ("ours", "rust")
@@ -32,23 +34,29 @@ def built(folder, archive):
     return rust_solve.compiled(root, "nightly", ["-C", f"link-arg={measure.archive(archive, 'export_forecast')}"])
 
 
+def stored(name, sheets):
+    """A file of sheets, each behind the number of its bytes."""
+    path = TARGET / f"{name}.sheets"
+    path.write_bytes(b"".join(b"%d\n" % len(sheet) + sheet for sheet in sheets))
+    return path
+
+
 def drawn():
-    """The rows: of each number of species and of reactions a file of sheets."""
+    """The rows: of each number of species and of reactions a file of sheets, and one of the first of them."""
     draw, rows = Draw(SEED), []
     for n in SPECIES:
         for count in REACTIONS:
-            path = TARGET / f"{n}_{count}.sheets"
             models = [replay_sheet.drawn_model(draw, n, count, MOST_STEPS) for _ in range(SHEETS)]
-            sheets = [sheet_of(model) for model in models]
-            path.write_bytes(b"".join(b"%d\n" % len(sheet) + sheet for sheet in sheets))
-            rows.append({"n": n, "reactions": count, "file": path})
+            sheets, name = [sheet_of(model) for model in models], f"{n}_{count}"
+            rows.append({"n": n, "reactions": count, "file": stored(name, sheets),
+                         "first": stored(f"{name}_first", sheets[:COUNTED])})
     return rows
 
 
 def instructions(program, row, contestant):
-    """Those of a sheet: what a process that makes one pass over all takes, less one that makes none."""
-    none, one = (measure.instructions([program, "turns", row["file"], contestant, turns]) for turns in (0, 1))
-    return (one - none) / SHEETS
+    """Those of a sheet: what a process that makes one pass over the first takes, less one that makes none."""
+    none, one = (measure.instructions([program, "turns", row["first"], contestant, turns]) for turns in (0, 1))
+    return (one - none) / COUNTED
 
 
 def counted(program, rows):
