@@ -52,6 +52,7 @@ enum {
     ELCHEPUR_REFUSED_BUFFER = 24,         /* the sheet is longer than the memory */
     ELCHEPUR_REFUSED_POINT = 25,          /* no kept step of the shelf holds the point */
     ELCHEPUR_REFUSED_MANY_LINES = 26,     /* there are more than 65,535 status lines */
+    ELCHEPUR_REFUSED_TOTALS = 28,         /* totals are to be joined that no lines can have */
     ELCHEPUR_REFUSED_NOT_ENDED = 29,      /* there is no result yet */
     ELCHEPUR_REFUSED_OUTSIDE = 30         /* the table has no such entry */
 };
@@ -382,6 +383,13 @@ uint64_t elchepur_totals_told(
 /* Writes over the first bytes of `printed` what the program `totals` prints of it, and answers how many bytes these
  * are; no zero byte ends them, and the others stay as they were. A refusal is printed, as in `refused 20 7`. */
 uint64_t elchepur_totals_printed(const uint64_t night[ELCHEPUR_NIGHT], uint8_t printed[ELCHEPUR_TOTALS_PRINTED]);
+
+/* Writes the totals of two depots in one, the second's lines behind the first's: the place of its largest ode moves by
+ * the first's lines, and of equal ones the first's stands. Refuses with 28 where a side has more than 65,535 lines,
+ * runs per status that don't sum to them, a sum above 10,000,000,000 times them, a largest ode above its ode sum, a
+ * place above its lines, or a place of 0 with lines; then with 26. Totals that were told are never refused by 28. */
+uint64_t elchepur_totals_join(
+    const uint64_t first[ELCHEPUR_TOTALS], const uint64_t second[ELCHEPUR_TOTALS], uint64_t joined[ELCHEPUR_TOTALS]);
 
 /* ---- A shelf of recent steps, in memory beside a run ---- */
 

@@ -1,5 +1,5 @@
-"""Where the fuzz begins: inputs for the three programs, made of the stored sheets, of openings, runs and forged states
-as input.h and runs.cpp read bytes, and of calls as shelves.cpp does."""
+"""Where the fuzz begins: inputs for the four programs, made of the stored sheets and their answers, of openings, runs
+and forged states as input.h and runs.cpp read bytes, and of calls as shelves.cpp does."""
 
 import replay_sheet
 
@@ -95,10 +95,22 @@ def shelves():
     return filled + [full + tail for tail in tails]
 
 
+OVER_AND_OVER = 63  # a first byte by which nights.cpp has the lines over and over
+
+
+def nights(answers):
+    """Nothing; a few status lines, whole, with their end cut off, and over and over."""
+    lines = [f"{answer.splitlines()[0]}\n".encode() for answer in answers if answer.startswith("status")][:24]
+    few, more = b"".join(lines[:3]), b"".join(lines)
+    return [bytes([0]), bytes([1]) + few, bytes([2]) + few[:-1], bytes([3]) + few + b"refused 4\n",
+            bytes([OVER_AND_OVER]) + more]
+
+
 def inputs():
     """For each program its inputs."""
-    sheets = [data for data, _ in replay_sheet.records_of(replay_sheet.STORED.read_bytes())]
-    return {"runs": refused_openings() + runs() + forged() + others(), "sheets": sheets, "shelves": shelves()}
+    stored = list(replay_sheet.records_of(replay_sheet.STORED.read_bytes()))
+    return {"runs": refused_openings() + runs() + forged() + others(), "sheets": [data for data, _ in stored],
+            "shelves": shelves(), "nights": nights(answer for _, answer in stored)}
 
 
 def write(folder):

@@ -27,6 +27,30 @@ class Totals:
     largest: int
     place: int
 
+    def join(self, following):
+        """The Totals of the lines of both, the other's behind these. Raises Refused with 28 where a side is none that
+        lines can have, then with 26 for more than 65,535 lines."""
+        joined = (ctypes.c_uint64 * numbers.TOTALS)()
+        number = library().totals_join(words_of(self), words_of(following), joined)
+        if number:
+            raise Refused(number)
+        return totals_from(joined)
+
+
+def words_of(found):
+    """Totals as the header has them; what no word holds is no total."""
+    runs = [found.runs.get(status, 0) for status in STATUSES]
+    six = (found.accepted, found.rejected, found.total, found.ode, found.jac, found.lu)
+    words = [found.lines, *runs, *six, found.largest, found.place]
+    if not all(0 <= word < 2**64 for word in words) or set(found.runs) - set(STATUSES):
+        raise Refused(numbers.REFUSED_TOTALS)
+    return (ctypes.c_uint64 * numbers.TOTALS)(*words)
+
+
+def totals_from(words):
+    runs = words[numbers.TOTALS_STATUS0 : numbers.TOTALS_ACCEPTED]
+    return Totals(words[0], dict(zip(STATUSES, runs)), *words[numbers.TOTALS_ACCEPTED :])
+
 
 class Night:
     """Status lines that are fed in pieces, which may end anywhere in a line. `totals()` may be asked at any time; it is
@@ -49,8 +73,7 @@ class Night:
         number = library().totals_told(self._words, found, ctypes.byref(line))
         if number:
             raise Refused(number, line.value if number == numbers.REFUSED_SHEET_LINE else None)
-        runs = found[numbers.TOTALS_STATUS0 : numbers.TOTALS_ACCEPTED]
-        return Totals(found[0], dict(zip(STATUSES, runs)), *found[numbers.TOTALS_ACCEPTED :])
+        return totals_from(found)
 
     def printed(self):
         """The bytes that the program `totals` prints, a refusal too."""

@@ -28,6 +28,7 @@ REFUSED_MODEL = 23
 REFUSED_BUFFER = 24
 REFUSED_POINT = 25
 REFUSED_MANY_LINES = 26
+REFUSED_TOTALS = 28
 REFUSED_NOT_ENDED = 29
 REFUSED_OUTSIDE = 30
 MOST = 32
@@ -155,6 +156,7 @@ REFUSALS = {
     24: "the sheet is longer than the memory",
     25: "no kept step of the shelf holds the point",
     26: "there are more than 65,535 status lines",
+    28: "totals are to be joined that no lines can have",
     29: "there is no result yet",
     30: "the table has no such entry",
 }
@@ -292,6 +294,9 @@ FUNCTIONS = {
     ),
     "elchepur_totals_printed": (
         "uint64_t", "const uint64_t *", "uint8_t *",
+    ),
+    "elchepur_totals_join": (
+        "uint64_t", "const uint64_t *", "const uint64_t *", "uint64_t *",
     ),
     "elchepur_empty_shelf": (
         "void", "size_t *",

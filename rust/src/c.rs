@@ -97,6 +97,8 @@ extern "C" {
 
     fn elchepur_totals_printed(night: &[u64; NIGHT], printed: &mut [u8; TOTALS_PRINTED]) -> u64;
 
+    fn elchepur_totals_join(first: &[u64; TOTALS], second: &[u64; TOTALS], joined: &mut [u64; TOTALS]) -> u64;
+
     fn elchepur_empty_shelf(shelf: &mut [usize; SHELF]);
 
     fn elchepur_put_on_shelf(
@@ -297,6 +299,14 @@ pub(crate) fn totals_printed(night: &NightWords) -> Vec<u8> {
     // SAFETY: the arrays have the header's lengths, each lent by itself.
     let count = unsafe { elchepur_totals_printed(night, &mut printed) };
     printed.iter().copied().take(usize::try_from(count).unwrap_or(TOTALS_PRINTED)).collect()
+}
+
+/// Two totals joined, or the number that refuses.
+pub(crate) fn totals_join(first: &[u64; TOTALS], second: &[u64; TOTALS]) -> Result<[u64; TOTALS], u64> {
+    let mut joined = [0; TOTALS];
+    // SAFETY: the arrays have the header's lengths, and what is written is lent by itself.
+    let number = unsafe { elchepur_totals_join(first, second, &mut joined) };
+    answered(number, joined)
 }
 
 pub(crate) fn empty_shelf(shelf: &mut [usize; SHELF]) {

@@ -1,7 +1,7 @@
 //! The totals of a night: status lines taken in pieces of any size by the proved reader.
 
 use crate::c;
-use crate::numbers::{REFUSED_MANY_LINES, REFUSED_SHEET_LINE};
+use crate::numbers::{REFUSED_MANY_LINES, REFUSED_SHEET_LINE, REFUSED_TOTALS, TOTALS};
 use std::fmt;
 
 /// What status lines come to.
@@ -58,6 +58,32 @@ pub enum NoTotals {
     },
     /// 26: there are more than 65,535 lines.
     TooMany,
+    /// 28: totals that are to be joined are none that lines can have.
+    Unfit,
+}
+
+impl Totals {
+    fn from_words(words: [u64; TOTALS]) -> Totals {
+        let [lines, r0, r1, r2, r3, r5, r7, accepted, rejected, total, ode, jac, lu, largest, place] = words;
+        let runs = [r0, r1, r2, r3, r5, r7];
+        Totals { lines, runs, accepted, rejected, total, ode, jac, lu, largest, place }
+    }
+
+    fn words(&self) -> [u64; TOTALS] {
+        let Totals { lines, runs, accepted, rejected, total, ode, jac, lu, largest, place } = *self;
+        let [r0, r1, r2, r3, r5, r7] = runs;
+        [lines, r0, r1, r2, r3, r5, r7, accepted, rejected, total, ode, jac, lu, largest, place]
+    }
+
+    /// The totals of the lines of both, those of `next` behind these: `Unfit` where a side is none that lines can have,
+    /// then `TooMany`. [`Totals::default`], which are those of no lines, change nothing.
+    pub fn join(&self, next: &Totals) -> Result<Totals, NoTotals> {
+        c::totals_join(&self.words(), &next.words()).map(Totals::from_words).map_err(|number| match number {
+            REFUSED_TOTALS => NoTotals::Unfit,
+            REFUSED_MANY_LINES => NoTotals::TooMany,
+            other => panic!("the archive refuses totals with {other}: it is not of one version with this crate"),
+        })
+    }
 }
 
 impl std::error::Error for NoTotals {}
@@ -67,6 +93,7 @@ impl fmt::Display for NoTotals {
         match self {
             NoTotals::Malformed { line } => write!(f, "refused (20): line {line} is no status line"),
             NoTotals::TooMany => f.write_str("refused (26): there are more than 65,535 lines"),
+            NoTotals::Unfit => f.write_str("refused (28): totals are to be joined that no lines can have"),
         }
     }
 }
@@ -95,9 +122,7 @@ impl Night {
             REFUSED_MANY_LINES => NoTotals::TooMany,
             other => panic!("the archive refuses lines with {other}: it is not of one version with this crate"),
         })?;
-        let [lines, r0, r1, r2, r3, r5, r7, accepted, rejected, total, ode, jac, lu, largest, place] = found;
-        let runs = [r0, r1, r2, r3, r5, r7];
-        Ok(Totals { lines, runs, accepted, rejected, total, ode, jac, lu, largest, place })
+        Ok(Totals::from_words(found))
     }
 
     /// The bytes that the program `totals` prints of them, a refusal too.

@@ -104,3 +104,4 @@ pub const REFUSED_SHEET_LINE: u64 = 20;
 pub const REFUSED_SHEET_LONG: u64 = 21;
 pub const REFUSED_POINT: u64 = 25;
 pub const REFUSED_MANY_LINES: u64 = 26;
+pub const REFUSED_TOTALS: u64 = 28;

@@ -1,5 +1,5 @@
 //! The stored night of crates/totals in pieces of any length: what is printed of it is what is stored; and what has no
-//! totals.
+//! totals. Joined totals are those of the lines one after the other.
 
 mod shared;
 
@@ -62,4 +62,42 @@ fn what_has_no_totals() {
     assert_eq!(refused(&format!("{LINE}\n{most}")), NoTotals::Malformed { line: 2 });
     assert_eq!(NoTotals::TooMany.to_string(), "refused (26): there are more than 65,535 lines");
     assert_eq!(in_pieces(LINE.trim_end().as_bytes(), 9).printed(), b"refused 20 1\n");
+}
+
+#[test]
+fn joined_totals_are_those_of_the_lines() {
+    let lines = bytes("crates/totals/stdin");
+    let rows: Vec<&[u8]> = lines.split_inclusive(|byte| *byte == b'\n').collect();
+    let whole = totals(&lines).expect("totals");
+    let of = |rows: &[&[u8]]| totals(&rows.concat()).expect("totals");
+    for cut in [0, 1, 2, 391, 392, 393, 999, 1000] {
+        let (first, second) = (of(&rows[..cut]), of(&rows[cut..]));
+        assert_eq!(first.join(&second), Ok(whole), "cut behind {cut} lines");
+        let exchanged = second.join(&first).expect("totals");
+        assert_eq!(Totals { place: 0, ..exchanged }, Totals { place: 0, ..whole });
+    }
+    let third = |k: usize| of(&rows[k * 300..k * 300 + 300]);
+    let left = third(0).join(&third(1)).and_then(|two| two.join(&third(2)));
+    let right = third(1).join(&third(2)).and_then(|two| third(0).join(&two));
+    assert_eq!(left, right);
+}
+
+#[test]
+fn what_is_not_joined() {
+    let one = totals(LINE.as_bytes()).expect("totals");
+    let refused = |edit: fn(&mut Totals)| {
+        let mut other = one;
+        edit(&mut other);
+        assert_eq!(one.join(&other), Err(NoTotals::Unfit));
+        assert_eq!(other.join(&one), Err(NoTotals::Unfit));
+    };
+    refused(|totals| totals.lines = 65_536);
+    refused(|totals| totals.runs[5] = u64::MAX);
+    refused(|totals| totals.lu += 1);
+    refused(|totals| totals.largest += 1);
+    refused(|totals| totals.place = 0);
+    refused(|totals| totals.place = 2);
+    let most = totals(LINE.repeat(65_535).as_bytes()).expect("totals");
+    assert_eq!(most.join(&one), Err(NoTotals::TooMany));
+    assert_eq!(most.join(&Totals::default()), Ok(most));
 }

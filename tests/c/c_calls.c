@@ -259,6 +259,44 @@ static void nights(void) {
     same("the line behind those that are said to be there", line, 4);
 }
 
+// Two totals joined, each test of 28 failed on either side in turn, and lines up to the last that are taken.
+static void depots(void) {
+    const uint64_t none[ELCHEPUR_TOTALS] = {0}, one[ELCHEPUR_TOTALS] = {2, 1, 0, 0, 0, 0, 1, 9, 2, 3, 8, 5, 6, 4, 1};
+    const uint64_t both[ELCHEPUR_TOTALS] = {4, 2, 0, 0, 0, 0, 2, 18, 4, 6, 17, 10, 12, 5, 3};
+    uint64_t other[ELCHEPUR_TOTALS] = {2, 1, 0, 0, 0, 0, 1, 9, 2, 3, 9, 5, 6, 5, 1}, joined[ELCHEPUR_TOTALS];
+    same("two totals", elchepur_totals_join(one, other, joined), 0);
+    for (size_t k = 0; k < ELCHEPUR_TOTALS; k++) same("a total of both", joined[k], both[k]);
+    same("the other way round", elchepur_totals_join(other, one, joined), 0);
+    same("the place of the first's", joined[ELCHEPUR_TOTALS_PLACE], 1);
+    same("equal ones", elchepur_totals_join(one, one, joined), 0);
+    same("the first of equal ones", joined[ELCHEPUR_TOTALS_PLACE], 1);
+    same("no lines before", elchepur_totals_join(none, one, joined), 0);
+    for (size_t k = 0; k < ELCHEPUR_TOTALS; k++) same("a total behind no lines", joined[k], one[k]);
+    same("no lines behind", elchepur_totals_join(one, none, joined), 0);
+    for (size_t k = 0; k < ELCHEPUR_TOTALS; k++) same("a total before no lines", joined[k], one[k]);
+    struct { size_t place; uint64_t wrong; } tests[] = {
+        {ELCHEPUR_TOTALS_LINES, 65536}, {ELCHEPUR_TOTALS_LINES, 3}, {ELCHEPUR_TOTALS_STATUS5, UINT64_MAX},
+        {ELCHEPUR_TOTALS_ACCEPTED, UINT64_C(20000000001)}, {ELCHEPUR_TOTALS_REJECTED, UINT64_C(20000000001)},
+        {ELCHEPUR_TOTALS_TOTAL, UINT64_C(20000000001)}, {ELCHEPUR_TOTALS_ODE, UINT64_C(20000000001)},
+        {ELCHEPUR_TOTALS_JAC, UINT64_C(20000000001)}, {ELCHEPUR_TOTALS_LU, UINT64_MAX},
+        {ELCHEPUR_TOTALS_LARGEST, 10}, {ELCHEPUR_TOTALS_PLACE, 3}, {ELCHEPUR_TOTALS_PLACE, 0}};
+    for (size_t k = 0; k < sizeof tests / sizeof tests[0]; k++) {
+        uint64_t kept = other[tests[k].place];
+        other[tests[k].place] = tests[k].wrong;
+        joined[0] = 77;
+        same("an unfit second", elchepur_totals_join(one, other, joined), ELCHEPUR_REFUSED_TOTALS);
+        same("an unfit first", elchepur_totals_join(other, one, joined), ELCHEPUR_REFUSED_TOTALS);
+        same("what a refusal leaves", joined[0], 77);
+        other[tests[k].place] = kept;
+    }
+    other[ELCHEPUR_TOTALS_LINES] = 65533;
+    other[ELCHEPUR_TOTALS_STATUS0] = 65532;
+    same("just as many lines as are taken", elchepur_totals_join(one, other, joined), 0);
+    other[ELCHEPUR_TOTALS_LINES]++;
+    other[ELCHEPUR_TOTALS_STATUS0]++;
+    same("one more", elchepur_totals_join(one, other, joined), ELCHEPUR_REFUSED_MANY_LINES);
+}
+
 // One amount that stays at k from k to k + 1: 50 steps, of which two give up their room.
 static void shelves(void) {
     double room[192], ends[96], cont[4] = {0}, got[1] = {7};
@@ -299,6 +337,7 @@ int main(void) {
     openings();
     sheets();
     nights();
+    depots();
     shelves();
     printf("%d answers of single calls, %d wrong\n", seen, wrong);
     return wrong != 0;

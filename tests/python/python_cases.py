@@ -131,6 +131,15 @@ def check_nights(module):
         insist((error.number, error.line) == (number, line), f"{lines[:70]!r}: {error}")
     insist(raised(module.Refused, night.totals).line == 3, "a byte behind two lines")
     insist(night.printed() == b"refused 20 3\n", "a refusal is printed otherwise")
+    one, none = module.totals(LINE), module.totals(b"")
+    insist(one.join(one) == wanted, "totals that are joined")
+    insist(one.join(none) == none.join(one) == one, "totals of no lines are not neutral")
+    for wrong in ({"lines": 2}, {"runs": {**one.runs, 4: 1}}, {"lu": one.lu + 1}, {"largest": 5}, {"place": 0},
+                  {"place": 2}, {"ode": -1}, {"jac": 2**64}):
+        other = dataclasses.replace(one, **wrong)
+        for error in (raised(module.Refused, one.join, other), raised(module.Refused, other.join, one)):
+            insist(error.number == 28, f"unfit totals: {wrong}: {error}")
+    insist(raised(module.Refused, module.totals(LINE * 65535).join, one).number == 26, "a line too many is joined")
 
 
 def check_arguments(module):

@@ -1,6 +1,6 @@
 """A tree like this repository's in which no proof is made: its tools as they are, a kit whose `rt` says what it is told
-to, and programs `decay` and `totals` that print what they are told to. So what the tools do with an answer is tried in
-milliseconds, and no tool needs a way around the proof for its tests."""
+to, and programs `decay`, `totals` and `joined` that print what they are told to. So what the tools do with an answer is
+tried in milliseconds, and no tool needs a way around the proof for its tests."""
 
 import os
 import pathlib
@@ -45,7 +45,7 @@ class Tree:
         self.script("kit/bin/rt", RT)
         self.script("kit/docs/START-HERE.md", "")
         self.script(f"kit/on/{platform.machine()}/toolchain/bin/qemu-x86_64", EMULATOR)
-        for name in ("decay", "totals"):
+        for name in ("decay", "totals", "joined"):
             self.script(f"target/bin/{name}", PROGRAM)
         self.script("tools/archive", ARCHIVE)
         self.says("status 0 ")

@@ -4,6 +4,8 @@ use mathlib.Core.List.{List, [], _∷_, _++_}
 use Rattle.night_totals.specs.Night.{startOf, fedOf}
 use Rattle.night_totals.specs.declared.night.Outcome.{Outcome}
 use Rattle.night_totals.specs.declared.night.Outcome.the-variants as told
+use Rattle.night_join.specs.declared.joining.Joining.{Joining}
+use Rattle.night_join.specs.declared.joining.Joining.the-variants as joining
 use Rattle.export_totals.specs.Record.{totalsWords, wordsOf, nightFrom}
 
 pub record TotalsTold : Type 0 where
@@ -32,3 +34,18 @@ takenOf pieces = takenFrom (wordsOf startOf) pieces
 unfoldable pub wholeOf : List (List ℕ) → List ℕ
 wholeOf [] = []
 wholeOf (piece ∷ pieces) = piece ++ wholeOf pieces
+
+-- ---- two totals joined
+
+pub record TotalsJoined : Type 0 where
+  pub number : ℕ
+  pub totals : List ℕ
+
+abbrev pub totalsJoined : ℕ → List ℕ → TotalsJoined
+totalsJoined n totals = record { number = n; totals = totals }
+
+-- a refusal leaves the totals as they were
+unfoldable pub joinedLeft : Joining → List ℕ → TotalsJoined
+joinedLeft (joining.Joined t) totals = totalsJoined 0 (totalsWords t)
+joinedLeft joining.Unfit totals = totalsJoined 28 totals
+joinedLeft joining.TooMany totals = totalsJoined 26 totals

@@ -162,3 +162,26 @@ pub fn night_from(words: &[u64; 37]) -> Night
         beyond: words[15] != 0,
     }
 }
+
+// Any totals at all.
+pub fn totals_given(words: &[u64; 15]) -> Totals
+    ensures { λ r. ⌜ r ≡ totalsFrom (now (words .entry)) ⌝ }
+{
+    Totals {
+        lines: words[0],
+        status0: words[1],
+        status1: words[2],
+        status2: words[3],
+        status3: words[4],
+        status5: words[5],
+        status7: words[6],
+        accepted: words[7],
+        rejected: words[8],
+        total: words[9],
+        ode: words[10],
+        jac: words[11],
+        lu: words[12],
+        largest: words[13],
+        place: words[14],
+    }
+}

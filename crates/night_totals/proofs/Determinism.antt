@@ -4,10 +4,22 @@ use Prim.Native.Nat.{ℕ}
 use mathlib.Core.List.{List}
 use Rattle.words.specs.Contract.{Settles}
 use Rattle.words.proofs.OneOutcome.{_▹_, one-result, two-parts}
+use Rattle.night_totals.proofs.form.blank as blank
+use Rattle.night_totals.proofs.form.spoilt as spoilt
+use Rattle.night_totals.proofs.form.filled as filled
 use Rattle.night_totals.proofs.night.start as start
 use Rattle.night_totals.proofs.night.fed as fed
 use Rattle.night_totals.proofs.night.told as told
 use Rattle.night_totals.proofs.printed.print as print
+
+pub blank-once : Settles blank.Kinds.ps blank.Kinds.r blank.Reads.Asked blank.Reads.Post
+blank-once κs a = (tt, λ o p. one-result (o .1))
+
+pub spoilt-once : Settles spoilt.Kinds.ps spoilt.Kinds.r spoilt.Reads.Asked spoilt.Reads.Post
+spoilt-once κs a = (tt, λ o p. one-result (o .1))
+
+pub filled-once : Settles filled.Kinds.ps filled.Kinds.r filled.Reads.Asked filled.Reads.Post
+filled-once κs a = (tt, λ o p. one-result (o .1))
 
 pub start-once : Settles start.Kinds.ps start.Kinds.r start.Reads.Asked start.Reads.Post
 start-once κs a = (tt, λ o p. one-result (o .1))

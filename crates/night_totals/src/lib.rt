@@ -4,7 +4,7 @@ mod adding;
 mod digits;
 pub mod entry;
 pub mod filling;
-mod form;
+pub mod form;
 mod lines;
 pub mod night;
 pub mod printed;
