@@ -1,4 +1,4 @@
-"""What the two benches share: calling a program, callgrind, our archive."""
+"""What the benches share: calling a program, callgrind, our archive."""
 
 import os
 import pathlib
@@ -32,10 +32,10 @@ def instructions(words):
     return int(re.search(r"Collected *: *(\d+)", ran(count + words, env=bound).stderr).group(1))
 
 
-def archive(given):
-    """Our archive for the processor at hand: that which is given, else it is made, and what is not
-    proved yet is proved first."""
-    made = pathlib.Path(given or rust_crate.TARGET / "libelchepur.a").resolve()
+def archive(given, crate="export"):
+    """Our archive of a crate for the processor at hand: that which is given, else it is made, and what is not proved
+    yet is proved first."""
+    made = pathlib.Path(given or rust_crate.TARGET / f"lib{crate}.a").resolve()
     if not given:
-        ran([ROOT / "tools" / "archive", made, "export"])
+        ran([ROOT / "tools" / "archive", made, crate])
     return made

@@ -1,11 +1,11 @@
-"""The tables of bench/README.md about whole runs. For bench/whole.py."""
+"""The tables of bench/README.md about whole runs and the nightly job. For bench/whole.py and bench/nightly.py."""
 
 import platform
 import re
 import subprocess
 import sys
+import textwrap
 
-BEGIN, END = "<!-- made by bench/run whole -->", "<!-- end of what bench/run whole makes -->"
 OURS, RUST, SAME, FORTRAN = "ours", "rust", "rust_with_our_powers", "fortran"
 NAMES = {OURS: "ours", RUST: "the Rust", SAME: "the Rust, our powers", FORTRAN: "Fortran"}
 PLAIN = ("host", "none")
@@ -14,13 +14,15 @@ PLAIN = ("host", "none")
 OF_THE_RUST = {"decay": 1.0, "Robertson": 0.5, "HIRES": 0.35, "chain16": 0.27, "chain32": 0.2}
 OF_THE_FORTRAN = 1.1
 PER_OPERATION = 4.0
+WIDE = 120
 
 
-def put(text, made):
-    """The text with what was made between its marks."""
-    if text.count(BEGIN) != 1 or text.count(END) != 1:
-        sys.exit("bench/README.md has not one place for the tables")
-    return text[: text.index(BEGIN)] + f"{BEGIN}\n\n{made}\n{END}" + text[text.index(END) + len(END):]
+def put(text, made, which):
+    """The text with what was made between the marks of this measurement."""
+    begin, end = f"<!-- made by bench/run {which} -->", f"<!-- end of what bench/run {which} makes -->"
+    if text.count(begin) != 1 or text.count(end) != 1:
+        sys.exit(f"bench/README.md has not one place for the tables of {which}")
+    return text[: text.index(begin)] + f"{begin}\n\n{made}\n{end}" + text[text.index(end) + len(end):]
 
 
 def table(head, lines):
@@ -196,3 +198,57 @@ def all_of(rows):
         "ode has the calls for differences (docs/DEPARTURES.md, D34).\n\n" + counts(rows),
     ]
     return "\n".join(part.rstrip("\n") + "\n" for part in parts)
+
+
+# ---- the nightly job
+
+SPELLED = {"n": "species", "reactions": "reactions"}
+STATUSES = ("success", "interrupted", "too many steps", "step too small", "", "singular matrix", "")
+
+
+def night_row(row):
+    """Sheets a second of both, and ours as a share of the Rust's."""
+    time, count = measured(row, "ns"), row["instructions"]
+    return ([str(row["n"]), str(row["reactions"])] + [f"{1e9 / time[name]:,.0f}" for name in (OURS, RUST)]
+            + [ratio(time[OURS], time[RUST])] + [f"{count[name]:,.0f}" for name in (OURS, RUST)]
+            + [ratio(count[OURS], count[RUST])])
+
+
+def together(rows, what):
+    """The mean over the rows, which have the same number of sheets, and so over all sheets."""
+    found = [measured(row, what) for row in rows]
+    return {name: sum(each[name] for each in found) / len(found) for name in (OURS, RUST)}
+
+
+def night_total(rows):
+    time, count = together(rows, "ns"), together(rows, "instructions")
+    return (f"Over all sheets ours takes {time[OURS] / 1e3:.1f} µs and the Rust {time[RUST] / 1e3:.1f}: "
+            f"{ratio(time[OURS], time[RUST])} of its time, and {ratio(count[OURS], count[RUST])} of its instructions.")
+
+
+def night_ends(rows):
+    ended = [sum(each) for each in zip(*(row["ended"] for row in rows))]
+    return ", ".join(f"{name} {count:,}" for name, count in zip(STATUSES, ended) if count)
+
+
+def shares_by(rows, what):
+    """Ours as a share of the Rust's, over the sheets of each number of species, or of reactions."""
+    groups = [[row for row in rows if row[what] == number] for number in sorted({row[what] for row in rows})]
+    return table([SPELLED[what], *(str(each[0][what]) for each in groups)], [
+        [word, *(ratio(*(together(each, measure)[name] for name in (OURS, RUST))) for each in groups)]
+        for measure, word in (("ns", "time"), ("instructions", "instructions"))])
+
+
+def of_nights(rows, sheets, goal):
+    head = ["species", "reactions", "sheets a second", "the Rust", "time, share", "instructions", "the Rust", "share"]
+    time = together(rows, "ns")
+    met = "met" if time[OURS] <= goal * time[RUST] else "not met"
+    words = [
+        f"Made on {machine()}. {spread(rows)} {sheets} sheets in each row, {sheets * len(rows):,} in all; of every one "
+        f"ours printed what the Rust came to with document 01's powers. They ended so: {night_ends(rows)}.",
+        f"{night_total(rows)} The goal is {goal} of its time: {met}.",
+        "Ours as a share of the Rust's, by species and by reactions; above 1 ours loses:",
+    ]
+    parts = [*(textwrap.fill(each, WIDE) for each in words), shares_by(rows, "n"), shares_by(rows, "reactions"),
+             table(head, [night_row(row) for row in rows])]
+    return "\n\n".join(part.rstrip("\n") for part in parts) + "\n"

@@ -111,5 +111,5 @@ def main(folder, archive, published, printed):
         print(text)
         return
     readme = measure.HERE / "README.md"
-    readme.write_text(tables.put(readme.read_text(), text))
+    readme.write_text(tables.put(readme.read_text(), text, "whole"))
     (measure.HERE / "whole.svg").write_text(plot.drawn(rows))

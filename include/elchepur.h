@@ -39,7 +39,7 @@ enum {
     ELCHEPUR_REFUSED_PARTITION = 10, /* nind1 is given and the three don't sum to n, or only others are and exceed n */
     ELCHEPUR_REFUSED_FIRST_STEP = 11,     /* first_step is given as 0 */
     ELCHEPUR_REFUSED_STEP_LIMITS = 12,    /* max_step < 0, or min_step above the step ceiling */
-    ELCHEPUR_REFUSED_UNFIT = 13,          /* the state is unfit, or the words are no state's */
+    ELCHEPUR_REFUSED_UNFIT = 13,          /* the state is unfit */
     ELCHEPUR_REFUSED_HAS_ENDED = 14,      /* the run has ended */
     ELCHEPUR_REFUSED_REPLY = 15,          /* the reply is not of the kind asked for */
     ELCHEPUR_REFUSED_LENGTH = 16,         /* matrix routine: a length is not n * n or n */
@@ -63,13 +63,15 @@ enum {
  * asks and hands its reply to elchepur_advance, whose answer is the next request, until one says that the run has
  * ended. elchepur_result then has the counts.
  *
- * The state of a run is 67 words. They hold no address: they may be copied, stored, and taken up later, together with
- * the 22 parts. Words that are no state's, and states that are unfit, are refused with 13.
+ * The state of a run is two arrays, whole numbers and doubles. They hold no address: they may be copied, stored, and
+ * taken up later, together with the 22 parts. Whatever numbers stand in them, they are the state of some run; one that
+ * is unfit is refused with 13. An advance leaves 0 or 1 for a choice, and 0 for what is absent.
  */
 
 enum {
     ELCHEPUR_MOST = 32,           /* the most amounts of a run, and the largest order of a matrix */
-    ELCHEPUR_STATE = 67,          /* words of a state */
+    ELCHEPUR_STATE_WORDS = 38,    /* whole numbers of a state */
+    ELCHEPUR_STATE_DOUBLES = 29,  /* doubles of a state */
     ELCHEPUR_NUMBERS = 17,        /* settings that are whole numbers */
     ELCHEPUR_FLOATS = 8,          /* settings that are doubles */
     ELCHEPUR_TOLD = 3,            /* words that tell a request */
@@ -171,6 +173,90 @@ enum {
     ELCHEPUR_RESULT_X = 1
 };
 
+/* Places in the `words` of a state. */
+enum {
+    ELCHEPUR_WORD_STAGE = 0,  /* which request is open; a number above 12 stands for 0, the first derivative */
+    ELCHEPUR_WORD_PART = 1,  /* of a difference Jacobian the column that is open, of an ended run the status */
+    ELCHEPUR_WORD_ODE = 2,
+    ELCHEPUR_WORD_JAC = 3,
+    ELCHEPUR_WORD_LU = 4,
+    ELCHEPUR_WORD_TOTAL = 5,
+    ELCHEPUR_WORD_ACCEPTED = 6,
+    ELCHEPUR_WORD_REJECTED = 7,
+    ELCHEPUR_WORD_FIRST = 8,  /* the flags of the step control; 0 is no, any other number yes */
+    ELCHEPUR_WORD_LAST = 9,
+    ELCHEPUR_WORD_REJECT = 10,
+    ELCHEPUR_WORD_CALL_JAC = 11,
+    ELCHEPUR_WORD_CALL_DECOMP = 12,
+    ELCHEPUR_WORD_SINGULAR_COUNT = 13,
+    ELCHEPUR_WORD_NEWT_ITER = 14,
+    ELCHEPUR_WORD_MARKED = 15,  /* 0: no mark stands; else XOUT is one */
+    ELCHEPUR_WORD_N = 16,  /* from here on the words stay as the opening left them */
+    ELCHEPUR_WORD_NIND1 = 17,
+    ELCHEPUR_WORD_NIND2 = 18,
+    ELCHEPUR_WORD_NIND3 = 19,
+    ELCHEPUR_WORD_LISTS = 20,  /* 0: the tolerances are RTOL and ATOL; else they stand in the parts */
+    ELCHEPUR_WORD_MAX_STEPS = 21,
+    ELCHEPUR_WORD_NEWTON_MAXITER = 22,
+    ELCHEPUR_WORD_PREDICTIVE = 23,
+    ELCHEPUR_WORD_MASS = 24,
+    ELCHEPUR_WORD_SOURCE = 25,
+    ELCHEPUR_WORD_DENSE_OUTPUT = 26,
+    ELCHEPUR_WORD_RULE = 27,
+    ELCHEPUR_WORD_HAS_MAX_STEP = 28,  /* the settings that were worked up: whether each was given, and as what */
+    ELCHEPUR_WORD_HAS_MIN_STEP = 29,
+    ELCHEPUR_WORD_HAS_NEWTON_TOL = 30,
+    ELCHEPUR_WORD_HAS_FIRST_STEP = 31,
+    ELCHEPUR_WORD_HAS_NIND1 = 32,
+    ELCHEPUR_WORD_GIVEN_NIND1 = 33,
+    ELCHEPUR_WORD_HAS_NIND2 = 34,
+    ELCHEPUR_WORD_GIVEN_NIND2 = 35,
+    ELCHEPUR_WORD_HAS_NIND3 = 36,
+    ELCHEPUR_WORD_GIVEN_NIND3 = 37
+};
+
+/* Places in the `doubles` of a state. */
+enum {
+    ELCHEPUR_DOUBLE_X = 0,
+    ELCHEPUR_DOUBLE_XOLD = 1,
+    ELCHEPUR_DOUBLE_XPH = 2,
+    ELCHEPUR_DOUBLE_H = 3,
+    ELCHEPUR_DOUBLE_HOLD = 4,
+    ELCHEPUR_DOUBLE_HNEW = 5,
+    ELCHEPUR_DOUBLE_HHFAC = 6,
+    ELCHEPUR_DOUBLE_H_ACC = 7,
+    ELCHEPUR_DOUBLE_ERR_ACC = 8,
+    ELCHEPUR_DOUBLE_FACCON = 9,
+    ELCHEPUR_DOUBLE_THETA = 10,
+    ELCHEPUR_DOUBLE_DYNOLD = 11,
+    ELCHEPUR_DOUBLE_THQOLD = 12,
+    ELCHEPUR_DOUBLE_XOUT = 13,  /* the mark */
+    ELCHEPUR_DOUBLE_NEWTON_TOL = 14,  /* from here on the doubles stay as the opening left them */
+    ELCHEPUR_DOUBLE_XEND = 15,
+    ELCHEPUR_DOUBLE_POSNEG = 16,
+    ELCHEPUR_DOUBLE_HMAX = 17,
+    ELCHEPUR_DOUBLE_HMIN = 18,
+    ELCHEPUR_DOUBLE_RTOL = 19,
+    ELCHEPUR_DOUBLE_ATOL = 20,
+    ELCHEPUR_DOUBLE_UROUND = 21,
+    ELCHEPUR_DOUBLE_SAFETY_FACTOR = 22,
+    ELCHEPUR_DOUBLE_SCALE_MIN = 23,
+    ELCHEPUR_DOUBLE_SCALE_MAX = 24,
+    ELCHEPUR_DOUBLE_GIVEN_MAX_STEP = 25,  /* the settings that were worked up, as given */
+    ELCHEPUR_DOUBLE_GIVEN_MIN_STEP = 26,
+    ELCHEPUR_DOUBLE_GIVEN_NEWTON_TOL = 27,
+    ELCHEPUR_DOUBLE_GIVEN_FIRST_STEP = 28
+};
+
+/* Both arrays of a state. This struct is for the host alone; the macro behind it writes them out as the calls take
+ * them. */
+struct elchepur_state {
+    size_t words[ELCHEPUR_STATE_WORDS];
+    double doubles[ELCHEPUR_STATE_DOUBLES];
+};
+
+#define ELCHEPUR_STATE(s) (s).words, (s).doubles
+
 /* The 22 parts under the Rust's names: `cont` has 4 n entries, the matrices mass, jac, e1, e2r and e2i have n n each,
  * row by row, and every other part has n, in every mode. This struct is for the host alone; the macro behind it writes
  * a host's parts out as the calls take them. */
@@ -206,7 +292,8 @@ void elchepur_default_settings(uint64_t numbers[ELCHEPUR_NUMBERS], double floats
 uint64_t elchepur_open(
     const uint64_t numbers[ELCHEPUR_NUMBERS], const double floats[ELCHEPUR_FLOATS],
     size_t n, double x0, double xend, uint64_t lists, double rtol_scalar, double atol_scalar,
-    uint64_t state[ELCHEPUR_STATE], uint64_t told[ELCHEPUR_TOLD], double at[ELCHEPUR_AT],
+    size_t words[ELCHEPUR_STATE_WORDS], double doubles[ELCHEPUR_STATE_DOUBLES],
+    uint64_t told[ELCHEPUR_TOLD], double at[ELCHEPUR_AT],
     const double *y, size_t y_count, double *f0, size_t f0_count, double *scal, size_t scal_count,
     double *cont, size_t cont_count,
     double *z1, size_t z1_count, double *z2, size_t z2_count, double *z3, size_t z3_count,
@@ -222,7 +309,8 @@ uint64_t elchepur_open(
  * that it was asked to fill, with MODIFIED also y, and nothing else. Refuses with 13, 14, 15, in that order; a reply
  * that is none of ELCHEPUR_REPLY_.. is 15. */
 uint64_t elchepur_advance(
-    uint64_t state[ELCHEPUR_STATE], uint64_t reply, double value, uint64_t told[ELCHEPUR_TOLD], double at[ELCHEPUR_AT],
+    size_t words[ELCHEPUR_STATE_WORDS], double doubles[ELCHEPUR_STATE_DOUBLES],
+    uint64_t reply, double value, uint64_t told[ELCHEPUR_TOLD], double at[ELCHEPUR_AT],
     double *y, size_t y_count, const double *f0, size_t f0_count, double *scal, size_t scal_count,
     double *cont, size_t cont_count,
     double *z1, size_t z1_count, double *z2, size_t z2_count, double *z3, size_t z3_count,
@@ -234,17 +322,17 @@ uint64_t elchepur_advance(
     double *y_perturbed, size_t y_perturbed_count, double *f_perturbed, size_t f_perturbed_count,
     double *f_origin, size_t f_origin_count);
 
-/* Writes how a run ended: its status and counts, its h and the point reached. Refuses with 13, and with 29 before the
- * run has ended. */
+/* Writes how a run ended: its status and counts, its h and the point reached. Refuses with 29 before the run has
+ * ended. */
 uint64_t elchepur_result(
-    const uint64_t state[ELCHEPUR_STATE],
+    const size_t words[ELCHEPUR_STATE_WORDS], const double doubles[ELCHEPUR_STATE_DOUBLES],
     uint64_t numbers[ELCHEPUR_RESULT_NUMBERS], double floats[ELCHEPUR_RESULT_FLOATS]);
 
 /* ---- Dense output: the amounts within a step, at a report that offers coefficients in `cont` ---- */
 
-/* Writes the step that the run holds: what the two functions below take as h, with the report's old x as xold. Under
- * the Rust rule it need not be the distance between the report's two points. Refuses with 13. */
-uint64_t elchepur_held_step(const uint64_t state[ELCHEPUR_STATE], double *h);
+/* The step that the run holds: what the two functions below take as h, with the report's old x as xold. Under the Rust
+ * rule it need not be the distance between the report's two points. */
+double elchepur_held_step(const size_t words[ELCHEPUR_STATE_WORDS], const double doubles[ELCHEPUR_STATE_DOUBLES]);
 
 /* Writes into yi, from its first entry on, the amounts at xi, from the coefficients cont of the step from xold by h.
  * They are a quarter as many as cont has entries, rounded down; further entries of yi stay. Refuses with 19. */

@@ -107,7 +107,8 @@ struct elchepur_outcome {
 
 /* A run between two calls: it holds no address, and may be stored with the parts and taken up later. */
 struct elchepur_talk {
-    uint64_t state[ELCHEPUR_STATE], told[ELCHEPUR_TOLD];
+    struct elchepur_state state;
+    uint64_t told[ELCHEPUR_TOLD];
     double at[ELCHEPUR_AT];
     uint64_t reply;
     double value;
@@ -214,7 +215,7 @@ ELCHEPUR_HOST_LOOK static inline uint64_t elchepur_host_open(
         if (lists) elchepur_host_tolerances(m->atol, problem->atols, problem->atol, n);
     }
     return elchepur_open(numbers, problem->floats, n, problem->x0, problem->xend, lists, problem->rtol, problem->atol,
-                         talk->state, talk->told, talk->at, ELCHEPUR_PARTS(*m));
+                         ELCHEPUR_STATE(talk->state), talk->told, talk->at, ELCHEPUR_PARTS(*m));
 }
 
 /* Asks the host what to do at a report, and notes its reply. */
@@ -229,7 +230,7 @@ static inline void elchepur_host_reported(
     at.y = m->y;
     at.new_y = new_y;
     at.cont = talk->told[ELCHEPUR_TOLD_FLAG] ? m->cont : NULL;
-    if (elchepur_held_step(talk->state, &at.h)) at.cont = NULL;
+    at.h = elchepur_held_step(ELCHEPUR_STATE(talk->state));
     talk->reply = host->report(host->user, &at);
     talk->value = at.value;
     if (talk->reply == ELCHEPUR_REPLY_MODIFIED) elchepur_host_copy(m->y, new_y, m->n);
@@ -272,7 +273,7 @@ static inline void elchepur_host_nothing(struct elchepur_outcome *outcome) {
 /* The result of a run that has ended. */
 ELCHEPUR_HOST_LOOK static inline int elchepur_host_ended(
     const struct elchepur_memory *m, const struct elchepur_talk *talk, struct elchepur_outcome *outcome) {
-    outcome->refused = elchepur_result(talk->state, outcome->numbers, outcome->floats);
+    outcome->refused = elchepur_result(ELCHEPUR_STATE(talk->state), outcome->numbers, outcome->floats);
     if (outcome->refused) return ELCHEPUR_HOST_REFUSED;
     outcome->reached = m->y;
     if (outcome->numbers[ELCHEPUR_RESULT_STATUS] == ELCHEPUR_STATUS_USER_INTERRUPT) return ELCHEPUR_HOST_INTERRUPTED;
@@ -289,8 +290,8 @@ ELCHEPUR_HOST_LOOK static inline int elchepur_host_go_on(
     while (talk->told[ELCHEPUR_TOLD_KIND] != ELCHEPUR_KIND_ENDED) {
         outcome->given_up = elchepur_host_answer(host, m, talk);
         if (outcome->given_up) return ELCHEPUR_HOST_GIVEN_UP;
-        outcome->refused =
-            elchepur_advance(talk->state, talk->reply, talk->value, talk->told, talk->at, ELCHEPUR_PARTS(*m));
+        outcome->refused = elchepur_advance(ELCHEPUR_STATE(talk->state), talk->reply, talk->value, talk->told, talk->at,
+                                            ELCHEPUR_PARTS(*m));
         if (outcome->refused) return ELCHEPUR_HOST_REFUSED;
     }
     return elchepur_host_ended(m, talk, outcome);

@@ -19,7 +19,8 @@ const RULE: usize = 6;
 const UROUND: usize = 0;
 
 pub struct Run {
-    state: [u64; 67],
+    words: [usize; 38],
+    doubles: [f64; 29],
     pub told: [u64; 3],
     at: [f64; 2],
     y: Vec<f64>,
@@ -53,7 +54,8 @@ impl Run {
             .map(|_: Vec<f64>| vec![0.0; n]);
         let [mass, jac, e1, e2r, e2i] = [const { Vec::new() }; 5].map(|_: Vec<f64>| vec![0.0; nn]);
         let mut r = Run {
-            state: [0; 67],
+            words: [0; 38],
+            doubles: [0.0; 29],
             told: [0; 3],
             at: [0.0; 2],
             y: M::start(),
@@ -72,8 +74,8 @@ impl Run {
         numbers[RULE] = way.book as u64;
         floats[UROUND] = way.uround;
         let refused = elchepur_open(
-            &numbers, &floats, n, 0.0, way.xend, way.lists as u64, way.rtol, way.atol, &mut r.state, &mut r.told,
-                &mut r.at, &r.y, &mut r.f0, &mut r.scal, &mut r.cont,
+            &numbers, &floats, n, 0.0, way.xend, way.lists as u64, way.rtol, way.atol, &mut r.words, &mut r.doubles,
+                &mut r.told, &mut r.at, &r.y, &mut r.f0, &mut r.scal, &mut r.cont,
             &mut r.z1, &mut r.z2, &mut r.z3, &mut r.f1, &mut r.f2, &mut r.f3, &mut r.rtol, &mut r.atol, &mut r.mass,
                 &mut r.jac,
             &mut r.e1, &mut r.e2r, &mut r.e2i, &mut r.ip1, &mut r.ip2, &mut r.y_perturbed, &mut r.f_perturbed,
@@ -86,7 +88,7 @@ impl Run {
     fn advance(&mut self, reply: u64) {
         let r = self;
         let refused = elchepur_advance(
-            &mut r.state, reply, 0.0, &mut r.told, &mut r.at, &mut r.y, &r.f0, &mut r.scal, &mut r.cont,
+            &mut r.words, &mut r.doubles, reply, 0.0, &mut r.told, &mut r.at, &mut r.y, &r.f0, &mut r.scal, &mut r.cont,
             &mut r.z1, &mut r.z2, &mut r.z3, &mut r.f1, &mut r.f2, &mut r.f3, &r.rtol, &r.atol, &r.mass, &mut r.jac,
             &mut r.e1, &mut r.e2r, &mut r.e2i, &mut r.ip1, &mut r.ip2, &mut r.y_perturbed, &mut r.f_perturbed,
                 &mut r.f_origin,
@@ -111,8 +113,7 @@ impl Run {
         if self.told[2] == 0 {
             return;
         }
-        let mut h = 0.0;
-        elchepur_held_step(&self.state, &mut h);
+        let h = elchepur_held_step(&self.words, &self.doubles);
         let (xold, cont) = (self.at[0], &self.cont);
         points.reached(self.at[1], |xi, yi| {
             elchepur_interpolate(xi, yi, cont, xold, h);
@@ -138,7 +139,7 @@ impl Run {
 
     pub fn outcome(self, points: &Points) -> Outcome {
         let (mut numbers, mut floats) = ([0; 7], [0.0; 2]);
-        assert_eq!(elchepur_result(&self.state, &mut numbers, &mut floats), 0);
+        assert_eq!(elchepur_result(&self.words, &self.doubles, &mut numbers, &mut floats), 0);
         let [status, ode, jac, lu, total, accepted, rejected] = numbers;
         Outcome { status: status as i64, accepted, rejected, total, ode, jac, lu, rounds: 0, y: self.y,
             sum: points.sum }

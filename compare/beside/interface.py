@@ -1,19 +1,26 @@
 """The module `interface` of the program: every exported function of crates/export and crates/export_shelf, under its
-own name and with its own types, whichever way it is linked.
+own name and with its own types, whichever way it is linked; and the places of a state.
 
 As a port, the two are crates of Rust's and their functions are passed on. In the archive a slice is a pointer and a
 count, and an array or a number that is lent is a pointer (include/elchepur.h): there each function is declared so, and
 a function with the types of the sources calls it."""
 
-from exported import exported, parameter_of
+from exported import exported, parameter_of, places
+
+
+def places_text():
+    """The places of a state, by their names."""
+    constants = "".join(f"    pub const {name}: usize = {place};\n" for name, place in places().items())
+    return f"pub mod places {{\n{constants}}}\n"
 
 
 CRATES = ("export", "export_shelf")
 
 
 def port_text():
-    return "".join(f"pub use {crate}::{file}::{name};\n" for crate in CRATES
-                   for name, (file, _, _) in exported(crate).items())
+    passed_on = (f"pub use {crate}::{file}::{name};\n" for crate in CRATES
+                 for name, (file, _, _) in exported(crate).items())
+    return places_text() + "".join(passed_on)
 
 
 def crossing(name, kind):
@@ -47,4 +54,5 @@ def archive_text():
     made = [of_archive(name, pairs, result) for crate in CRATES
             for name, (_, pairs, result) in exported(crate).items()]
     declarations = "".join(declaration for declaration, _ in made)
-    return f'mod archive {{\n    extern "C" {{\n{declarations}    }}\n}}\n' + "".join(function for _, function in made)
+    foreign = f'mod archive {{\n    extern "C" {{\n{declarations}    }}\n}}\n'
+    return places_text() + foreign + "".join(function for _, function in made)

@@ -163,8 +163,7 @@ impl Side {
     fn shelve(&mut self, xold: f64, x: f64, offered: Option<&StepInterpolant<'_>>) {
         self.reports += 1;
         if self.reports > 1 {
-            let (said, h) = self.ours.held_step();
-            insist(said == 0, || format!("the step held is refused by {said}"));
+            let h = self.ours.held_step();
             let made = || DenseSegment::new(self.theirs.cont.clone(), xold, h, RADAU::interpolate);
             let theirs = offered.map_or_else(made, StepInterpolant::to_segment);
             self.shelf.put(&self.ours.memory.cont, self.ours.at[0], h, x, theirs);
@@ -175,8 +174,7 @@ impl Side {
     fn dense(&mut self, step: &StepInterpolant<'_>, xold: f64, x: f64) {
         let n = self.theirs.y.len();
         let xi = if self.draw.percent(10) { self.draw.any() } else { xold + (x - xold) * self.draw.unit() };
-        let (said, h) = self.ours.held_step();
-        insist(said == 0, || format!("the step held is refused by {said}"));
+        let h = self.ours.held_step();
         none(difference("step held", &[h], &[step.step_params().1]));
         let (mut ours, mut theirs) = (vec![1.0; n], vec![1.0; n]);
         let said = elchepur_interpolate(xi, &mut ours, &self.ours.memory.cont, self.ours.at[0], h);

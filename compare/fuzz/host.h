@@ -20,7 +20,7 @@ class Host {
                 fill();
                 reply = ELCHEPUR_REPLY_FILLED;
             }
-            uint64_t number = elchepur_advance(lent[STATE].first, reply, 0.0, lent[TOLD].first, lent[AT].doubles(),
+            uint64_t number = elchepur_advance(LENT_STATE(lent), reply, 0.0, lent[TOLD].first, lent[AT].doubles(),
                                                LENT_PARTS(lent));
             insist_number("an advance of a model", number, 0);
         }
@@ -40,7 +40,7 @@ class Host {
         numbers[ELCHEPUR_NUMBER_MASS] = 0;
         for (size_t k = 0; k < amounts.count; k++) amounts.set(k, model.amounts[k]);
         uint64_t number = elchepur_open(numbers.first, lent[FLOATS].doubles(), amounts.count, model.x0, model.xend, 0,
-                                        model.rtol, model.atol, lent[STATE].first,
+                                        model.rtol, model.atol, LENT_STATE(lent),
                                         lent[TOLD].first, lent[AT].doubles(), LENT_PARTS(lent));
         insist_number("an opening of a model", number, 0);
     }
@@ -72,7 +72,7 @@ class Host {
     std::string printed() {
         uint64_t counts[ELCHEPUR_RESULT_NUMBERS];
         double floats[ELCHEPUR_RESULT_FLOATS];
-        insist_number("the result of a model", elchepur_result(lent[STATE].first, counts, floats), 0);
+        insist_number("the result of a model", elchepur_result(LENT_STATE(lent), counts, floats), 0);
         const char *const names[] = {"status ", " accepted ", " rejected ", " total ", " ode ", " jac ", " lu "};
         const size_t places[] = {ELCHEPUR_RESULT_STATUS, ELCHEPUR_RESULT_ACCEPTED, ELCHEPUR_RESULT_REJECTED,
             ELCHEPUR_RESULT_TOTAL, ELCHEPUR_RESULT_ODE, ELCHEPUR_RESULT_JAC, ELCHEPUR_RESULT_LU};

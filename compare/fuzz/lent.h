@@ -52,18 +52,19 @@ struct Words {
 enum Part {
     Y, F0, SCAL, CONT, Z1, Z2, Z3, F1, F2, F3, RTOL, ATOL, MASS, JAC, E1, E2R, E2I, IP1, IP2, Y_PERTURBED, F_PERTURBED,
         F_ORIGIN, PARTS,
-    STATE = PARTS, TOLD, AT, NUMBERS, FLOATS, ALL
+    STATE_WORDS = PARTS, STATE_DOUBLES, TOLD, AT, NUMBERS, FLOATS, ALL
 };
 const char *const NAMES[ALL] = {"y", "f0", "scal", "cont", "z1", "z2", "z3", "f1", "f2", "f3", "rtol", "atol", "mass",
     "jac", "e1", "e2r", "e2i", "ip1", "ip2",
-                                "y_perturbed", "f_perturbed", "f_origin", "the state", "what is told", "the points",
-                                    "the numbers", "the floats"};
+                                "y_perturbed", "f_perturbed", "f_origin", "the words of the state",
+                                    "its doubles", "what is told", "the points", "the numbers", "the floats"};
 
 inline bool is_pivots(size_t part) { return part == IP1 || part == IP2; }
 
 // How many entries a part of n amounts has.
 inline size_t length_of(size_t part, size_t n) {
-    const size_t arrays[] = {ELCHEPUR_STATE, ELCHEPUR_TOLD, ELCHEPUR_AT, ELCHEPUR_NUMBERS, ELCHEPUR_FLOATS};
+    const size_t arrays[] = {ELCHEPUR_STATE_WORDS, ELCHEPUR_STATE_DOUBLES, ELCHEPUR_TOLD, ELCHEPUR_AT, ELCHEPUR_NUMBERS,
+        ELCHEPUR_FLOATS};
     if (part >= PARTS) return arrays[part - PARTS];
     bool is_matrix = part == MASS || part == JAC || part == E1 || part == E2R || part == E2I;
     return is_matrix ? n * n : part == CONT ? 4 * n : n;
@@ -135,6 +136,7 @@ inline bool lengths_fit(const Lent &lent, size_t n) {
 
 #define LENT_DOUBLES(m, part) (m)[part].doubles(), (m)[part].count
 #define LENT_PIVOTS(m, part) (m)[part].pivots(), (m)[part].count
+#define LENT_STATE(m) (m)[STATE_WORDS].pivots(), (m)[STATE_DOUBLES].doubles()
 #define LENT_PARTS(m) \
     LENT_DOUBLES(m, Y), LENT_DOUBLES(m, F0), LENT_DOUBLES(m, SCAL), LENT_DOUBLES(m, CONT), \
     LENT_DOUBLES(m, Z1), LENT_DOUBLES(m, Z2), LENT_DOUBLES(m, Z3), LENT_DOUBLES(m, F1), \

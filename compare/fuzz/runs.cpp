@@ -43,12 +43,12 @@ struct Request {
     uint64_t kind, place;
 };
 
-static Request request_of(Words state) {
+static Request request_of(const Words &words) {
     const Request f0 = {ELCHEPUR_KIND_DERIVATIVE, ELCHEPUR_PLACE_Y_TO_F0},
         report = {ELCHEPUR_KIND_REPORT, ELCHEPUR_PLACE_NOWHERE};
-    const uint64_t column = state[STAGE_WORD] == 0 ? ELCHEPUR_PLACE_Y_TO_F_ORIGIN
+    const uint64_t column = words[ELCHEPUR_WORD_PART] == 0 ? ELCHEPUR_PLACE_Y_TO_F_ORIGIN
         : ELCHEPUR_PLACE_Y_PERTURBED_TO_F_PERTURBED;
-    switch (state[STAGE_TAG]) {
+    switch (stage_of(words)) {
     case 1: case 10: return report;
     case 3: return {ELCHEPUR_KIND_JACOBIAN, ELCHEPUR_PLACE_NOWHERE};
     case 4: return {ELCHEPUR_KIND_DERIVATIVE, column};
@@ -150,7 +150,7 @@ uint64_t Session::call_open() {
     const Opening &o = opening;
     lent.shut();
     uint64_t number = elchepur_open(
-        lent[NUMBERS].first, lent[FLOATS].doubles(), o.n, o.x0, o.xend, o.lists, o.rtol, o.atol, lent[STATE].first,
+        lent[NUMBERS].first, lent[FLOATS].doubles(), o.n, o.x0, o.xend, o.lists, o.rtol, o.atol, LENT_STATE(lent),
             lent[TOLD].first, lent[AT].doubles(), LENT_PARTS(lent));
     lent.open();
     return number;
@@ -189,7 +189,7 @@ bool Session::open() {
 
 uint64_t Session::call_advance(uint64_t reply, double value) {
     lent.shut();
-    uint64_t number = elchepur_advance(lent[STATE].first, reply, value, lent[TOLD].first, lent[AT].doubles(),
+    uint64_t number = elchepur_advance(LENT_STATE(lent), reply, value, lent[TOLD].first, lent[AT].doubles(),
                                        LENT_PARTS(lent));
     lent.open();
     return number;
@@ -197,28 +197,32 @@ uint64_t Session::call_advance(uint64_t reply, double value) {
 
 // The request is that of the stage, and what is told of it is in its range.
 void Session::judge_request() {
-    Request asked = request_of(lent[STATE]);
+    Request asked = request_of(lent[STATE_WORDS]);
     insist(lent[TOLD][ELCHEPUR_TOLD_KIND] == asked.kind && lent[TOLD][ELCHEPUR_TOLD_PLACE] == asked.place,
            "a request that is not its stage's");
     uint64_t flag = lent[TOLD][ELCHEPUR_TOLD_FLAG];
     bool right = asked.kind == ELCHEPUR_KIND_REPORT ? flag <= 1 : asked.kind == ELCHEPUR_KIND_ENDED
-        ? flag == lent[STATE][STAGE_WORD] : flag == 0;
+        ? flag == lent[STATE_WORDS][ELCHEPUR_WORD_PART] : flag == 0;
     insist(right, "a request with a wrong flag");
 }
 
 // What is fixed stays, counts don't fall, and what was lent to be read was only read.
 void Session::judge_advanced(const Lent &before) {
-    Words state = lent[STATE];
-    insist(is_state(state), "an advance left words that are no state");
-    for (size_t k = 0; k < ODE; k++) insist(state[k] == before[STATE][k],
-                                            "an advance changed what is fixed for the run");
-    for (size_t k = ODE; k <= REJECTED; k++) insist(state[k] >= before[STATE][k], "a count fell");
+    Words words = lent[STATE_WORDS], doubles = lent[STATE_DOUBLES];
+    const Words was = before[STATE_WORDS], had = before[STATE_DOUBLES];
+    insist(is_plain(words, doubles), "an advance left numbers that it does not write");
+    for (size_t k = ELCHEPUR_WORD_N; k < ELCHEPUR_STATE_WORDS; k++) insist(words[k] == plain_word(was, k),
+        "an advance changed a word that is fixed for the run");
+    for (size_t k = ELCHEPUR_DOUBLE_NEWTON_TOL; k < ELCHEPUR_STATE_DOUBLES; k++)
+        insist(same_number(doubles.number(k), plain_double(was, had, k)),
+               "an advance changed a double that is fixed for the run");
+    for (size_t k = ELCHEPUR_WORD_ODE; k <= ELCHEPUR_WORD_REJECTED; k++) insist(words[k] >= was[k], "a count fell");
     for (Part part : {F0, RTOL, ATOL, MASS, NUMBERS, FLOATS}) insist(lent[part] == before[part],
                                                                      "an advance wrote a part that it may only read");
-    insist(!pivots_unfit(lent[IP1], state[ORDER]) && !pivots_unfit(lent[IP2], state[ORDER]),
+    insist(!pivots_unfit(lent[IP1], words[ELCHEPUR_WORD_N]) && !pivots_unfit(lent[IP2], words[ELCHEPUR_WORD_N]),
            "an advance left a stray pivot");
     judge_request();
-    tally.stages[state[STAGE_TAG]]++;
+    tally.stages[stage_of(words)]++;
 }
 
 // The same call from the same memory: a word that was read without having been written would show.
@@ -290,7 +294,7 @@ void Session::fill_jacobian(size_t choice) {
 
 void Session::reply_to_report() {
     uint8_t choice = input.byte();
-    double x = lent[STATE].number(POINT);
+    double x = lent[STATE_DOUBLES].number(ELCHEPUR_DOUBLE_X);
     if (choice < 128) return advance(ELCHEPUR_REPLY_CONTINUE, input.number(x));
     if (choice < 136) return advance(ELCHEPUR_REPLY_INTERRUPT, x);
     if (choice >= 192) return advance(ELCHEPUR_REPLY_MARK, input.number(x));
@@ -300,7 +304,7 @@ void Session::reply_to_report() {
 
 // Does what is asked for, and replies.
 void Session::reply(size_t choice) {
-    Request asked = request_of(lent[STATE]);
+    Request asked = request_of(lent[STATE_WORDS]);
     const Part from[] = {Y, Y, CONT, CONT, CONT, CONT, Y, Y_PERTURBED},
         into[] = {F0, F0, Z1, Z2, Z3, F1, F_ORIGIN, F_PERTURBED};
     if (asked.kind == ELCHEPUR_KIND_REPORT) return choice == 0 ? advance(ELCHEPUR_REPLY_CONTINUE, 0.0)
@@ -311,17 +315,20 @@ void Session::reply(size_t choice) {
 }
 
 void Session::go_on(size_t count) {
-    for (; count > 0 && !has_ended(lent[STATE]); count--) reply(0);
+    for (; count > 0 && !has_ended(lent[STATE_WORDS]); count--) reply(0);
 }
 
 // ---- Forged states ----
 
 // Another number, a limit of document 01 or its neighbour, an odd double, or any word.
 void Session::forge_word() {
-    Words state = lent[STATE];
-    uint64_t m = state[MAX_STEPS], k = state[NEWTON_MAXITER];
-    const uint64_t limits[] = {m, 2 + 3 * (k + 1) * m, 6 * (m + 1), 13 * m + 12, 2 * m, k, 5, state[ORDER]};
-    size_t word = input.below(ELCHEPUR_STATE);
+    Words words = lent[STATE_WORDS];
+    uint64_t m = words[ELCHEPUR_WORD_MAX_STEPS], k = words[ELCHEPUR_WORD_NEWTON_MAXITER];
+    const uint64_t limits[] = {m, 2 + 3 * (k + 1) * m, 6 * (m + 1), 13 * m + 12, 2 * m, k, 5, words[ELCHEPUR_WORD_N]};
+    size_t place = input.below(ELCHEPUR_STATE_WORDS + ELCHEPUR_STATE_DOUBLES);
+    bool is_word = place < ELCHEPUR_STATE_WORDS;
+    Words state = lent[is_word ? STATE_WORDS : STATE_DOUBLES];
+    size_t word = is_word ? place : place - ELCHEPUR_STATE_WORDS;
     switch (input.below(5)) {
     case 0: state[word] = input.whole(state[word]); break;
     case 1: state[word] = limits[input.below(8)] + input.below(2); break;
@@ -331,43 +338,43 @@ void Session::forge_word() {
     }
 }
 
-// Of each word behind the fixed ones something that its kind permits, so that the state is often
-// one, and sometimes fit.
+// Of each number that moves something of its kind, so that the state is sometimes fit; choices by any number.
 void Session::draw_state() {
-    Words state = lent[STATE];
-    for (size_t k = ODE; k < ELCHEPUR_STATE; k++) {
+    Words words = lent[STATE_WORDS], doubles = lent[STATE_DOUBLES];
+    for (size_t k = 0; k < ELCHEPUR_WORD_N; k++) {
         uint64_t word = rubbish.word();
         switch (KINDS[k]) {
-        case 'w': state[k] = word % 6; break;
-        case 'f': state.set(k, word % 3 == 0 ? ODD[word / 3 % (ODDS - 1)]
-                            : std::ldexp(1.0, static_cast<int>(word % 41) - 20)); break;
-        case 'g': state[k] = state[k - 1] == 0 ? 0 : bits_of(1.0); break;
-        case 'S': state[k] = word % 14; break;
-        case 'c': state[k] = state[k - 1] == COLUMN || state[k - 1] == ENDED ? word % 6 : 0; break;
-        default: state[k] = word % 2;
+        case 'w': case 'c': words[k] = word % 6; break;
+        case 'S': words[k] = word % 14; break;
+        default: words[k] = word % 2 * (word / 2);
         }
+    }
+    for (size_t k = 0; k < ELCHEPUR_DOUBLE_NEWTON_TOL; k++) {
+        uint64_t word = rubbish.word();
+        doubles.set(k, word % 3 == 0 ? ODD[word / 3 % (ODDS - 1)]
+                    : std::ldexp(1.0, static_cast<int>(word % 41) - 20));
     }
 }
 
-// The result and the step of a state, whether it is one or not: what its words say, or nothing.
+// The result and the step of a state: what its numbers say, or nothing.
 void Session::ask_result() {
     const uint64_t kept = 77;
     const double kept_float = 0.77;
     uint64_t numbers[ELCHEPUR_RESULT_NUMBERS] = {kept, kept, kept, kept, kept, kept, kept};
-    double floats[ELCHEPUR_RESULT_FLOATS] = {kept_float, kept_float}, step = kept_float;
-    Words state = lent[STATE];
-    bool is_one = is_state(state);
-    uint64_t wanted = !is_one ? 13 : has_ended(state) ? 0 : 29, number = elchepur_result(state.first, numbers, floats);
+    double floats[ELCHEPUR_RESULT_FLOATS] = {kept_float, kept_float};
+    Words words = lent[STATE_WORDS], doubles = lent[STATE_DOUBLES];
+    double h = doubles.number(ELCHEPUR_DOUBLE_H), x = doubles.number(ELCHEPUR_DOUBLE_X);
+    uint64_t wanted = has_ended(words) ? 0 : 29, number = elchepur_result(LENT_STATE(lent), numbers, floats);
     insist_number("a result", number, wanted);
     tally.results[number]++;
     bool told = number == 0;
-    insist(numbers[ELCHEPUR_RESULT_STATUS] == (told ? state[STAGE_WORD] : kept), "a result has another status");
-    for (size_t k = 0; k < 6; k++) insist(numbers[ELCHEPUR_RESULT_ODE + k] == (told ? state[ODE + k] : kept),
-                                          "a result has other counts");
-    insist(same_number(floats[ELCHEPUR_RESULT_H], told ? state.number(STEP) : kept_float), "a result has another h");
-    insist(same_number(floats[ELCHEPUR_RESULT_X], told ? state.number(POINT) : kept_float), "a result has another x");
-    insist_number("the step held", elchepur_held_step(state.first, &step), is_one ? 0 : 13);
-    insist(same_number(step, is_one ? state.number(STEP) : kept_float), "the step held is another");
+    insist(numbers[ELCHEPUR_RESULT_STATUS] == (told ? status_of(words) : kept), "a result has another status");
+    for (size_t k = 0; k < 6; k++)
+        insist(numbers[ELCHEPUR_RESULT_ODE + k] == (told ? words[ELCHEPUR_WORD_ODE + k] : kept),
+               "a result has other counts");
+    insist(same_number(floats[ELCHEPUR_RESULT_H], told ? h : kept_float), "a result has another h");
+    insist(same_number(floats[ELCHEPUR_RESULT_X], told ? x : kept_float), "a result has another x");
+    insist(same_number(elchepur_held_step(LENT_STATE(lent)), h), "the step held is another");
 }
 
 // A target of any length: 19 where it is shorter than a quarter of the coefficients, and what lies
@@ -392,8 +399,10 @@ void Session::step() {
     switch (choice) {
     case 5: model = input.below(6); return reply(0);
     case 6: case 7: return go_on(1 + input.below(64));
-    case 8: return advance(input.whole(request_of(lent[STATE]).kind == ELCHEPUR_KIND_REPORT ? ELCHEPUR_REPLY_FILLED
-                                       : ELCHEPUR_REPLY_CONTINUE), input.number(0.0));
+    case 8: {  // a reply of another kind
+        bool is_report = request_of(lent[STATE_WORDS]).kind == ELCHEPUR_KIND_REPORT;
+        return advance(input.whole(is_report ? ELCHEPUR_REPLY_FILLED : ELCHEPUR_REPLY_CONTINUE), input.number(0.0));
+    }
     case 9: case 12: {  // a state or a part that is wrong for this call alone
         const Lent before = lent;
         if (choice == 12) misfit();

@@ -1,66 +1,83 @@
-// The 67 words of a state: which words are one at all, and which states are unfit by document 01's clauses,
-// apart from the proved code.
+// The two arrays of a state: what any numbers in them stand for, which are those that an advance leaves, and which
+// states are unfit by document 01's clauses, apart from the proved code.
 #ifndef STATE_H
 #define STATE_H
 
 #include "lent.h"
 
-// Of each word what it holds: w a number, f a float, b a flag, t whether the next is given, g a float and h a number
-// that may be absent, l whether tolerances are lists, s a scalar tolerance, S the stage, c its column or status
-// (crates/export/specs/State.antt).
-const char KINDS[] =
-    "wffff" "tgtg" "w" "tg" "b" "ththth" "bb" "tg" "bb" "wwww" "lss" "fffff"
-    "wwwwww" "bbbbb" "ww" "fffffffffffff" "tg" "Sc";
-static_assert(sizeof KINDS == ELCHEPUR_STATE + 1, "every word has its kind");
+// Of each word what it holds: w a number, b a choice, t whether something is given, h a number that is looked at where
+// the word before it says so, S the stage, c its column or status.
+const char KINDS[] = "Sc" "wwwwww" "bbbbb" "ww" "t" "wwww" "b" "ww" "bbbbb" "tttt" "ththth";
+static_assert(sizeof KINDS == ELCHEPUR_STATE_WORDS + 1, "every word has its kind");
 
-enum StateWord {
-    MAX_STEPS = 0, UROUND = 1, SAFETY_FACTOR = 2, SCALE_MIN = 3, SCALE_MAX = 4, NEWTON_MAXITER = 9, ORDER = 25,
-        NIND1 = 26, LISTS = 29,
-    ODE = 37, JACOBIANS = 38, LU = 39, TOTAL = 40, ACCEPTED = 41, REJECTED = 42, SINGULAR_COUNT = 48, NEWT_ITER = 49,
-        POINT = 50, STEP = 53, STAGE_TAG = 65, STAGE_WORD = 66
+// Of each double the word that says whether it is looked at, where there is one.
+struct Given {
+    size_t place, word;
+    bool if_set;
 };
-enum Stage { FIRST_REPORT = 1, COLUMN = 4, REPORT = 10, ENDED = 12 };
+const Given GIVEN[] = {
+    {ELCHEPUR_DOUBLE_XOUT, ELCHEPUR_WORD_MARKED, true},
+    {ELCHEPUR_DOUBLE_RTOL, ELCHEPUR_WORD_LISTS, false},
+    {ELCHEPUR_DOUBLE_ATOL, ELCHEPUR_WORD_LISTS, false},
+    {ELCHEPUR_DOUBLE_GIVEN_MAX_STEP, ELCHEPUR_WORD_HAS_MAX_STEP, true},
+    {ELCHEPUR_DOUBLE_GIVEN_MIN_STEP, ELCHEPUR_WORD_HAS_MIN_STEP, true},
+    {ELCHEPUR_DOUBLE_GIVEN_NEWTON_TOL, ELCHEPUR_WORD_HAS_NEWTON_TOL, true},
+    {ELCHEPUR_DOUBLE_GIVEN_FIRST_STEP, ELCHEPUR_WORD_HAS_FIRST_STEP, true},
+};
 
-const uint64_t THE_NAN = 0x7ff8000000000000;
+enum Stage { FIRST_DERIVATIVE = 0, FIRST_REPORT = 1, COLUMN = 4, REPORT = 10, ENDED = 12 };
 
-inline bool is_float_word(uint64_t word) { return word == THE_NAN || !std::isnan(double_of(word)); }
-
-inline bool is_stage(uint64_t stage, uint64_t word) {
-    if (stage == COLUMN) return true;
-    if (stage == ENDED) return word <= 3 || word == 5;
-    return stage < ENDED && word == 0;
+// A number that is no stage's stands for the first, and one that is no status's for Success.
+inline uint64_t stage_of(const Words &w) {
+    uint64_t stage = w[ELCHEPUR_WORD_STAGE];
+    return stage <= ENDED ? stage : static_cast<uint64_t>(FIRST_DERIVATIVE);
 }
 
-// Whether a call can have written these words.
-inline bool is_state(const Words &w) {
-    for (size_t k = 0; k < ELCHEPUR_STATE; k++) {
-        bool fits = true;
-        switch (KINDS[k]) {
-        case 'f': fits = is_float_word(w[k]); break;
-        case 'b': case 't': case 'l': fits = w[k] <= 1; break;
-        case 'g': fits = w[k - 1] == 0 ? w[k] == 0 : is_float_word(w[k]); break;
-        case 'h': fits = w[k - 1] == 1 || w[k] == 0; break;
-        case 's': fits = w[LISTS] == 1 ? w[k] == 0 : is_float_word(w[k]); break;
-        case 'S': fits = is_stage(w[k], w[k + 1]); break;
-        }
-        if (!fits) return false;
+inline uint64_t status_of(const Words &w) {
+    uint64_t status = w[ELCHEPUR_WORD_PART];
+    return status <= 3 || status == 5 ? status : 0;
+}
+
+inline bool has_ended(const Words &w) { return stage_of(w) == ENDED; }
+
+// What an advance leaves of a word that it keeps: 0 or 1 for a choice, and 0 for what is not looked at.
+inline uint64_t plain_word(const Words &w, size_t k) {
+    switch (KINDS[k]) {
+    case 'b': case 't': return w[k] != 0;
+    case 'h': return w[k - 1] != 0 ? w[k] : 0;
+    case 'S': return stage_of(w);
+    case 'c': return stage_of(w) == COLUMN ? w[k] : has_ended(w) ? status_of(w) : 0;
+    default: return w[k];
     }
+}
+
+inline double plain_double(const Words &w, const Words &d, size_t k) {
+    for (const Given &given : GIVEN)
+        if (given.place == k && (w[given.word] != 0) != given.if_set) return 0.0;
+    return d.number(k);
+}
+
+// Whether a call can have left these numbers.
+inline bool is_plain(const Words &w, const Words &d) {
+    for (size_t k = 0; k < ELCHEPUR_STATE_WORDS; k++)
+        if (w[k] != plain_word(w, k)) return false;
+    for (size_t k = 0; k < ELCHEPUR_STATE_DOUBLES; k++)
+        if (!same_number(d.number(k), plain_double(w, d, k))) return false;
     return true;
 }
 
-inline bool has_ended(const Words &w) { return w[STAGE_TAG] == ENDED; }
-
-inline bool settings_unfit(const Words &w) {
-    double uround = w.number(UROUND), safety = w.number(SAFETY_FACTOR);
-    return w[MAX_STEPS] < 1 || w[MAX_STEPS] > 1000000 || uround <= 1e-35 || uround >= 1.0 || safety <= 1e-4
-        || safety >= 1.0 || w.number(SCALE_MIN) <= 0.0 ||
-           !(w.number(SCALE_MIN) < w.number(SCALE_MAX)) || w[NEWTON_MAXITER] < 1 || w[NEWTON_MAXITER] > 16;
+inline bool settings_unfit(const Words &w, const Words &d) {
+    double uround = d.number(ELCHEPUR_DOUBLE_UROUND), safety = d.number(ELCHEPUR_DOUBLE_SAFETY_FACTOR);
+    double least = d.number(ELCHEPUR_DOUBLE_SCALE_MIN), most = d.number(ELCHEPUR_DOUBLE_SCALE_MAX);
+    uint64_t m = w[ELCHEPUR_WORD_MAX_STEPS], k = w[ELCHEPUR_WORD_NEWTON_MAXITER];
+    return m < 1 || m > 1000000 || uround <= 1e-35 || uround >= 1.0 || safety <= 1e-4 || safety >= 1.0 || least <= 0.0
+        || !(least < most) || k < 1 || k > 16;
 }
 
 inline bool counts_unfit(const Words &w) {
-    uint64_t m = w[MAX_STEPS], k = w[NEWTON_MAXITER];
-    return w[ODE] > 2 + 3 * (k + 1) * m || w[JACOBIANS] > 6 * (m + 1) || w[LU] > 13 * m + 12 || w[ACCEPTED] > m
-        || w[REJECTED] > 2 * m;
+    uint64_t m = w[ELCHEPUR_WORD_MAX_STEPS], k = w[ELCHEPUR_WORD_NEWTON_MAXITER];
+    return w[ELCHEPUR_WORD_ODE] > 2 + 3 * (k + 1) * m || w[ELCHEPUR_WORD_JAC] > 6 * (m + 1)
+        || w[ELCHEPUR_WORD_LU] > 13 * m + 12 || w[ELCHEPUR_WORD_ACCEPTED] > m || w[ELCHEPUR_WORD_REJECTED] > 2 * m;
 }
 
 inline bool pivots_unfit(const Words &pivots, size_t n) {
@@ -71,23 +88,24 @@ inline bool pivots_unfit(const Words &pivots, size_t n) {
 
 // Document 01: 'Unfit means one of'.
 inline bool is_unfit(const Lent &lent) {
-    const Words w = lent[STATE];
-    uint64_t n = w[ORDER];
-    if (n < 1 || n > 32 || !lengths_fit(lent, n) || settings_unfit(w)) return true;
-    unsigned __int128 sum = static_cast<unsigned __int128>(w[NIND1]) + w[NIND1 + 1] + w[NIND1 + 2];
+    const Words w = lent[STATE_WORDS];
+    uint64_t n = w[ELCHEPUR_WORD_N];
+    if (n < 1 || n > 32 || !lengths_fit(lent, n) || settings_unfit(w, lent[STATE_DOUBLES])) return true;
+    unsigned __int128 sum = static_cast<unsigned __int128>(w[ELCHEPUR_WORD_NIND1]) + w[ELCHEPUR_WORD_NIND2]
+        + w[ELCHEPUR_WORD_NIND3];
     bool goes_on = !has_ended(w);
-    return sum != n || (goes_on && w[TOTAL] > w[MAX_STEPS]) || w[NEWT_ITER] > w[NEWTON_MAXITER]
-        || (w[STAGE_TAG] == COLUMN && w[STAGE_WORD] > n) ||
-           (goes_on && w[SINGULAR_COUNT] > 5) || pivots_unfit(lent[IP1], n) || pivots_unfit(lent[IP2], n)
-               || counts_unfit(w);
+    return sum != n || (goes_on && w[ELCHEPUR_WORD_TOTAL] > w[ELCHEPUR_WORD_MAX_STEPS])
+        || w[ELCHEPUR_WORD_NEWT_ITER] > w[ELCHEPUR_WORD_NEWTON_MAXITER]
+        || (stage_of(w) == COLUMN && w[ELCHEPUR_WORD_PART] > n) || (goes_on && w[ELCHEPUR_WORD_SINGULAR_COUNT] > 5)
+        || pivots_unfit(lent[IP1], n) || pivots_unfit(lent[IP2], n) || counts_unfit(w);
 }
 
 // Advancing tests 13, 14, 15.
 inline uint64_t advance_refusal(const Lent &lent, uint64_t reply) {
-    const Words w = lent[STATE];
-    if (!is_state(w) || is_unfit(lent)) return 13;
+    const Words w = lent[STATE_WORDS];
+    if (is_unfit(lent)) return 13;
     if (has_ended(w)) return 14;
-    bool asks_report = w[STAGE_TAG] == FIRST_REPORT || w[STAGE_TAG] == REPORT;
+    bool asks_report = stage_of(w) == FIRST_REPORT || stage_of(w) == REPORT;
     bool answers = asks_report ? reply >= ELCHEPUR_REPLY_CONTINUE && reply <= ELCHEPUR_REPLY_MARK
         : reply == ELCHEPUR_REPLY_FILLED;
     return answers ? 0 : 15;

@@ -32,7 +32,8 @@ REFUSED_TOTALS = 28
 REFUSED_NOT_ENDED = 29
 REFUSED_OUTSIDE = 30
 MOST = 32
-STATE = 67
+STATE_WORDS = 38
+STATE_DOUBLES = 29
 NUMBERS = 17
 FLOATS = 8
 TOLD = 3
@@ -99,6 +100,73 @@ RESULT_ACCEPTED = 5
 RESULT_REJECTED = 6
 RESULT_H = 0
 RESULT_X = 1
+WORD_STAGE = 0
+WORD_PART = 1
+WORD_ODE = 2
+WORD_JAC = 3
+WORD_LU = 4
+WORD_TOTAL = 5
+WORD_ACCEPTED = 6
+WORD_REJECTED = 7
+WORD_FIRST = 8
+WORD_LAST = 9
+WORD_REJECT = 10
+WORD_CALL_JAC = 11
+WORD_CALL_DECOMP = 12
+WORD_SINGULAR_COUNT = 13
+WORD_NEWT_ITER = 14
+WORD_MARKED = 15
+WORD_N = 16
+WORD_NIND1 = 17
+WORD_NIND2 = 18
+WORD_NIND3 = 19
+WORD_LISTS = 20
+WORD_MAX_STEPS = 21
+WORD_NEWTON_MAXITER = 22
+WORD_PREDICTIVE = 23
+WORD_MASS = 24
+WORD_SOURCE = 25
+WORD_DENSE_OUTPUT = 26
+WORD_RULE = 27
+WORD_HAS_MAX_STEP = 28
+WORD_HAS_MIN_STEP = 29
+WORD_HAS_NEWTON_TOL = 30
+WORD_HAS_FIRST_STEP = 31
+WORD_HAS_NIND1 = 32
+WORD_GIVEN_NIND1 = 33
+WORD_HAS_NIND2 = 34
+WORD_GIVEN_NIND2 = 35
+WORD_HAS_NIND3 = 36
+WORD_GIVEN_NIND3 = 37
+DOUBLE_X = 0
+DOUBLE_XOLD = 1
+DOUBLE_XPH = 2
+DOUBLE_H = 3
+DOUBLE_HOLD = 4
+DOUBLE_HNEW = 5
+DOUBLE_HHFAC = 6
+DOUBLE_H_ACC = 7
+DOUBLE_ERR_ACC = 8
+DOUBLE_FACCON = 9
+DOUBLE_THETA = 10
+DOUBLE_DYNOLD = 11
+DOUBLE_THQOLD = 12
+DOUBLE_XOUT = 13
+DOUBLE_NEWTON_TOL = 14
+DOUBLE_XEND = 15
+DOUBLE_POSNEG = 16
+DOUBLE_HMAX = 17
+DOUBLE_HMIN = 18
+DOUBLE_RTOL = 19
+DOUBLE_ATOL = 20
+DOUBLE_UROUND = 21
+DOUBLE_SAFETY_FACTOR = 22
+DOUBLE_SCALE_MIN = 23
+DOUBLE_SCALE_MAX = 24
+DOUBLE_GIVEN_MAX_STEP = 25
+DOUBLE_GIVEN_MIN_STEP = 26
+DOUBLE_GIVEN_NEWTON_TOL = 27
+DOUBLE_GIVEN_FIRST_STEP = 28
 PRINTED = 1024
 PRINTED_MOST = 735
 SHEET_SETTINGS = 6
@@ -143,7 +211,7 @@ REFUSALS = {
     10: "nind1 is given and the three don't sum to n, or only others are and exceed n",
     11: "first_step is given as 0",
     12: "max_step < 0, or min_step above the step ceiling",
-    13: "the state is unfit, or the words are no state's",
+    13: "the state is unfit",
     14: "the run has ended",
     15: "the reply is not of the kind asked for",
     16: "matrix routine: a length is not n * n or n",
@@ -194,14 +262,14 @@ FUNCTIONS = {
     ),
     "elchepur_open": (
         "uint64_t", "const uint64_t *", "const double *", "size_t", "double", "double", "uint64_t", "double", "double",
-        "uint64_t *", "uint64_t *", "double *", "const double *", "size_t", "double *", "size_t", "double *", "size_t",
-        "double *", "size_t", "double *", "size_t", "double *", "size_t", "double *", "size_t", "double *", "size_t",
-        "double *", "size_t", "double *", "size_t", "double *", "size_t", "double *", "size_t", "double *", "size_t",
-        "double *", "size_t", "double *", "size_t", "double *", "size_t", "double *", "size_t", "size_t *", "size_t",
-        "size_t *", "size_t", "double *", "size_t", "double *", "size_t", "double *", "size_t",
+        "size_t *", "double *", "uint64_t *", "double *", "const double *", "size_t", "double *", "size_t", "double *",
+        "size_t", "double *", "size_t", "double *", "size_t", "double *", "size_t", "double *", "size_t", "double *",
+        "size_t", "double *", "size_t", "double *", "size_t", "double *", "size_t", "double *", "size_t", "double *",
+        "size_t", "double *", "size_t", "double *", "size_t", "double *", "size_t", "double *", "size_t", "size_t *",
+        "size_t", "size_t *", "size_t", "double *", "size_t", "double *", "size_t", "double *", "size_t",
     ),
     "elchepur_advance": (
-        "uint64_t", "uint64_t *", "uint64_t", "double", "uint64_t *", "double *", "double *", "size_t",
+        "uint64_t", "size_t *", "double *", "uint64_t", "double", "uint64_t *", "double *", "double *", "size_t",
         "const double *", "size_t", "double *", "size_t", "double *", "size_t", "double *", "size_t", "double *",
         "size_t", "double *", "size_t", "double *", "size_t", "double *", "size_t", "double *", "size_t",
         "const double *", "size_t", "const double *", "size_t", "const double *", "size_t", "double *", "size_t",
@@ -209,10 +277,10 @@ FUNCTIONS = {
         "double *", "size_t", "double *", "size_t", "double *", "size_t",
     ),
     "elchepur_result": (
-        "uint64_t", "const uint64_t *", "uint64_t *", "double *",
+        "uint64_t", "const size_t *", "const double *", "uint64_t *", "double *",
     ),
     "elchepur_held_step": (
-        "uint64_t", "const uint64_t *", "double *",
+        "double", "const size_t *", "const double *",
     ),
     "elchepur_interpolate": (
         "uint64_t", "double", "double *", "size_t", "const double *", "size_t", "double", "double",

@@ -85,7 +85,8 @@ class Run:
     def __init__(self, opening):
         self._library = library()
         self.n = opening.n
-        self._state = (ctypes.c_uint64 * numbers.STATE)()
+        self._words = (ctypes.c_size_t * numbers.STATE_WORDS)()
+        self._doubles = (ctypes.c_double * numbers.STATE_DOUBLES)()
         self._told = (ctypes.c_uint64 * numbers.TOLD)()
         self.at = (ctypes.c_double * numbers.AT)()
         # More amounts than a run can have are refused, whatever is lent.
@@ -98,10 +99,11 @@ class Run:
             self.parts[name][:] = values
         beginning = (opening.numbers, opening.floats, self.n, opening.x0, opening.xend)
         tolerances = (opening.lists, opening.rtol, opening.atol)
-        insist(self._library.open(*beginning, *tolerances, self._state, self._told, self.at, *self._lent))
+        state = (self._words, self._doubles)
+        insist(self._library.open(*beginning, *tolerances, *state, self._told, self.at, *self._lent))
 
     def advance(self, reply, value=0.0):
-        insist(self._library.advance(self._state, reply, value, self._told, self.at, *self._lent))
+        insist(self._library.advance(self._words, self._doubles, reply, value, self._told, self.at, *self._lent))
 
     @property
     def kind(self):
@@ -128,13 +130,12 @@ class Run:
 
     def held(self):
         """The step that is held at a report after the first, its coefficients offered or not."""
-        held, coefficients = ctypes.c_double(), self.parts["cont"]
-        insist(self._library.held_step(self._state, held))
-        return Step(self.at[0], self.at[1], held.value, self.amounts(), type(coefficients)(*coefficients))
+        held, coefficients = self._library.held_step(self._words, self._doubles), self.parts["cont"]
+        return Step(self.at[0], self.at[1], held, self.amounts(), type(coefficients)(*coefficients))
 
     def result(self):
         """How it ended: status and counts, and the doubles, each by its name in the header."""
         counts = (ctypes.c_uint64 * numbers.RESULT_NUMBERS)()
         floats = (ctypes.c_double * numbers.RESULT_FLOATS)()
-        insist(self._library.result(self._state, counts, floats))
+        insist(self._library.result(self._words, self._doubles, counts, floats))
         return counts, floats

@@ -4,7 +4,7 @@
 
 use crate::memory::Memory;
 use crate::numbers::SHELF;
-use crate::numbers::{AT, FLOATS, NUMBERS, PRINTED, RESULT_FLOATS, RESULT_NUMBERS, STATE, TOLD};
+use crate::numbers::{AT, FLOATS, NUMBERS, PRINTED, RESULT_FLOATS, RESULT_NUMBERS, STATE_DOUBLES, STATE_WORDS, TOLD};
 use crate::numbers::{NIGHT, TOTALS, TOTALS_PRINTED};
 use crate::numbers::{SHEET_AMOUNTS, SHEET_COUNTS, SHEET_MOST, SHEET_RATES, SHEET_SETTINGS, SHEET_SPECIES};
 
@@ -23,7 +23,8 @@ pub(crate) struct Opening {
 
 /// A run between two calls: its state, and what it asks.
 pub(crate) struct Run {
-    state: [u64; STATE],
+    words: [usize; STATE_WORDS],
+    doubles: [f64; STATE_DOUBLES],
     pub told: [u64; TOLD],
     pub at: [f64; AT],
 }
@@ -36,7 +37,8 @@ extern "C" {
     fn elchepur_open(
         numbers: &[u64; NUMBERS], floats: &[f64; FLOATS],
         n: usize, x0: f64, xend: f64, lists: u64, rtol_scalar: f64, atol_scalar: f64,
-        state: &mut [u64; STATE], told: &mut [u64; TOLD], at: &mut [f64; AT],
+        words: &mut [usize; STATE_WORDS], doubles: &mut [f64; STATE_DOUBLES],
+        told: &mut [u64; TOLD], at: &mut [f64; AT],
         y: *const f64, y_count: usize, f0: *mut f64, f0_count: usize,
         scal: *mut f64, scal_count: usize, cont: *mut f64, cont_count: usize,
         z1: *mut f64, z1_count: usize, z2: *mut f64, z2_count: usize, z3: *mut f64, z3_count: usize,
@@ -50,7 +52,8 @@ extern "C" {
     ) -> u64;
 
     fn elchepur_advance(
-        state: &mut [u64; STATE], reply: u64, value: f64, told: &mut [u64; TOLD], at: &mut [f64; AT],
+        words: &mut [usize; STATE_WORDS], doubles: &mut [f64; STATE_DOUBLES],
+        reply: u64, value: f64, told: &mut [u64; TOLD], at: &mut [f64; AT],
         y: *mut f64, y_count: usize, f0: *const f64, f0_count: usize,
         scal: *mut f64, scal_count: usize, cont: *mut f64, cont_count: usize,
         z1: *mut f64, z1_count: usize, z2: *mut f64, z2_count: usize, z3: *mut f64, z3_count: usize,
@@ -64,10 +67,11 @@ extern "C" {
     ) -> u64;
 
     fn elchepur_result(
-        state: &[u64; STATE], numbers: &mut [u64; RESULT_NUMBERS], floats: &mut [f64; RESULT_FLOATS],
+        words: &[usize; STATE_WORDS], doubles: &[f64; STATE_DOUBLES],
+        numbers: &mut [u64; RESULT_NUMBERS], floats: &mut [f64; RESULT_FLOATS],
     ) -> u64;
 
-    fn elchepur_held_step(state: &[u64; STATE], h: &mut f64) -> u64;
+    fn elchepur_held_step(words: &[usize; STATE_WORDS], doubles: &[f64; STATE_DOUBLES]) -> f64;
 
     fn elchepur_interpolate(
         xi: f64, yi: *mut f64, yi_count: usize, cont: *const f64, cont_count: usize, xold: f64, h: f64,
@@ -154,12 +158,13 @@ pub(crate) fn default_settings() -> ([u64; NUMBERS], [f64; FLOATS]) {
 #[rustfmt::skip]
 pub(crate) fn open(opening: &Opening, m: &mut Memory) -> Result<Run, u64> {
     let Opening { numbers, floats, n, x0, xend, lists, rtol, atol } = opening;
-    let mut run = Run { state: [0; STATE], told: [0; TOLD], at: [0.0; AT] };
+    let mut run = Run { words: [0; STATE_WORDS], doubles: [0.0; STATE_DOUBLES], told: [0; TOLD], at: [0.0; AT] };
     // SAFETY: each pointer goes with the length of the vector that it comes from, and no vector's pointer is null. The
     // vectors are fields of one struct that is lent as a whole, and the arrays are others, so nothing overlaps.
     let number = unsafe {
         elchepur_open(
-            numbers, floats, *n, *x0, *xend, *lists, *rtol, *atol, &mut run.state, &mut run.told, &mut run.at,
+            numbers, floats, *n, *x0, *xend, *lists, *rtol, *atol, &mut run.words, &mut run.doubles, &mut run.told,
+            &mut run.at,
             m.y.as_ptr(), m.y.len(), m.f0.as_mut_ptr(), m.f0.len(),
             m.scal.as_mut_ptr(), m.scal.len(), m.cont.as_mut_ptr(), m.cont.len(),
             m.z1.as_mut_ptr(), m.z1.len(), m.z2.as_mut_ptr(), m.z2.len(), m.z3.as_mut_ptr(), m.z3.len(),
@@ -180,7 +185,7 @@ pub(crate) fn advance(run: &mut Run, reply: u64, value: f64, m: &mut Memory) -> 
     // SAFETY: as in `open`.
     let number = unsafe {
         elchepur_advance(
-            &mut run.state, reply, value, &mut run.told, &mut run.at,
+            &mut run.words, &mut run.doubles, reply, value, &mut run.told, &mut run.at,
             m.y.as_mut_ptr(), m.y.len(), m.f0.as_ptr(), m.f0.len(),
             m.scal.as_mut_ptr(), m.scal.len(), m.cont.as_mut_ptr(), m.cont.len(),
             m.z1.as_mut_ptr(), m.z1.len(), m.z2.as_mut_ptr(), m.z2.len(), m.z3.as_mut_ptr(), m.z3.len(),
@@ -198,16 +203,14 @@ pub(crate) fn advance(run: &mut Run, reply: u64, value: f64, m: &mut Memory) -> 
 
 pub(crate) fn result(run: &Run) -> Result<([u64; RESULT_NUMBERS], [f64; RESULT_FLOATS]), u64> {
     let (mut numbers, mut floats) = ([0; RESULT_NUMBERS], [0.0; RESULT_FLOATS]);
-    // SAFETY: three arrays of the lengths that the header gives, each lent by itself.
-    let number = unsafe { elchepur_result(&run.state, &mut numbers, &mut floats) };
+    // SAFETY: four arrays of the lengths that the header gives, each lent by itself.
+    let number = unsafe { elchepur_result(&run.words, &run.doubles, &mut numbers, &mut floats) };
     answered(number, (numbers, floats))
 }
 
-pub(crate) fn held_step(run: &Run) -> Result<f64, u64> {
-    let mut h = 0.0;
-    // SAFETY: an array of the length that the header gives, and a number, each lent by itself.
-    let number = unsafe { elchepur_held_step(&run.state, &mut h) };
-    answered(number, h)
+pub(crate) fn held_step(run: &Run) -> f64 {
+    // SAFETY: two arrays of the lengths that the header gives.
+    unsafe { elchepur_held_step(&run.words, &run.doubles) }
 }
 
 pub(crate) fn interpolate(xi: f64, yi: &mut [f64], cont: &[f64], xold: f64, h: f64) -> Result<(), u64> {

@@ -1,7 +1,8 @@
 //! Numbers of include/elchepur.h, each under its name there without `ELCHEPUR_`. tests/header.rs holds them to it.
 
 pub const MOST: usize = 32;
-pub const STATE: usize = 67;
+pub const STATE_WORDS: usize = 38;
+pub const STATE_DOUBLES: usize = 29;
 pub const NUMBERS: usize = 17;
 pub const FLOATS: usize = 8;
 pub const TOLD: usize = 3;

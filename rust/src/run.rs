@@ -217,8 +217,7 @@ impl<F: FirstOrderSystem + ?Sized, S: SolOut + ?Sized> Solving<'_, F, S> {
         };
         let ([xold, here], mut y) = (run.at, memory.y.clone());
         let mut x = here;
-        let held = c::held_step(run).expect("a run that reports holds a step");
-        let step = StepInterpolant::new(&memory.cont, xold, held);
+        let step = StepInterpolant::new(&memory.cont, xold, c::held_step(run));
         let offered = (run.told[TOLD_FLAG] != 0).then_some(&step);
         solout.held(has_step.then_some(&step));
         let flag = solout.solout(xold, &mut x, &mut y, offered);

@@ -78,13 +78,17 @@ fn wanted() -> BTreeMap<String, String> {
         let (head, parameters) = declaration.rsplit_once('(').expect("parameters");
         let head: Vec<&str> = head.split_whitespace().collect();
         let [.., result, name] = head[..] else { panic!("{declaration}") };
-        if !name.starts_with("elchepur_") || result == "double" {
+        if !name.starts_with("elchepur_") {
             continue;
         }
         let parameters: Vec<&str> = parameters.trim_end_matches(')').split(", ").map(str::trim).collect();
         let declared: Vec<String> =
             (0..parameters.len()).map(|k| in_rust(parameters[k], parameters.get(k + 1))).collect();
-        let result = if result == "void" { "" } else { " -> u64" };
+        let result = match result {
+            "void" => "",
+            "double" => " -> f64",
+            _ => " -> u64",
+        };
         found.insert(name.to_string(), format!("{name}({}){result}", declared.join(", ")));
     }
     found

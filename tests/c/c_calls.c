@@ -113,13 +113,15 @@ static struct opening plain(void) {
 static void opens(const char *words, struct opening o, uint64_t number) {
     double memory[ELCHEPUR_DOUBLES(2)], at[ELCHEPUR_AT] = {9, 9};
     size_t pivots[ELCHEPUR_PIVOTS(2)] = {9, 9, 9, 9};
-    uint64_t state[ELCHEPUR_STATE], told[ELCHEPUR_TOLD] = {9, 9, 9};
+    struct elchepur_state state;
+    uint64_t told[ELCHEPUR_TOLD] = {9, 9, 9};
     struct elchepur_memory m = elchepur_host_parts(2, memory, pivots);
     for (size_t k = 0; k < ELCHEPUR_DOUBLES(2); k++) memory[k] = 0.5;
-    for (size_t k = 0; k < ELCHEPUR_STATE; k++) state[k] = 9;
+    for (size_t k = 0; k < ELCHEPUR_STATE_WORDS; k++) state.words[k] = 9;
+    for (size_t k = 0; k < ELCHEPUR_STATE_DOUBLES; k++) state.doubles[k] = 9.0;
     same(words,
-         elchepur_open(o.numbers, o.floats, o.n, o.x0, o.xend, o.lists, o.rtol, o.atol, state, told, at, m.y, 2, m.f0,
-                       2, m.scal, 2, m.cont, o.cont_count, m.z1, 2, m.z2, 2,
+         elchepur_open(o.numbers, o.floats, o.n, o.x0, o.xend, o.lists, o.rtol, o.atol, ELCHEPUR_STATE(state), told,
+                       at, m.y, 2, m.f0, 2, m.scal, 2, m.cont, o.cont_count, m.z1, 2, m.z2, 2,
                        m.z3, 2, m.f1, 2, m.f2, 2, m.f3, 2, m.rtol, 2, m.atol, 2, m.mass, 4, m.jac, 4, m.e1, 4, m.e2r,
                            4, m.e2i, 4, m.ip1, 2, m.ip2, 2, m.y_perturbed, 2,
                        m.f_perturbed, 2, m.f_origin, 2),
@@ -128,7 +130,9 @@ static void opens(const char *words, struct opening o, uint64_t number) {
         for (size_t k = 0; k < ELCHEPUR_DOUBLES(2); k++) same("a part of a refused opening", bits_of(memory[k]),
                                                               bits_of(0.5));
         for (size_t k = 0; k < ELCHEPUR_PIVOTS(2); k++) same("a pivot of a refused opening", pivots[k], 9);
-        for (size_t k = 0; k < ELCHEPUR_STATE; k++) same("the state of a refused opening", state[k], 9);
+        for (size_t k = 0; k < ELCHEPUR_STATE_WORDS; k++) same("a word of a refused opening", state.words[k], 9);
+        for (size_t k = 0; k < ELCHEPUR_STATE_DOUBLES; k++) same("a double of a refused opening",
+                                                                 bits_of(state.doubles[k]), bits_of(9.0));
         for (size_t k = 0; k < ELCHEPUR_TOLD; k++) same("the request of a refused opening", told[k], 9);
         for (size_t k = 0; k < ELCHEPUR_AT; k++) same("a point of a refused opening", bits_of(at[k]), bits_of(9.0));
     } else {

@@ -259,7 +259,8 @@ static void other_parts(void) {
     struct elchepur_talk talk;
     same("an opening", elchepur_host_open(&problem, &host, &m, &talk), 0);
     same("the first reply", (uint64_t)elchepur_host_answer(&host, &m, &talk), 0);
-    same("the first advance", elchepur_advance(talk.state, talk.reply, 0.0, talk.told, talk.at, ELCHEPUR_PARTS(m)), 0);
+    same("the first advance",
+         elchepur_advance(ELCHEPUR_STATE(talk.state), talk.reply, 0.0, talk.told, talk.at, ELCHEPUR_PARTS(m)), 0);
     same("the first report", talk.told[ELCHEPUR_TOLD_KIND], ELCHEPUR_KIND_REPORT);
     same("more amounts", (uint64_t)elchepur_host_go_on(&host, &more, &talk, &outcome), ELCHEPUR_HOST_REFUSED);
     same("their refusal", outcome.refused, ELCHEPUR_REFUSED_UNFIT);

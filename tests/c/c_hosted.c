@@ -49,9 +49,7 @@ static int jacobian(void *user, double x, const double *y, double *jac) {
 static uint64_t report(void *user, struct elchepur_report *at) {
     struct replay *replay = user;
     uint64_t head = met(replay, ELCHEPUR_KIND_REPORT, at->xold, at->x), reply = head & 15;
-    double held;
-    same("the answer of a held step", elchepur_held_step(replay->talk.state, &held), 0);
-    same("the held step", bits_of(at->h), bits_of(held));
+    same("the held step", bits_of(at->h), bits_of(elchepur_held_step(ELCHEPUR_STATE(replay->talk.state))));
     same("whether coefficients are offered", at->cont == replay->m.cont, head >> 4 & 15);
     same("the amounts of a report", at->n == replay->m.n && at->y == replay->m.y, 1);
     for (size_t i = 0; i < at->n; i++) {

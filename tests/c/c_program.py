@@ -117,6 +117,17 @@ def declarations():
     return found
 
 
+def check_state():
+    """The header has the places of a state as crates/radau_core/src/places.rt has them, words first."""
+    table, numbers = exported.places(), header_text()[1]
+    sizes = [int(numbers[f"ELCHEPUR_STATE_{name}"]) for name in ("WORDS", "DOUBLES")]
+    insist(sizes == [table.pop("WORDS"), table.pop("DOUBLES")], "the header has other lengths of a state")
+    kinds = ["WORD"] * sizes[0] + ["DOUBLE"] * sizes[1]
+    wanted = [(f"ELCHEPUR_{kind}_{name}", place) for kind, (name, place) in zip(kinds, table.items())]
+    found = [(name, int(place)) for name, place in numbers.items() if re.match("ELCHEPUR_(WORD|DOUBLE)_", name)]
+    insist(wanted == found and len(table) == len(kinds), "the header names the places of a state otherwise")
+
+
 def check_header():
     wanted, declared = wanted_declarations(), declarations()
     for name in sorted({*wanted, *declared}):
@@ -129,6 +140,7 @@ def check_header():
     names = {f"ELCHEPUR_COEFFICIENT_{name.strip()}": str(place) for place, name in enumerate(entries) if name.strip()}
     places = {name: place for name, place in header_text()[1].items() if name.startswith("ELCHEPUR_COEFFICIENT_")}
     insist(names == places, "the header names the table of coefficients otherwise")
+    check_state()
     print(f"the header declares the {len(declared)} functions of the crates {' and '.join(exported.CRATES)}, and "
           f"{len(places)} coefficients by their places")
 

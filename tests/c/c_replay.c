@@ -5,13 +5,16 @@
 
 struct run {
     struct elchepur_memory m;
-    uint64_t numbers[ELCHEPUR_NUMBERS], state[ELCHEPUR_STATE], told[ELCHEPUR_TOLD];
+    struct elchepur_state state;
+    uint64_t numbers[ELCHEPUR_NUMBERS], told[ELCHEPUR_TOLD];
     double floats[ELCHEPUR_FLOATS], at[ELCHEPUR_AT];
     double doubles[ELCHEPUR_DOUBLES(ELCHEPUR_MOST)];
     size_t pivots[ELCHEPUR_PIVOTS(ELCHEPUR_MOST)];
 };
 
-static uint64_t refusals;
+enum { STAGE_COLUMN = 4, STAGE_ENDED = 12 };
+
+static uint64_t refusals, advances;
 
 // --- What is refused -----------------------------------------------------------------------------
 
@@ -23,14 +26,15 @@ static struct elchepur_memory copied(const struct run *run, struct run *copy) {
 }
 
 // An advance that is to be refused leaves everything as it was.
-static void refused(const struct run *run, const uint64_t *state, uint64_t reply, uint64_t number) {
+static void refused(const struct run *run, const struct elchepur_state *state, uint64_t reply, uint64_t number) {
     static struct run copy;
     struct elchepur_memory m = copied(run, &copy);
-    memcpy(copy.state, state, sizeof copy.state);
+    copy.state = *state;
     memcpy(copy.told, run->told, sizeof copy.told);
     memcpy(copy.at, run->at, sizeof copy.at);
-    same("a refusal", elchepur_advance(copy.state, reply, 0.5, copy.told, copy.at, ELCHEPUR_PARTS(m)), number);
-    same("that a refused advance wrote the state", memcmp(copy.state, state, sizeof copy.state) != 0, 0);
+    same("a refusal", elchepur_advance(ELCHEPUR_STATE(copy.state), reply, 0.5, copy.told, copy.at, ELCHEPUR_PARTS(m)),
+         number);
+    same("that a refused advance wrote the state", memcmp(&copy.state, state, sizeof copy.state) != 0, 0);
     same("that a refused advance wrote the request", memcmp(copy.told, run->told, sizeof copy.told) != 0, 0);
     same("that a refused advance wrote the points", memcmp(copy.at, run->at, sizeof copy.at) != 0, 0);
     same("that a refused advance wrote a part",
@@ -40,46 +44,91 @@ static void refused(const struct run *run, const uint64_t *state, uint64_t reply
     refusals++;
 }
 
-static void no_result(const uint64_t *state, uint64_t number) {
+static void no_result(const struct elchepur_state *state, uint64_t number) {
     uint64_t counts[ELCHEPUR_RESULT_NUMBERS] = {9, 9, 9, 9, 9, 9, 9};
     double floats[ELCHEPUR_RESULT_FLOATS] = {9.0, 9.0};
-    same("the refusal of a result", elchepur_result(state, counts, floats), number);
+    same("the refusal of a result", elchepur_result(ELCHEPUR_STATE(*state), counts, floats), number);
     for (size_t k = 0; k < ELCHEPUR_RESULT_NUMBERS; k++) same("a count of a refused result", counts[k], 9);
     for (size_t k = 0; k < ELCHEPUR_RESULT_FLOATS; k++) same("a float of a refused result", bits_of(floats[k]),
                                                              bits_of(9.0));
 }
 
-static double held_step(const uint64_t *state, uint64_t number) {
-    double h = 9.0;
-    same("the answer of a held step", elchepur_held_step(state, &h), number);
-    return h;
-}
+// The places of a state that 13 looks at in a run that has not ended, each with a number that it refuses.
+static const struct { size_t place; size_t number; } UNFIT[] = {
+    {ELCHEPUR_WORD_ODE, SIZE_MAX}, {ELCHEPUR_WORD_JAC, SIZE_MAX}, {ELCHEPUR_WORD_LU, SIZE_MAX},
+    {ELCHEPUR_WORD_ACCEPTED, SIZE_MAX}, {ELCHEPUR_WORD_REJECTED, SIZE_MAX}, {ELCHEPUR_WORD_NEWT_ITER, 17},
+    {ELCHEPUR_WORD_N, 0}, {ELCHEPUR_WORD_N, 33}, {ELCHEPUR_WORD_NIND1, SIZE_MAX}, {ELCHEPUR_WORD_NIND2, SIZE_MAX},
+    {ELCHEPUR_WORD_NIND3, SIZE_MAX}, {ELCHEPUR_WORD_MAX_STEPS, 0}, {ELCHEPUR_WORD_MAX_STEPS, 1000001},
+    {ELCHEPUR_WORD_NEWTON_MAXITER, 0}, {ELCHEPUR_WORD_NEWTON_MAXITER, 17}, {ELCHEPUR_WORD_TOTAL, SIZE_MAX},
+    {ELCHEPUR_WORD_SINGULAR_COUNT, 6},
+};
+enum { UNFITS = sizeof UNFIT / sizeof *UNFIT, LOOKED_AT_BEFORE_THE_END = 2 };
 
-// Whether 13 leaves a word of the state free: the three given counts of the settings, and of an ended run
-// its attempts and failures.
-static int is_free(size_t place) {
-    return place == 14 || place == 16 || place == 18 || place == 40 || place == 48;
-}
+static const struct { size_t place; double number; } UNFIT_DOUBLES[] = {
+    {ELCHEPUR_DOUBLE_UROUND, 1.0}, {ELCHEPUR_DOUBLE_SAFETY_FACTOR, 1.0}, {ELCHEPUR_DOUBLE_SCALE_MIN, 0.0},
+    {ELCHEPUR_DOUBLE_SCALE_MAX, 0.0},
+};
+enum { UNFIT_DOUBLES_COUNT = sizeof UNFIT_DOUBLES / sizeof *UNFIT_DOUBLES };
 
-// One word of the state, another with each request, is made a number that is no tag, no count in range, and no
-// pattern that a state holds.
+// One number of the state, another with each request, is made one that 13 refuses.
 static void unfit(const struct run *run) {
-    uint64_t state[ELCHEPUR_STATE];
-    size_t place = requests % ELCHEPUR_STATE;
-    if (is_free(place)) return;
-    memcpy(state, run->state, sizeof state);
-    state[place] = UINT64_C(0xfff8000000000001);
-    refused(run, state, ELCHEPUR_REPLY_FILLED, ELCHEPUR_REFUSED_UNFIT);
+    struct elchepur_state state = run->state;
+    int ended = run->told[ELCHEPUR_TOLD_KIND] == ELCHEPUR_KIND_ENDED;
+    size_t k = requests % (UNFITS + UNFIT_DOUBLES_COUNT);
+    if (ended && k >= UNFITS - LOOKED_AT_BEFORE_THE_END && k < UNFITS) return;
+    if (k < UNFITS) state.words[UNFIT[k].place] = UNFIT[k].number;
+    else state.doubles[UNFIT_DOUBLES[k - UNFITS].place] = UNFIT_DOUBLES[k - UNFITS].number;
+    refused(run, &state, ELCHEPUR_REPLY_FILLED, ELCHEPUR_REFUSED_UNFIT);
 }
 
-// A stage that there is none of, so that the words are no state.
-static void no_state(const struct run *run) {
-    uint64_t state[ELCHEPUR_STATE];
-    memcpy(state, run->state, sizeof state);
-    state[65] = 99;
-    refused(run, state, ELCHEPUR_REPLY_FILLED, ELCHEPUR_REFUSED_UNFIT);
-    no_result(state, ELCHEPUR_REFUSED_UNFIT);
-    same("the step of no state", bits_of(held_step(state, ELCHEPUR_REFUSED_UNFIT)), bits_of(9.0));
+// --- Any words are a state -----------------------------------------------------------------------
+
+static const size_t CHOICES[] = {
+    ELCHEPUR_WORD_FIRST, ELCHEPUR_WORD_LAST, ELCHEPUR_WORD_REJECT, ELCHEPUR_WORD_CALL_JAC, ELCHEPUR_WORD_CALL_DECOMP,
+    ELCHEPUR_WORD_MARKED, ELCHEPUR_WORD_LISTS, ELCHEPUR_WORD_PREDICTIVE, ELCHEPUR_WORD_MASS, ELCHEPUR_WORD_SOURCE,
+    ELCHEPUR_WORD_DENSE_OUTPUT, ELCHEPUR_WORD_RULE, ELCHEPUR_WORD_HAS_MAX_STEP, ELCHEPUR_WORD_HAS_MIN_STEP,
+    ELCHEPUR_WORD_HAS_NEWTON_TOL, ELCHEPUR_WORD_HAS_FIRST_STEP, ELCHEPUR_WORD_HAS_NIND1, ELCHEPUR_WORD_HAS_NIND2,
+    ELCHEPUR_WORD_HAS_NIND3,
+};
+
+// What stands behind a choice of 0 is not looked at.
+static const struct { size_t choice, place; } ABSENT[] = {
+    {ELCHEPUR_WORD_MARKED, ELCHEPUR_DOUBLE_XOUT}, {ELCHEPUR_WORD_HAS_MAX_STEP, ELCHEPUR_DOUBLE_GIVEN_MAX_STEP},
+    {ELCHEPUR_WORD_HAS_MIN_STEP, ELCHEPUR_DOUBLE_GIVEN_MIN_STEP},
+    {ELCHEPUR_WORD_HAS_NEWTON_TOL, ELCHEPUR_DOUBLE_GIVEN_NEWTON_TOL},
+    {ELCHEPUR_WORD_HAS_FIRST_STEP, ELCHEPUR_DOUBLE_GIVEN_FIRST_STEP},
+};
+
+// The same state in other words: each choice by another number, and rubbish wherever nothing is looked at.
+static struct elchepur_state in_other_words(struct elchepur_state state) {
+    for (size_t k = 0; k < sizeof ABSENT / sizeof *ABSENT; k++)
+        if (!state.words[ABSENT[k].choice]) state.doubles[ABSENT[k].place] = -7.5;
+    for (size_t k = ELCHEPUR_WORD_HAS_NIND1; k <= ELCHEPUR_WORD_HAS_NIND3; k += 2)
+        if (!state.words[k]) state.words[k + 1] = SIZE_MAX;
+    if (state.words[ELCHEPUR_WORD_LISTS])
+        state.doubles[ELCHEPUR_DOUBLE_RTOL] = state.doubles[ELCHEPUR_DOUBLE_ATOL] = -7.5;
+    for (size_t k = 0; k < sizeof CHOICES / sizeof *CHOICES; k++)
+        if (state.words[CHOICES[k]]) state.words[CHOICES[k]] = SIZE_MAX - (requests + k) % 1000;
+    size_t stage = state.words[ELCHEPUR_WORD_STAGE];
+    if (stage == 0) state.words[ELCHEPUR_WORD_STAGE] = 13 + requests % 1000;
+    if (stage != STAGE_COLUMN && stage != STAGE_ENDED) state.words[ELCHEPUR_WORD_PART] = SIZE_MAX;
+    return state;
+}
+
+// It is advanced to the very state, request and parts to which the right reply led.
+static void alike(const struct run *before, const struct run *after, uint64_t reply, double value) {
+    static struct run copy;
+    struct elchepur_memory m = copied(before, &copy);
+    copy.state = in_other_words(before->state);
+    same("an advance in other words", elchepur_advance(ELCHEPUR_STATE(copy.state), reply, value, copy.told, copy.at,
+                                                       ELCHEPUR_PARTS(m)), 0);
+    same("the words that it leaves", memcmp(copy.state.words, after->state.words, sizeof copy.state.words) != 0, 0);
+    for (size_t k = 0; k < ELCHEPUR_STATE_DOUBLES; k++)
+        same("a double that it leaves", bits_of(copy.state.doubles[k]), bits_of(after->state.doubles[k]));
+    same("its request", memcmp(copy.told, after->told, sizeof copy.told) != 0, 0);
+    same("its parts", memcmp(copy.doubles, after->doubles, ELCHEPUR_DOUBLES(m.n) * sizeof(double)) != 0, 0);
+    same("its pivots", memcmp(copy.pivots, after->pivots, ELCHEPUR_PIVOTS(m.n) * sizeof(size_t)) != 0, 0);
+    advances++;
 }
 
 static void wrong_replies(const struct run *run) {
@@ -88,10 +137,10 @@ static void wrong_replies(const struct run *run) {
     for (uint64_t reply = 0; reply < 8; reply++) {
         int right = report ? reply >= ELCHEPUR_REPLY_CONTINUE && reply <= ELCHEPUR_REPLY_MARK
             : reply == ELCHEPUR_REPLY_FILLED;
-        if (ended) refused(run, run->state, reply, ELCHEPUR_REFUSED_HAS_ENDED);
-        else if (!right) refused(run, run->state, reply, ELCHEPUR_REFUSED_REPLY);
+        if (ended) refused(run, &run->state, reply, ELCHEPUR_REFUSED_HAS_ENDED);
+        else if (!right) refused(run, &run->state, reply, ELCHEPUR_REFUSED_REPLY);
     }
-    if (!ended) no_result(run->state, ELCHEPUR_REFUSED_NOT_ENDED);
+    if (!ended) no_result(&run->state, ELCHEPUR_REFUSED_NOT_ENDED);
 }
 
 // --- A run ---------------------------------------------------------------------------------------
@@ -112,7 +161,7 @@ static uint64_t opened(struct run *run, size_t n) {
     if (problem->atols) memcpy(m->atol, read.atol, n * sizeof *m->atol);
     same("an opening",
          elchepur_open(run->numbers, run->floats, n, problem->x0, problem->xend, problem->rtols != NULL, problem->rtol,
-                       problem->atol, run->state, run->told, run->at, ELCHEPUR_PARTS(*m)),
+                       problem->atol, ELCHEPUR_STATE(run->state), run->told, run->at, ELCHEPUR_PARTS(*m)),
          0);
     return read.count;
 }
@@ -143,13 +192,17 @@ static double *part_to_fill(const struct run *run) {
 
 // Reads the Rust's reply, writes what it wrote, and advances.
 static void advanced(struct run *run, uint64_t reply) {
+    static struct run before;
     size_t n = run->m.n;
     double value = 0.0;
     if (reply == ELCHEPUR_REPLY_FILLED) words_into(part_to_fill(run),
                                                    run->told[ELCHEPUR_TOLD_KIND] == ELCHEPUR_KIND_JACOBIAN ? n * n : n);
     if (reply == ELCHEPUR_REPLY_MODIFIED || reply == ELCHEPUR_REPLY_MARK) value = double_of(word());
     if (reply == ELCHEPUR_REPLY_MODIFIED) words_into(run->m.y, n);
-    same("an advance", elchepur_advance(run->state, reply, value, run->told, run->at, ELCHEPUR_PARTS(run->m)), 0);
+    before = *run;
+    same("an advance",
+         elchepur_advance(ELCHEPUR_STATE(run->state), reply, value, run->told, run->at, ELCHEPUR_PARTS(run->m)), 0);
+    alike(&before, run, reply, value);
 }
 
 static void met_end(const struct run *run) {
@@ -157,9 +210,9 @@ static void met_end(const struct run *run) {
         ELCHEPUR_RESULT_ACCEPTED, ELCHEPUR_RESULT_REJECTED};
     uint64_t counts[ELCHEPUR_RESULT_NUMBERS];
     double floats[ELCHEPUR_RESULT_FLOATS];
-    same("a result", elchepur_result(run->state, counts, floats), 0);
+    same("a result", elchepur_result(ELCHEPUR_STATE(run->state), counts, floats), 0);
     same("the status", counts[ELCHEPUR_RESULT_STATUS], run->told[ELCHEPUR_TOLD_FLAG]);
-    same("the held step", bits_of(held_step(run->state, 0)), bits_of(floats[ELCHEPUR_RESULT_H]));
+    same("the held step", bits_of(elchepur_held_step(ELCHEPUR_STATE(run->state))), bits_of(floats[ELCHEPUR_RESULT_H]));
     same("h", bits_of(floats[ELCHEPUR_RESULT_H]), word());
     same("x", bits_of(floats[ELCHEPUR_RESULT_X]), word());
     for (size_t k = 0; k < sizeof order / sizeof *order; k++) same("a count", counts[order[k]], word());
@@ -170,7 +223,6 @@ static void replay(struct run *run, uint64_t count) {
         uint64_t reply = met(run);
         requests++;
         unfit(run);
-        no_state(run);
         wrong_replies(run);
         same("whether the run has ended", run->told[ELCHEPUR_TOLD_KIND] == ELCHEPUR_KIND_ENDED, k == count);
         if (k == count) met_end(run);
@@ -186,7 +238,7 @@ int main(void) {
         runs++;
         replay(&run, opened(&run, n));
     }
-    printf("%" PRIu64 " runs of the Rust with %" PRIu64 " requests agree, %" PRIu64 " advances refused\n", runs,
-           requests, refusals);
+    printf("%" PRIu64 " runs of the Rust with %" PRIu64 " requests agree, %" PRIu64 " advances refused, %" PRIu64
+           " made again in other words\n", runs, requests, refusals, advances);
     return 0;
 }

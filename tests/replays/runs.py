@@ -782,17 +782,12 @@ def try_branches(counts):
 
 # Branches of the advance that no run takes, and why.
 NEVER = {
-    "advance: Stage::Ended(status)": "14 stands before it",
-    "advance: Step::Matrices(moving)": "six passes settle the matrices",
-    "advance: Round::Matrices(moving)": "a round that is over leads to a request or to the next pass",
-    "advance: Round::Attempt(moving)": "likewise",
-    "round: Step::Matrices(moving)": "likewise",
-    "round: Step::Attempt(moving)": "likewise",
+    "advance: 12": "14 stands before it",
+    "advance: Step::Matrices": "six passes settle the matrices",
     "passes: Decomposed::RefusedOrder": "the order fits",
     "passes: Decomposed::RefusedLength": "the lengths fit",
-    "passes: Step::Asked(call)": "the moving part of a step is taken only where another pass is wanted",
-    "passes: Step::Attempt(moving)": "likewise",
     "report: Reply::Filled": "15 stands before it",
+    "stage: _, again": "no advance leads back to the first derivative",
 }
 
 
@@ -815,7 +810,7 @@ def replayed(folder, runs):
     libraries, names = port.build()
     root = rust_solve.make_crate(folder, TARGET, PROGRAM, f'#[path = "{REPLAY.resolve()}"]\nmod replay;',
                                  "replay::go();")
-    made = rust_solve.compiled(root, "replay", port.linked(libraries, ("state", "opening", "radau")))
+    made = rust_solve.compiled(root, "replay", port.linked(libraries, ("state", "opening", "radau_core", "radau")))
     asked = "".join(run.line(number + 1) + "\n" for number, run in enumerate(runs))
     done = subprocess.run([made], input=asked, capture_output=True, text=True)
     insist(done.returncode == 0, f"the comparison stopped:\n{done.stderr}")

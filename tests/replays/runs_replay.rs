@@ -388,6 +388,6 @@ pub fn go() {
     }
     println!("{runs} runs {requests} requests {bad} differ");
     // How often each branch of the advance was taken (tests/support/port.py).
-    let taken = radau::taken::TAKEN.iter().map(|k| k.load(std::sync::atomic::Ordering::Relaxed).to_string());
+    let taken = radau_core::taken::TAKEN.iter().map(|k| k.load(std::sync::atomic::Ordering::Relaxed).to_string());
     println!("{}", taken.collect::<Vec<String>>().join(" "));
 }

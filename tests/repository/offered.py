@@ -23,12 +23,14 @@ import command
 ROOT = pathlib.Path(__file__).resolve().parents[2]
 SETTLES = "use Rattle.words.specs.Contract.{Settles}"
 FILE = "crates/{}/proofs/Determinism.antt"
-# What these answer depends on standard input, which is no argument: their contracts are relations.
+# What the first answer depends on standard input, which is no argument: their contracts are relations. The last asks
+# that the run is fit, and is for crates here, which prove it; what users call refuses (docs/DECISIONS.md).
 UNSETTLED = {
     "replay::word::read_word": "reads standard input",
     "replay::word::read_words": "reads standard input",
     "replay::word::read_block": "reads standard input",
     "sheet_input::reading::read_all": "reads standard input",
+    "radau_core::advance::advanced": "asks that the run is fit",
 }
 
 FUNCTION = re.compile(r'^( *)pub (?:extern "C" )?fn (\w+)\b', re.M)
@@ -195,7 +197,8 @@ def main():
     unsettled = sum(by == "none" for _, by, _ in rows)
     settled = len(rows) - unsettled
     print(f"{len(rows)} offered functions: of {settled} a theorem over the contract itself says that it asks nothing")
-    print(f"and allows one outcome for one input; {unsettled} read standard input, by relations")
+    why = ", ".join(sorted(set(UNSETTLED.values())))
+    print(f"and allows one outcome for one input; {unsettled} are none such: {why}")
     sys.exit(1 if complaints else 0)
 
 

@@ -12,11 +12,24 @@ import rust_text
 CRATES = ("export", "export_forecast", "export_sheet", "export_totals", "export_shelf")
 MARKED = re.compile(r'#\[no_mangle\]\npub extern "C" fn (\w+)\(([^)]*)\)(?: -> (\w+))?\n')
 TYPE = re.compile(r"(&mut |&|)(\[)?(\w+)(?:; (\d+))?\]?")
+# The places of a state, and how many there are of each sort.
+PLACES = rust_text.ROOT / "crates" / "radau_core" / "src" / "places.rt"
 
 
 def insist(fact, words):
     if not fact:
         sys.exit(f"exported: {words}")
+
+
+def places():
+    """Each constant of the table of places, by its name."""
+    found = re.findall(r"^pub const (\w+): usize = (\d+);", PLACES.read_text(), re.M)
+    return {name: int(place) for name, place in found}
+
+
+def numbered(parameters):
+    """With lengths as numbers, where they stand by name."""
+    return re.sub(r"; ([A-Z]\w*)\]", lambda length: f"; {places()[length.group(1)]}]", parameters)
 
 
 def exported(crate="export"):
@@ -28,7 +41,7 @@ def exported(crate="export"):
         insist(len(marked) == text.count('extern "C"') == text.count("#[no_mangle]"),
                f"{file.name} exports a function in a form that is not expected")
         for name, parameters, result in marked:
-            pairs = [tuple(pair.strip().split(": ", 1)) for pair in re.split(r",(?![^\[]*\])", parameters)
+            pairs = [tuple(pair.strip().split(": ", 1)) for pair in re.split(r",(?![^\[]*\])", numbered(parameters))
                      if pair.strip()]
             found[name] = (file.stem, pairs, result)
     return found

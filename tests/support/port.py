@@ -1,8 +1,8 @@
 """The Rattle sources as Rust: Rattle's syntax is Rust's, so with the contracts taken out rustc compiles the very code
 that is proved. For tests that hold it beside the Rust's.
 
-The branches of the solver are counted: each outcome of an `if` and each arm of a `match` of crates/radau, under the
-names that `build` gives."""
+The branches of the solver are counted: each outcome of an `if` and each arm of a `match` of crates/radau_core,
+under the names that `build` gives."""
 
 import fcntl
 import hashlib
@@ -28,8 +28,9 @@ CRATES = {
     "matrix": ["words", "scalar", "state"],
     "opening": ["words", "scalar", "state"],
     "solve_blocks": ["words", "scalar", "matrix", "state", "opening"],
-    "radau": ["words", "scalar", "matrix", "state", "opening", "solve_blocks"],
-    "export": ["words", "bits", "scalar", "matrix", "dense", "state", "opening", "solve_blocks", "radau"],
+    "radau_core": ["words", "scalar", "matrix", "state", "opening", "solve_blocks"],
+    "radau": ["words", "state", "opening", "solve_blocks", "radau_core"],
+    "export": ["words", "scalar", "matrix", "dense", "state", "opening", "solve_blocks", "radau_core", "radau"],
     "model": ["words", "state"],
     "sheet": ["words", "bits", "state"],
     "forecast_text": ["words", "bits", "state", "sheet"],
@@ -38,7 +39,7 @@ CRATES = {
     "night_totals": ["words", "bits", "state", "sheet", "forecast_text"],
     "night_join": ["words", "night_totals"],
     "export_totals": ["words", "sheet", "forecast_text", "night_totals", "night_join"],
-    "model_run": ["words", "scalar", "matrix", "state", "opening", "solve_blocks", "model", "radau"],
+    "model_run": ["words", "scalar", "matrix", "state", "opening", "solve_blocks", "model", "radau_core"],
     "forecast": ["words", "bits", "state", "sheet", "forecast_text", "model_run"],
     "export_forecast": ["words", "sheet", "forecast_text", "forecast"],
 }
@@ -64,7 +65,7 @@ def stripped(text):
 
 
 # The crate whose branches are counted, and what counts them there.
-COUNTED = "radau"
+COUNTED = "radau_core"
 COUNTER = """
 pub mod taken {
     use std::sync::atomic::{AtomicU64, Ordering::Relaxed};
@@ -92,7 +93,7 @@ def counting(text, file, names):
         indent = len(line) - len(line.lstrip())
         test = re.fullmatch(r"(.*\bif )(.*)( \{)", line)
         held = re.fullmatch(r"\s*if let (.*) = (\w+) \{", line)
-        arm = re.fullmatch(r"(\s*[A-Z]\w*::.* => )(.*)", line)
+        arm = re.fullmatch(r"(\s*(?:[A-Z]\w*::.*|\d+|_) => )(.*)", line)
         if held:
             line = f"crate::taken::test({len(names)}, matches!({held.group(2)}, {held.group(1)}));\n{line}"
             names += [unlike(names, f"{file}: if let {held.group(1)}: {outcome}") for outcome in ("yes", "no")]
@@ -100,7 +101,7 @@ def counting(text, file, names):
             line = f"{test.group(1)}crate::taken::test({len(names)}, {test.group(2)}){test.group(3)}"
             names += [unlike(names, f"{file}: if {test.group(2)}: {outcome}") for outcome in ("yes", "no")]
         elif arm:
-            whole = arm.group(2).endswith(",") or arm.group(2) == "{}"
+            whole = arm.group(2).endswith((",", "}"))
             line = f"{arm.group(1)}{{ crate::taken::arm({len(names)}); {arm.group(2).rstrip(',')}" + (" }" if whole
                 else "")
             names.append(unlike(names, f"{file}: {arm.group(1).strip()[:-3]}"))

@@ -80,7 +80,7 @@ elchepur-default-settings-once κs a =
     (tt, λ o p. two-parts (λ (numbers : List ℕ) (floats : List Float). tt ▹ numbers ▹ floats ▹ tt))
 
 pub elchepur-held-step-once : Settles held-step.Kinds.ps held-step.Kinds.r held-step.Reads.Asked held-step.Reads.Post
-elchepur-held-step-once κs a = (tt, λ o p. two-parts (λ (r : ℕ) (h : Float). r ▹ tt ▹ h ▹ tt))
+elchepur-held-step-once κs a = (tt, λ o p. one-result (o .1))
 
 pub elchepur-interpolate-once
     : Settles interpolate.Kinds.ps interpolate.Kinds.r interpolate.Reads.Asked interpolate.Reads.Post
@@ -109,7 +109,8 @@ pub elchepur-open-once : Settles opens.Kinds.ps opens.Kinds.r opens.Reads.Asked 
 elchepur-open-once κs a = (
   tt,
   λ o p. one-part (λ (l : Left).
-      l .crossed .number ▹ tt ▹ tt ▹ tt ▹ tt ▹ tt ▹ tt ▹ tt ▹ tt ▹ l .crossed .state ▹ l .crossed .told ▹ l .crossed .at
+      l .crossed .number ▹ tt ▹ tt ▹ tt ▹ tt ▹ tt ▹ tt ▹ tt ▹ tt ▹ l .crossed .words ▹ l .crossed .doubles ▹
+      l .crossed .told ▹ l .crossed .at
       ▹ tt ▹ l .memory .amounts .f0 ▹ l .memory .amounts .scal ▹ l .memory .amounts .cont ▹ l .memory .newton .z1
       ▹ l .memory .newton .z2 ▹ l .memory .newton .z3 ▹ l .memory .newton .f1 ▹ l .memory .newton .f2
       ▹ l .memory .newton .f3 ▹ l .memory .given .rtol ▹ l .memory .given .atol ▹ l .memory .given .mass
@@ -122,7 +123,8 @@ pub elchepur-advance-once : Settles advance.Kinds.ps advance.Kinds.r advance.Rea
 elchepur-advance-once κs a = (
   tt,
   λ o p. one-part (λ (l : Left).
-      l .crossed .number ▹ l .crossed .state ▹ tt ▹ tt ▹ l .crossed .told ▹ l .crossed .at ▹ l .memory .amounts .y ▹ tt
+      l .crossed .number ▹ l .crossed .words ▹ l .crossed .doubles ▹ tt ▹ tt ▹
+      l .crossed .told ▹ l .crossed .at ▹ l .memory .amounts .y ▹ tt
       ▹ l .memory .amounts .scal ▹ l .memory .amounts .cont ▹ l .memory .newton .z1 ▹ l .memory .newton .z2
       ▹ l .memory .newton .z3 ▹ l .memory .newton .f1 ▹ l .memory .newton .f2 ▹ l .memory .newton .f3 ▹ tt ▹ tt ▹ tt
       ▹ l .memory .given .jac ▹ l .memory .factors .e1 ▹ l .memory .factors .e2r ▹ l .memory .factors .e2i
@@ -131,4 +133,4 @@ elchepur-advance-once κs a = (
 )
 
 pub elchepur-result-once : Settles result.Kinds.ps result.Kinds.r result.Reads.Asked result.Reads.Post
-elchepur-result-once κs a = (tt, λ o p. one-part (λ (e : Ended). e .number ▹ tt ▹ e .numbers ▹ e .floats ▹ tt))
+elchepur-result-once κs a = (tt, λ o p. one-part (λ (e : Ended). e .number ▹ tt ▹ tt ▹ e .numbers ▹ e .floats ▹ tt))

@@ -7,10 +7,10 @@ use Rattle.state.specs.Settings.{defaultsOf, orElse}
 use Rattle.state.specs.declared.settings.Settings.{Settings}
 use Rattle.state.specs.declared.settings.Number.{Number}
 use Rattle.state.specs.declared.settings.Number.the-variants as number
-use Rattle.export.specs.Choices.{numberOf, numberTag}
+use Rattle.radau_core.specs.Choices.{numberOf, numberTag}
 use Rattle.export.specs.Talk.{settingsGiven}
 use Rattle.export.specs.Defaults.{numbersOf, floatsOf}
-use Rattle.export.proofs.StateLaws.{flag-back, whole-back, mass-back, source-back, rule-back}
+use Rattle.radau_core.proofs.PackLaws.{flag-held, whole-back, mass-back, source-back, rule-back}
 
 given-back : (n : Number) → numberOf (numberTag n) (orElse n (double 0)) ≡ n
 unfolding pick numberOf orElse
@@ -30,14 +30,14 @@ settings-read-proof s =
       «min_step» = given-back (s .«min_step») i;
       «newton_maxiter» = s .«newton_maxiter»;
       «newton_tol» = given-back (s .«newton_tol») i;
-      predictive = flag-back (s .predictive) i;
+      predictive = flag-held (s .predictive) i;
       nind1 = whole-back (s .nind1) i;
       nind2 = whole-back (s .nind2) i;
       nind3 = whole-back (s .nind3) i;
       mass = mass-back (s .mass) i;
       source = source-back (s .source) i;
       «first_step» = given-back (s .«first_step») i;
-      «dense_output» = flag-back (s .«dense_output») i;
+      «dense_output» = flag-held (s .«dense_output») i;
       rule = rule-back (s .rule) i;
     }
 

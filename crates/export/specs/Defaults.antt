@@ -6,7 +6,7 @@ use lib.Ieee.{Float}
 use Rattle.words.specs.Constants.{«0·0»}
 use Rattle.state.specs.Settings.{orElse, orNone}
 use Rattle.state.specs.declared.settings.Settings.{Settings}
-use Rattle.export.specs.Choices.{flagWord, numberTag, wholeTag, massWord, sourceWord, ruleWord}
+use Rattle.radau_core.specs.Choices.{flagWord, numberTag, wholeTag, massWord, sourceWord, ruleWord}
 
 abbrev pub numbersOf : Settings → List ℕ
 numbersOf s =

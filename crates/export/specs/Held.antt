@@ -1,16 +1,8 @@
--- What `elchepur_held_step` answers and writes, by what the words of the state unpack to.
+-- The step that a run holds, by its two arrays.
 use Prim.Native.Nat.{ℕ}
+use mathlib.Core.List.{List}
 use lib.Ieee.{Float}
-use Rattle.state.specs.declared.talk.Refusal.the-variants.{Unfit}
-use Rattle.state.specs.Numbers.{refusalNumber}
-use Rattle.export.specs.declared.unpack.Unpacked.{Unpacked}
-use Rattle.export.specs.declared.unpack.Unpacked.the-variants as unpacked
+use Rattle.radau_core.specs.Places.{runAt}
 
-abbrev pub heldNumber : Unpacked → ℕ
-heldNumber (unpacked.Run r) = 0
-heldNumber unpacked.Not = refusalNumber Unfit
-
--- the step after the call, from what stood there before it
-abbrev pub heldStep : Unpacked → Float → Float
-heldStep (unpacked.Run r) kept = r .numbers .h
-heldStep unpacked.Not kept = kept
+abbrev pub heldStep : List ℕ → List Float → Float
+heldStep words doubles = runAt words doubles .numbers .h

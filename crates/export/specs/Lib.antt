@@ -1,6 +1,4 @@
 -- In order of reading.
-pub mod Choices
-pub mod State
 pub mod Talk
 pub mod Held
 pub mod Defaults

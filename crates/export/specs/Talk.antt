@@ -17,7 +17,6 @@ use Rattle.state.specs.declared.talk.Place.{Place}
 use Rattle.state.specs.declared.talk.Place.the-variants as place
 use Rattle.state.specs.declared.talk.Reply.{Reply}
 use Rattle.state.specs.declared.talk.Reply.the-variants as reply
-use Rattle.state.specs.declared.talk.Refusal.the-variants.{Unfit}
 use Rattle.state.specs.declared.talk.Opened.{Opened}
 use Rattle.state.specs.declared.talk.Opened.the-variants as opened
 use Rattle.state.specs.declared.talk.Answer.{Answer}
@@ -32,34 +31,32 @@ use Rattle.opening.specs.Rows.{Opening}
 use Rattle.opening.specs.Opening.{openOf}
 use Rattle.opening.specs.Admission.{askingAt}
 use Rattle.solve_blocks.specs.Advance.{advanceOf}
-use Rattle.export.specs.declared.unpack.Unpacked.{Unpacked}
-use Rattle.export.specs.declared.unpack.Unpacked.the-variants as unpacked
-use Rattle.export.specs.Choices.{flagOf, flagWord, numberOf, wholeOf, massOf, sourceOf, ruleOf, tolerancesOf}
-use Rattle.export.specs.State.{wordAt, packOf, movedTo, unpackOf}
+use Rattle.radau_core.specs.Choices.{flagOf, flagWord, numberOf, wholeOf, massOf, sourceOf, ruleOf}
+use Rattle.radau_core.specs.Places.{_#_, runAt, wordsOf, doublesOf}
 
 -- ---- the settings, as 17 numbers and 8 floats
 
 abbrev pub settingsGiven : List ℕ → List Float → Settings
 settingsGiven w x =
     record {
-      «max_steps» = wordAt w 0;
+      «max_steps» = w # 0;
       uround = x ! 0;
       «safety_factor» = x ! 1;
       «scale_min» = x ! 2;
       «scale_max» = x ! 3;
-      «max_step» = numberOf (wordAt w 7) (x ! 4);
-      «min_step» = numberOf (wordAt w 8) (x ! 5);
-      «newton_maxiter» = wordAt w 1;
-      «newton_tol» = numberOf (wordAt w 9) (x ! 6);
-      predictive = flagOf (wordAt w 2);
-      nind1 = wholeOf (wordAt w 11) (wordAt w 12);
-      nind2 = wholeOf (wordAt w 13) (wordAt w 14);
-      nind3 = wholeOf (wordAt w 15) (wordAt w 16);
-      mass = massOf (wordAt w 4);
-      source = sourceOf (wordAt w 5);
-      «first_step» = numberOf (wordAt w 10) (x ! 7);
-      «dense_output» = flagOf (wordAt w 3);
-      rule = ruleOf (wordAt w 6);
+      «max_step» = numberOf (w # 7) (x ! 4);
+      «min_step» = numberOf (w # 8) (x ! 5);
+      «newton_maxiter» = w # 1;
+      «newton_tol» = numberOf (w # 9) (x ! 6);
+      predictive = flagOf (w # 2);
+      nind1 = wholeOf (w # 11) (w # 12);
+      nind2 = wholeOf (w # 13) (w # 14);
+      nind3 = wholeOf (w # 15) (w # 16);
+      mass = massOf (w # 4);
+      source = sourceOf (w # 5);
+      «first_step» = numberOf (w # 10) (x ! 7);
+      «dense_output» = flagOf (w # 3);
+      rule = ruleOf (w # 6);
     }
 
 -- ---- a request
@@ -111,32 +108,29 @@ replyOf s k value =
 
 -- ---- what a call answers, and what stands behind it
 
--- the number, the words of the state, and the request with its points
+-- the number, the two arrays of the state, and the request with its points
 pub record Crossed : Type 0 where
   pub number : ℕ
-  pub state : List ℕ
+  pub words : List ℕ
+  pub doubles : List Float
   pub told : List ℕ
   pub at : List Float
 
-abbrev pub crossed : ℕ → List ℕ → List ℕ → List Float → Crossed
-crossed number state told at = record { number = number; state = state; told = told; at = at }
+abbrev pub crossed : ℕ → List ℕ → List Float → List ℕ → List Float → Crossed
+crossed number words doubles told at =
+    record { number = number; words = words; doubles = doubles; told = told; at = at }
 
+-- the run stands in its places
 abbrev pub askedOf : Run → Request → Place → Crossed
-askedOf r q p = crossed 0 (packOf r) (toldOf q p) (atOf q)
+askedOf r q p = crossed 0 (wordsOf r) (doublesOf r) (toldOf q p) (atOf q)
 
-unfoldable pub ofOpened : Opened → List ℕ → List ℕ → List Float → Crossed
-ofOpened (opened.Asked r q p) state told at = askedOf r q p
-ofOpened (opened.Refused x) state told at = crossed (refusalNumber x) state told at
+unfoldable pub ofOpened : Opened → List ℕ → List Float → List ℕ → List Float → Crossed
+ofOpened (opened.Asked r q p) words doubles told at = askedOf r q p
+ofOpened (opened.Refused x) words doubles told at = crossed (refusalNumber x) words doubles told at
 
-unfoldable pub ofAnswer : Answer → List ℕ → List ℕ → List Float → Crossed
-ofAnswer (answer.Asked r q p) state told at = askedOf r q p
-ofAnswer (answer.Refused r x) state told at = crossed (refusalNumber x) state told at
-
--- the same as it is written: the words that an advance keeps stand as they are. Over those of the run that was advanced
--- it is `ofAnswer` (RunLaws.antt)
-unfoldable pub writtenOf : Answer → List ℕ → List ℕ → List Float → Crossed
-writtenOf (answer.Asked r q p) state told at = crossed 0 (movedTo r state) (toldOf q p) (atOf q)
-writtenOf (answer.Refused r x) state told at = crossed (refusalNumber x) state told at
+unfoldable pub ofAnswer : Answer → List ℕ → List Float → List ℕ → List Float → Crossed
+ofAnswer (answer.Asked r q p) words doubles told at = askedOf r q p
+ofAnswer (answer.Refused r x) words doubles told at = crossed (refusalNumber x) words doubles told at
 
 -- all that, with the lent memory
 pub record Left : Type 0 where
@@ -148,17 +142,15 @@ left c m = record { crossed = c; memory = m }
 
 -- ---- the calls
 
-unfoldable pub openLeft : Opening → List ℕ → List ℕ → List Float → Left
-openLeft o state told at = left (ofOpened (openOf o .answer) state told at) (openOf o .memory)
+unfoldable pub openLeft : Opening → List ℕ → List Float → List ℕ → List Float → Left
+openLeft o words doubles told at = left (ofOpened (openOf o .answer) words doubles told at) (openOf o .memory)
 
-unfoldable pub advanceBy : Unpacked → ℕ → Float → List ℕ → List ℕ → List Float → Memory → Left
-advanceBy unpacked.Not k value state told at m = left (crossed (refusalNumber Unfit) state told at) m
-advanceBy (unpacked.Run r) k value state told at m =
+-- any two arrays hold a run; whether it is fit is 13's matter
+unfoldable pub advanceLeft : ℕ → Float → List ℕ → List Float → List ℕ → List Float → Memory → Left
+advanceLeft k value words doubles told at m =
+    let r = runAt words doubles in
     let o = advanceOf r (replyOf (r .stage) k value) m .core in
-    left (ofAnswer (o .answer) state told at) (o .memory)
-
-abbrev pub advanceLeft : ℕ → Float → List ℕ → List ℕ → List Float → Memory → Left
-advanceLeft k value state told at m = advanceBy (unpackOf state) k value state told at m
+    left (ofAnswer (o .answer) words doubles told at) (o .memory)
 
 -- ---- the result
 
@@ -187,9 +179,5 @@ unfoldable pub ofResult : Result → List ℕ → List Float → Ended
 ofResult (result.Ended e) numbers floats = ended 0 (endNumbers e) (e .h ∷ e .x ∷ [])
 ofResult result.NotEnded numbers floats = ended 29 numbers floats
 
-unfoldable pub resultBy : Unpacked → List ℕ → List Float → Ended
-resultBy unpacked.Not numbers floats = ended (refusalNumber Unfit) numbers floats
-resultBy (unpacked.Run r) numbers floats = ofResult (resultOf r) numbers floats
-
-abbrev pub resultLeft : List ℕ → List ℕ → List Float → Ended
-resultLeft state numbers floats = resultBy (unpackOf state) numbers floats
+abbrev pub resultLeft : List ℕ → List Float → List ℕ → List Float → Ended
+resultLeft words doubles numbers floats = ofResult (resultOf (runAt words doubles)) numbers floats

@@ -1,5 +1,4 @@
 // Choices as numbers. Read, 0 is the one and any other number the other; written, the other is 1.
-use bits::pattern;
 use state::run::Tolerances;
 use state::settings::Mass;
 use state::settings::Number;
@@ -8,9 +7,8 @@ use state::settings::Source;
 use state::settings::Whole;
 ghost use mathlib.Core.Path.{_≡_};
 ghost use Rattle.state.specs.Settings.{orNone};
-ghost use Rattle.export.specs.Choices.{numberOf, wholeOf, massOf, sourceOf, ruleOf, tolerancesOf};
-ghost use Rattle.export.specs.Choices.{flagWord, numberTag, numberWord, wholeTag, massWord};
-ghost use Rattle.export.specs.Choices.{sourceWord, ruleWord, tolerancesTag, rtolWord, atolWord};
+ghost use Rattle.radau_core.specs.Choices.{numberOf, wholeOf, massOf, sourceOf, ruleOf, tolerancesOf};
+ghost use Rattle.radau_core.specs.Choices.{flagWord, numberTag, wholeTag, massWord, sourceWord, ruleWord};
 
 pub fn number(given: u64, x: f64) -> Number
     ensures { λ r. ⌜ r ≡ numberOf given x ⌝ }
@@ -84,15 +82,6 @@ pub fn number_tag(number: Number) -> u64
     }
 }
 
-pub fn number_word(number: Number) -> u64
-    ensures { λ r. ⌜ r ≡ numberWord number ⌝ }
-{
-    match number {
-        Number::Absent => 0,
-        Number::Given(x) => pattern(x),
-    }
-}
-
 pub fn whole_tag(whole: Whole) -> u64
     ensures { λ r. ⌜ r ≡ wholeTag whole ⌝ }
 {
@@ -135,32 +124,5 @@ pub fn rule_word(rule: Rule) -> u64
     match rule {
         Rule::Rust => 0,
         Rule::Book => 1,
-    }
-}
-
-pub fn tolerances_tag(tolerances: Tolerances) -> u64
-    ensures { λ r. ⌜ r ≡ tolerancesTag tolerances ⌝ }
-{
-    match tolerances {
-        Tolerances::Scalars(_, _) => 0,
-        Tolerances::Lists => 1,
-    }
-}
-
-pub fn rtol_word(tolerances: Tolerances) -> u64
-    ensures { λ r. ⌜ r ≡ rtolWord tolerances ⌝ }
-{
-    match tolerances {
-        Tolerances::Scalars(rtol, _) => pattern(rtol),
-        Tolerances::Lists => 0,
-    }
-}
-
-pub fn atol_word(tolerances: Tolerances) -> u64
-    ensures { λ r. ⌜ r ≡ atolWord tolerances ⌝ }
-{
-    match tolerances {
-        Tolerances::Scalars(_, atol) => pattern(atol),
-        Tolerances::Lists => 0,
     }
 }

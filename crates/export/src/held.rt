@@ -1,22 +1,15 @@
 // The step that a report is about, for a host that holds the state of a run.
-use crate::unpack::Unpacked;
-use crate::unpack::unpack;
+use radau_core::pack::run_at;
+use radau_core::places::DOUBLES;
+use radau_core::places::WORDS;
 ghost use mathlib.Core.Path.{_≡_};
-ghost use Rattle.export.specs.Held.{heldNumber, heldStep};
-ghost use Rattle.export.specs.State.{unpackOf};
+ghost use Rattle.export.specs.Held.{heldStep};
 
-// Writes the step that the run holds: at a report what `elchepur_interpolate` and `elchepur_bounds` take as h. Answers
-// 0; or 13 where the words are no state's, and then nothing is written.
+// The step that the run holds: at a report what `elchepur_interpolate` and `elchepur_bounds` take as h.
 #[no_mangle]
-pub extern "C" fn elchepur_held_step(state: &[u64; 67], h: &mut f64) -> u64
-    ensures { λ r. ⌜ (r ≡ heldNumber (unpackOf (now (state .entry))))
-        × (now (h .exit) ≡ heldStep (unpackOf (now (state .entry))) (now (h .entry))) ⌝ }
+pub extern "C" fn elchepur_held_step(words: &[usize; WORDS], doubles: &[f64; DOUBLES]) -> f64
+    ensures { λ r. ⌜ r ≡ heldStep (now (words .entry)) (now (doubles .entry)) ⌝ }
 {
-    match unpack(*state) {
-        Unpacked::Not => 13,
-        Unpacked::Run(run) => {
-            *h = run.held_step();
-            0
-        }
-    }
+    let run = run_at(words, doubles);
+    run.held_step()
 }

@@ -1,19 +1,20 @@
-// A run over the border: opened, advanced, and its result told. The state goes in and out as 67 words, the request as
-// three numbers and two points.
+// A run over the border: opened, advanced, and its result told. The state goes in and out as the two arrays of
+// `radau_core`, the request as three numbers and two points.
 use crate::choices::tolerances;
 use crate::settings::given_settings;
 use crate::talk::reply_of;
 use crate::talk::tell_answer;
 use crate::talk::tell_opened;
 use crate::talk::tell_result;
-use crate::unpack::Unpacked;
-use crate::unpack::unpack;
 use opening::open;
 use radau::advance::Resumed;
+use radau_core::pack::run_at;
+use radau_core::places::DOUBLES;
+use radau_core::places::WORDS;
 ghost use mathlib.Core.Path.{_≡_};
 ghost use Rattle.state.specs.Memory.{memory, amounts, newton, given, factors, differences};
 ghost use Rattle.opening.specs.Rows.{opening};
-ghost use Rattle.export.specs.Choices.{tolerancesOf};
+ghost use Rattle.radau_core.specs.Choices.{tolerancesOf};
 ghost use Rattle.export.specs.Talk.{settingsGiven, crossed, left, openLeft, advanceLeft, ended, resultLeft};
 
 // Opens a run: 0, or document 01's number, and then nothing is written. Where `lists` is not 0 the tolerances are the
@@ -28,7 +29,8 @@ pub extern "C" fn elchepur_open(
     lists: u64,
     rtol_scalar: f64,
     atol_scalar: f64,
-    state: &mut [u64; 67],
+    words: &mut [usize; WORDS],
+    doubles: &mut [f64; DOUBLES],
     told: &mut [u64; 3],
     at: &mut [f64; 2],
     y: &[f64],
@@ -54,7 +56,8 @@ pub extern "C" fn elchepur_open(
     f_perturbed: &mut [f64],
     f_origin: &mut [f64],
 ) -> u64
-    ensures { λ r. ⌜ left (crossed r (now (state .exit)) (now (told .exit)) (now (at .exit)))
+    ensures { λ r. ⌜ left
+        (crossed r (now (words .exit)) (now (doubles .exit)) (now (told .exit)) (now (at .exit)))
         (memory
         (amounts (now (y .entry)) (now (f0 .exit)) (now (scal .exit)) (now (cont .exit)))
         (newton (now (z1 .exit)) (now (z2 .exit)) (now (z3 .exit)) (now (f1 .exit)) (now (f2 .exit)) (now (f3 .exit)))
@@ -69,7 +72,7 @@ pub extern "C" fn elchepur_open(
         (given (now (rtol .entry)) (now (atol .entry)) (now (mass .entry)) (now (jac .entry)))
         (factors (now (e1 .entry)) (now (e2r .entry)) (now (e2i .entry)) (now (ip1 .entry)) (now (ip2 .entry)))
         (differences (now («y_perturbed» .entry)) (now («f_perturbed» .entry)) (now («f_origin» .entry)))))
-        (now (state .entry)) (now (told .entry)) (now (at .entry)) ⌝ }
+        (now (words .entry)) (now (doubles .entry)) (now (told .entry)) (now (at .entry)) ⌝ }
 {
     let opened = open(
         given_settings(numbers, floats),
@@ -100,14 +103,15 @@ pub extern "C" fn elchepur_open(
         f_perturbed,
         f_origin,
     );
-    tell_opened(opened, state, told, at)
+    tell_opened(opened, words, doubles, told, at)
 }
 
 // Advances a run by a reply: 1 filled, 2 continue, 3 interrupt, 4 modified with the new x, 5 a mark. 0, or 13, 14 or
 // 15, and then nothing is written.
 #[no_mangle]
 pub extern "C" fn elchepur_advance(
-    state: &mut [u64; 67],
+    words: &mut [usize; WORDS],
+    doubles: &mut [f64; DOUBLES],
     reply: u64,
     value: f64,
     told: &mut [u64; 3],
@@ -135,14 +139,16 @@ pub extern "C" fn elchepur_advance(
     f_perturbed: &mut [f64],
     f_origin: &mut [f64],
 ) -> u64
-    ensures { λ r. ⌜ left (crossed r (now (state .exit)) (now (told .exit)) (now (at .exit)))
+    ensures { λ r. ⌜ left
+        (crossed r (now (words .exit)) (now (doubles .exit)) (now (told .exit)) (now (at .exit)))
         (memory
         (amounts (now (y .exit)) (now (f0 .entry)) (now (scal .exit)) (now (cont .exit)))
         (newton (now (z1 .exit)) (now (z2 .exit)) (now (z3 .exit)) (now (f1 .exit)) (now (f2 .exit)) (now (f3 .exit)))
         (given (now (rtol .entry)) (now (atol .entry)) (now (mass .entry)) (now (jac .exit)))
         (factors (now (e1 .exit)) (now (e2r .exit)) (now (e2i .exit)) (now (ip1 .exit)) (now (ip2 .exit)))
         (differences (now («y_perturbed» .exit)) (now («f_perturbed» .exit)) (now («f_origin» .exit))))
-        ≡ advanceLeft reply value (now (state .entry)) (now (told .entry)) (now (at .entry))
+        ≡ advanceLeft reply value (now (words .entry)) (now (doubles .entry)) (now (told .entry))
+        (now (at .entry))
         (memory
         (amounts (now (y .entry)) (now (f0 .entry)) (now (scal .entry)) (now (cont .entry)))
         (newton (now (z1 .entry)) (now (z2 .entry)) (now (z3 .entry))
@@ -151,54 +157,48 @@ pub extern "C" fn elchepur_advance(
         (factors (now (e1 .entry)) (now (e2r .entry)) (now (e2i .entry)) (now (ip1 .entry)) (now (ip2 .entry)))
         (differences (now («y_perturbed» .entry)) (now («f_perturbed» .entry)) (now («f_origin» .entry)))) ⌝ }
 {
-    match unpack(*state) {
-        Unpacked::Not => 13,
-        Unpacked::Run(run) => {
-            let stage = run.stage;
-            let reply = reply_of(stage, reply, value);
-            let turn = Resumed { run, reply };
-            let answer = turn.advance(
-                y,
-                f0,
-                scal,
-                cont,
-                z1,
-                z2,
-                z3,
-                f1,
-                f2,
-                f3,
-                rtol,
-                atol,
-                mass,
-                jac,
-                e1,
-                e2r,
-                e2i,
-                ip1,
-                ip2,
-                y_perturbed,
-                f_perturbed,
-                f_origin,
-            );
-            tell_answer(answer, state, told, at)
-        }
-    }
+    let run = run_at(words, doubles);
+    let stage = run.stage;
+    let reply = reply_of(stage, reply, value);
+    let turn = Resumed { run, reply };
+    let answer = turn.advance(
+        y,
+        f0,
+        scal,
+        cont,
+        z1,
+        z2,
+        z3,
+        f1,
+        f2,
+        f3,
+        rtol,
+        atol,
+        mass,
+        jac,
+        e1,
+        e2r,
+        e2i,
+        ip1,
+        ip2,
+        y_perturbed,
+        f_perturbed,
+        f_origin,
+    );
+    tell_answer(answer, words, doubles, told, at)
 }
 
-// Tells the result of a run that has ended: 0, with the status and the counts, h and x; 13 where the words are no
-// state's, 29 where the run has not ended.
+// Tells the result of a run that has ended: 0, with the status and the counts, h and x; 29 where it has not.
 #[no_mangle]
 pub extern "C" fn elchepur_result(
-    state: &[u64; 67],
+    words: &[usize; WORDS],
+    doubles: &[f64; DOUBLES],
     numbers: &mut [u64; 7],
     floats: &mut [f64; 2],
 ) -> u64
     ensures { λ r. ⌜ ended r (now (numbers .exit)) (now (floats .exit))
-        ≡ resultLeft (now (state .entry)) (now (numbers .entry)) (now (floats .entry)) ⌝ }
+        ≡ resultLeft (now (words .entry)) (now (doubles .entry)) (now (numbers .entry)) (now (floats .entry)) ⌝ }
 {
-    match unpack(*state) {
-        Unpacked::Not => 13,
-        Unpacked::Run(run) => tell_result(run.result(), numbers, floats),
-    }
+    let run = run_at(words, doubles);
+    tell_result(run.result(), numbers, floats)
 }

@@ -1,8 +1,10 @@
 // What a run and its host say to each other, as numbers.
 use crate::choices::flag_word;
-use crate::pack::packed;
-use crate::pack::put_moving;
 use opening::admission::asking_at;
+use radau_core::pack::doubles_of;
+use radau_core::pack::words_of;
+use radau_core::places::DOUBLES;
+use radau_core::places::WORDS;
 use state::refusal_number;
 use state::run::Stage;
 use state::status_number;
@@ -14,10 +16,9 @@ use state::talk::Reply;
 use state::talk::Request;
 use state::talk::Result;
 ghost use mathlib.Core.Path.{_≡_};
-ghost use lib.ListN.{length};
 ghost use Rattle.opening.specs.Admission.{askingAt};
 ghost use Rattle.export.specs.Talk.{kindNumber, placeNumber, requestFlag, toldOf, atOf, replyOf};
-ghost use Rattle.export.specs.Talk.{crossed, ofOpened, writtenOf, ended, endNumbers, ofResult};
+ghost use Rattle.export.specs.Talk.{crossed, ofOpened, ofAnswer, ended, endNumbers, ofResult};
 
 fn kind_number(request: Request) -> u64
     ensures { λ r. ⌜ r ≡ kindNumber request ⌝ }
@@ -115,18 +116,19 @@ pub fn reply_of(stage: Stage, reply: u64, value: f64) -> Reply
 // Writes what an opening answers.
 pub fn tell_opened(
     opened: Opened,
-    state: &mut [u64; 67],
+    words: &mut [usize; WORDS],
+    doubles: &mut [f64; DOUBLES],
     told: &mut [u64; 3],
     at: &mut [f64; 2],
 ) -> u64
-    ensures { λ r. ⌜ crossed r (now (state .exit)) (now (told .exit)) (now (at .exit))
-        ≡ ofOpened opened (now (state .entry)) (now (told .entry)) (now (at .entry)) ⌝ }
+    ensures { λ r. ⌜ crossed r (now (words .exit)) (now (doubles .exit)) (now (told .exit)) (now (at .exit))
+        ≡ ofOpened opened (now (words .entry)) (now (doubles .entry)) (now (told .entry)) (now (at .entry)) ⌝ }
 {
     match opened {
         Opened::Refused(refusal) => refusal_number(refusal),
         Opened::Asked(run, request, place) => {
-            let words = packed(run);
-            *state = words;
+            *words = words_of(run);
+            *doubles = doubles_of(run);
             tell(request, place, told);
             tell_points(request, at);
             0
@@ -134,22 +136,22 @@ pub fn tell_opened(
     }
 }
 
-// Writes what an advance answers, over the words of the run that was advanced: those that it
-// keeps are not written again.
+// Writes what an advance answers.
 pub fn tell_answer(
     answer: Answer,
-    state: &mut [u64; 67],
+    words: &mut [usize; WORDS],
+    doubles: &mut [f64; DOUBLES],
     told: &mut [u64; 3],
     at: &mut [f64; 2],
 ) -> u64
-    requires { ⌜ length (now state) ≡ 67 ⌝ }
-    ensures { λ r. ⌜ crossed r (now (state .exit)) (now (told .exit)) (now (at .exit))
-        ≡ writtenOf answer (now (state .entry)) (now (told .entry)) (now (at .entry)) ⌝ }
+    ensures { λ r. ⌜ crossed r (now (words .exit)) (now (doubles .exit)) (now (told .exit)) (now (at .exit))
+        ≡ ofAnswer answer (now (words .entry)) (now (doubles .entry)) (now (told .entry)) (now (at .entry)) ⌝ }
 {
     match answer {
         Answer::Refused(_, refusal) => refusal_number(refusal),
         Answer::Asked(run, request, place) => {
-            put_moving(run, state);
+            *words = words_of(run);
+            *doubles = doubles_of(run);
             tell(request, place, told);
             tell_points(request, at);
             0

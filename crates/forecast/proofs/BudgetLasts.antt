@@ -32,7 +32,7 @@ use Rattle.model_run.specs.declared.run.Task.{Task}
 use Rattle.forecast.specs.Account.{mostOf}
 use Rattle.forecast.specs.Told.{Ends}
 use Rattle.forecast.proofs.Turns.{always, last-talk}
-use Rattle.forecast.proofs.HostFair.{host-fair}
+use Rattle.model_run.proofs.HostFair.{host-fair}
 
 -- ---- how many requests
 

@@ -37,7 +37,7 @@ use Rattle.model_run.specs.Host.{sourceAt, action, derivedAt, answeredBy}
 use Rattle.model_run.specs.Budget.{Answering}
 use Rattle.forecast.specs.Forecast.{openingFor, reactionFor, done, hostOf}
 use Rattle.forecast.proofs.Turns.{always, doneAt, pointAt, held-at}
-use Rattle.forecast.proofs.HostFair.{host-fair}
+use Rattle.model_run.proofs.HostFair.{host-fair}
 use Rattle.forecast.specs.Account.{mostOf}
 use Rattle.forecast.proofs.BudgetLasts.{Reaches, starts, reaches}
 use Rattle.forecast.proofs.ModelRead.{ratesFor, speciesFor, rates-enough}

@@ -1,6 +1,5 @@
 -- In order of reading; Theorems is what users cite.
 pub mod Turns
-pub mod HostFair
 pub mod BudgetLasts
 pub mod ModelRead
 pub mod HostsAgree

@@ -7,3 +7,5 @@ pub mod OpeningKept
 pub mod TaskLaws
 pub mod Refuted
 pub mod Determinism
+pub mod HostFair
+pub mod NoneRefused

@@ -24,7 +24,7 @@ use Rattle.model_run.specs.declared.run.Finish.the-variants as finish
 use Rattle.model_run.specs.declared.run.Task.{Task}
 use Rattle.model_run.specs.declared.run.TaskOutcome as run
 use Rattle.model_run.specs.Budget.{Standing, standing, standingAt, lastOf, budget}
-use Rattle.model_run.specs.Budget.{roomOf, memoryOf, openingOf, hostFor, ranOf}
+use Rattle.model_run.specs.Budget.{roomOf, memoryOf, openingOf, hostFor, ranOf, NoneRefused}
 
 -- ---- an array that holds one value throughout
 
@@ -38,7 +38,7 @@ module _ {X : Type 0} (x : X) where
   fits n k xs e l = rw (e, length-replicate) l
 
 -- the code's &xs[0..n]
-abbrev first : {X : Type 0} → ℕ → List X → List X
+abbrev pub first : {X : Type 0} → ℕ → List X → List X
 first n xs = take (n - 0) xs
 
 first-is : {X : Type 0} (n : ℕ) (xs : List X) → first n xs ≡ take n xs
@@ -181,6 +181,13 @@ opened-is t e o =
     ap (λ (w : OpeningOutcome). w .answer) o
     ∙ ap
     (λ (m : Memory). openOf (opening (t .settings) (t .n) (t .x0) (t .xend) (Scalars (t .rtol) (t .atol)) m) .answer) e
+
+-- no turn is refused from the memory that is lent
+pub none-lent : (t : Task) (rates : List Float) (species : List ℕ) (here : Run) (q : Request) (p : Place) {m : Memory}
+    → m ≡ memoryOf t → NoneRefused (hostFor t rates species) (point here q p (memoryOf t))
+    → NoneRefused (hostFor t rates species) (point here q p m)
+none-lent t rates species here q p e none =
+    subst (λ (m : Memory). NoneRefused (hostFor t rates species) (point here q p m)) (sym e) none
 
 pub ran-is : (t : Task) (rates : List Float) (species : List ℕ) (here : Run)
     (q : Request) (p : Place) {n : ℕ} {m m' : Memory} {r : Run}

@@ -1,5 +1,7 @@
 -- A run that is answered by a host up to its end.
 use Prim.Native.Nat.{ℕ, zero, suc, _*_}
+use mathlib.Core.Bool.{false}
+use mathlib.Core.Path.{_≡_}
 use mathlib.Core.List.{List, _++_}
 use lib.Dec.{leb}
 use lib.ListN.{take, drop}
@@ -11,6 +13,9 @@ use Rattle.state.specs.declared.talk.Opened.{Opened}
 use Rattle.state.specs.declared.talk.Opened.the-variants as opened
 use Rattle.state.specs.declared.talk.Place.{Place}
 use Rattle.state.specs.declared.talk.Request.{Request}
+use Rattle.state.specs.declared.talk.Verdict.the-variants.{Passed}
+use Rattle.opening.specs.Rows.{verdictOf}
+use Rattle.opening.specs.Admission.{admissionRows}
 use Rattle.state.specs.Memory.{Memory, memory, amounts, newton, given, factors, differences, zeros, noughts}
 use Rattle.opening.specs.Rows.{Opening, opening}
 use Rattle.opening.specs.Opening.{openOf}
@@ -40,6 +45,16 @@ turnOf host here =
 unfoldable pub lastOf : Answering → ℕ → Point → Point
 lastOf host zero here = here
 lastOf host (suc k) here = lastOf host k (pick (isEnd (here .request)) here (turnOf host here))
+
+-- the host's reply to what is asked here is admitted
+abbrev pub Admits : Answering → Point → Type 0
+Admits host here =
+    let a = host (here .request) (here .place) (here .memory) in
+    verdictOf (admissionRows (here .run) (a .reply) (wrote (here .request) (here .place) a (here .memory))) ≡ Passed
+
+-- no turn is refused before the end
+abbrev pub NoneRefused : Answering → Point → Type 0
+NoneRefused host start = (k : ℕ) → isEnd (lastOf host k start .request) ≡ false → Admits host (lastOf host k start)
 
 -- the run and the memory at a point
 pub record Standing : Type 0 where

@@ -1,16 +1,22 @@
 // A run in lent memory, answered and advanced turn by turn up to its end.
 use crate::host::answer;
-use radau::advance::Resumed;
+use radau_core::advance::advanced;
+use radau_core::pack::doubles_of;
+use radau_core::pack::run_at;
+use radau_core::pack::words_of;
+use radau_core::places::DOUBLES;
+use radau_core::places::WORDS;
+use radau_core::step::Call;
 use state::run::Run;
-use state::talk::Answer;
 use state::talk::Place;
 use state::talk::Request;
 ghost use mathlib.Core.Path.{_≡_};
-ghost use Rattle.state.specs.Memory.{Memory, memory, amounts, newton, given, factors, differences};
+ghost use Rattle.state.specs.Memory.{memory, amounts, newton, given, factors, differences};
 ghost use Rattle.history.specs.Host.{isEnd};
-ghost use Rattle.history.specs.History.{point, nextPoint};
+ghost use Rattle.history.specs.History.{point};
+ghost use Rattle.radau_core.specs.Places.{runAt, Sized};
 ghost use Rattle.model_run.specs.Host.{answeredBy};
-ghost use Rattle.model_run.specs.Budget.{turnOf, lastOf, budget, standing, standingAt};
+ghost use Rattle.model_run.specs.Budget.{turnOf, lastOf, budget, standing, standingAt, Admits, NoneRefused};
 
 // More requests than any run has: 2 to the 28th.
 const BUDGET: u64 = 268_435_456;
@@ -22,33 +28,11 @@ pub struct Pending {
     pub place: Place,
 }
 
-// Where an answer leaves the talk; a refusal leaves the request open.
-fn next(pending: Pending, answer: Answer) -> Pending
-    ensures { λ r. ⌜ ((m w : Memory)
-        → point (r .run) (r .request) (r .place) w
-        ≡ nextPoint (point (pending .run) (pending .request) (pending .place) m) answer w) ⌝ }
-{
-    match answer {
-        Answer::Asked(run, request, place) => Pending {
-            run,
-            request,
-            place,
-        },
-        Answer::Refused(run, _) => {
-            let request = pending.request;
-            let place = pending.place;
-            Pending {
-                run,
-                request,
-                place,
-            }
-        }
-    }
-}
-
 // The host does what is asked, and the run is advanced by its reply.
 fn turned(
-    pending: Pending,
+    words: &mut [usize; WORDS],
+    doubles: &mut [f64; DOUBLES],
+    call: Call,
     reactions: usize,
     rates: &[f64],
     species: &[usize],
@@ -74,17 +58,25 @@ fn turned(
     y_perturbed: &mut [f64],
     f_perturbed: &mut [f64],
     f_origin: &mut [f64],
-) -> Pending
-    ensures { λ r. ⌜ point (r .run) (r .request) (r .place)
-        (memory
+) -> Call
+    requires { ⌜ Sized (now words) (now doubles) ⌝ }
+    requires { ⌜ Admits (answeredBy reactions (now rates) (now species))
+        (point (runAt (now words) (now doubles)) (call .request) (call .place) (memory
+        (amounts (now y) (now f0) (now scal) (now cont))
+        (newton (now z1) (now z2) (now z3) (now f1) (now f2) (now f3))
+        (given (now rtol) (now atol) (now mass) (now jac))
+        (factors (now e1) (now e2r) (now e2i) (now ip1) (now ip2))
+        (differences (now «y_perturbed») (now «f_perturbed») (now «f_origin»)))) ⌝ }
+    ensures { λ _. ⌜ Sized (now (words .exit)) (now (doubles .exit)) ⌝ }
+    ensures { λ r. ⌜ point (runAt (now (words .exit)) (now (doubles .exit))) (r .request) (r .place) (memory
         (amounts (now (y .exit)) (now (f0 .exit)) (now (scal .exit)) (now (cont .exit)))
-        (newton (now (z1 .exit)) (now (z2 .exit)) (now (z3 .exit)) (now (f1 .exit)) (now (f2 .exit)) (now (f3 .exit)))
+        (newton (now (z1 .exit)) (now (z2 .exit)) (now (z3 .exit))
+        (now (f1 .exit)) (now (f2 .exit)) (now (f3 .exit)))
         (given (now (rtol .entry)) (now (atol .entry)) (now (mass .entry)) (now (jac .exit)))
         (factors (now (e1 .exit)) (now (e2r .exit)) (now (e2i .exit)) (now (ip1 .exit)) (now (ip2 .exit)))
         (differences (now («y_perturbed» .exit)) (now («f_perturbed» .exit)) (now («f_origin» .exit))))
         ≡ turnOf (answeredBy reactions (now (rates .entry)) (now (species .entry)))
-        (point (pending .run) (pending .request) (pending .place)
-        (memory
+        (point (runAt (now (words .entry)) (now (doubles .entry))) (call .request) (call .place) (memory
         (amounts (now (y .entry)) (now (f0 .entry)) (now (scal .entry)) (now (cont .entry)))
         (newton (now (z1 .entry)) (now (z2 .entry)) (now (z3 .entry))
         (now (f1 .entry)) (now (f2 .entry)) (now (f3 .entry)))
@@ -92,9 +84,8 @@ fn turned(
         (factors (now (e1 .entry)) (now (e2r .entry)) (now (e2i .entry)) (now (ip1 .entry)) (now (ip2 .entry)))
         (differences (now («y_perturbed» .entry)) (now («f_perturbed» .entry)) (now («f_origin» .entry))))) ⌝ }
 {
-    let run = pending.run;
-    let request = pending.request;
-    let place = pending.place;
+    let request = call.request;
+    let place = call.place;
     let reply = answer(
         request,
         place,
@@ -112,8 +103,10 @@ fn turned(
         f_perturbed,
         f_origin,
     );
-    let turn = Resumed { run, reply };
-    let led = turn.advance(
+    advanced(
+        words,
+        doubles,
+        reply,
         y,
         f0,
         scal,
@@ -136,8 +129,7 @@ fn turned(
         y_perturbed,
         f_perturbed,
         f_origin,
-    );
-    next(pending, led)
+    )
 }
 
 fn is_end(request: Request) -> bool
@@ -180,6 +172,13 @@ pub fn to_end(
     f_perturbed: &mut [f64],
     f_origin: &mut [f64],
 ) -> Run
+    requires { ⌜ NoneRefused (answeredBy reactions (now rates) (now species))
+        (point (pending .run) (pending .request) (pending .place) (memory
+        (amounts (now y) (now f0) (now scal) (now cont))
+        (newton (now z1) (now z2) (now z3) (now f1) (now f2) (now f3))
+        (given (now rtol) (now atol) (now mass) (now jac))
+        (factors (now e1) (now e2r) (now e2i) (now ip1) (now ip2))
+        (differences (now «y_perturbed») (now «f_perturbed») (now «f_origin»)))) ⌝ }
     ensures { λ r. ⌜ standing r (memory
         (amounts (now (y .exit)) (now (f0 .exit)) (now (scal .exit)) (now (cont .exit)))
         (newton (now (z1 .exit)) (now (z2 .exit)) (now (z3 .exit)) (now (f1 .exit)) (now (f2 .exit)) (now (f3 .exit)))
@@ -196,14 +195,20 @@ pub fn to_end(
         (factors (now (e1 .entry)) (now (e2r .entry)) (now (e2i .entry)) (now (ip1 .entry)) (now (ip2 .entry)))
         (differences (now («y_perturbed» .entry)) (now («f_perturbed» .entry)) (now («f_origin» .entry)))))) ⌝ }
 {
-    let mut here = pending;
+    let run = pending.run;
+    let request = pending.request;
+    let place = pending.place;
+    let mut words = words_of(run);
+    let mut doubles = doubles_of(run);
+    let mut here = Call { request, place };
     for _ in 0..BUDGET {
         let request = here.request;
         if is_end(request) {
-            let last = here.run;
-            return last;
+            return run_at(&words, &doubles);
         }
         here = turned(
+            &mut words,
+            &mut doubles,
             here,
             reactions,
             rates,
@@ -232,6 +237,5 @@ pub fn to_end(
             f_origin,
         );
     }
-    let last = here.run;
-    last
+    run_at(&words, &doubles)
 }

@@ -11,7 +11,8 @@ ghost use Prim.Native.Nat.{_*_, _≤_};
 ghost use mathlib.Core.Path.{_≡_};
 ghost use Rattle.state.specs.Memory.{zeros, noughts};
 ghost use Rattle.opening.specs.Opening.{openOf};
-ghost use Rattle.model_run.specs.Budget.{roomOf, openingOf, ranOf, runOf};
+ghost use Rattle.history.specs.History.{point};
+ghost use Rattle.model_run.specs.Budget.{NoneRefused, hostFor, memoryOf, roomOf, openingOf, ranOf, runOf};
 
 // What a run is opened with, the amounts by value, and how many reactions there are. Both tolerances are scalars.
 pub struct Task {
@@ -138,6 +139,8 @@ fn ran(
     species: &[usize],
 ) -> TaskOutcome
     requires { ⌜ (n ≤ 32) × (n ≡ roomOf (task .n)) × (n4 ≡ 4 * n) × (nn ≡ n * n) ⌝ }
+    requires { ⌜ NoneRefused (hostFor task (now rates) (now species))
+        (point (pending .run) (pending .request) (pending .place) (memoryOf task)) ⌝ }
     ensures { λ r. ⌜ r
         ≡ ranOf task (now (rates .entry)) (now (species .entry)) (pending .run) (pending .request) (pending .place) ⌝ }
 {

@@ -1,19 +1,6 @@
-// The solver: a run is advanced from one request to the next, with the bits of `solve` (radau.rs). Its definitions, and
-// the laws that its proofs cite, stand in `solve_blocks`. Each offered function is settled by its contract for every
-// input, so it asks nothing of its caller.
+// The solver for runs that come by value: a run is advanced from one request to the next, with the bits of `solve`
+// (radau.rs). The work is that of `radau_core`, where a run stands in two arrays. Here a run that is not fit is
+// refused, so that each offered function is settled by its contract for every input, and asks nothing of its caller.
 pub mod advance;
-mod attempt;
-mod control;
-mod entries;
-mod estimate;
-mod jacobian;
-mod judge;
-mod matrices;
-mod moving;
-mod newton;
-mod passes;
-mod report;
-mod round;
-mod scale;
 
 pub use advance::Resumed;

@@ -3,7 +3,7 @@ use mathlib.Core.Path.{refl}
 use borrow.Author.Needs.{needs}
 use borrow.Author.Tests.{eq-eqb, ne-eqb}
 use Rattle.words.proofs.Branch.{yes, no}
-use Rattle.export.specs.Choices.{massOf}
+use Rattle.radau_core.specs.Choices.{massOf}
 use Rattle.export.proofs.choices.mass.Statement.{statement}
 use Rattle.export.proofs.choices.mass.Tie as tie
 

@@ -3,7 +3,7 @@ use mathlib.Core.Path.{refl}
 use borrow.Author.Needs.{needs}
 use borrow.Author.Tests.{eq-eqb, ne-eqb}
 use Rattle.words.proofs.Branch.{yes, no}
-use Rattle.export.specs.Choices.{numberOf}
+use Rattle.radau_core.specs.Choices.{numberOf}
 use Rattle.export.proofs.choices.number.Statement.{statement}
 use Rattle.export.proofs.choices.number.Tie as tie
 

@@ -3,7 +3,7 @@ use mathlib.Core.Path.{refl}
 use borrow.Author.Needs.{needs}
 use borrow.Author.Tests.{eq-eqb, ne-eqb}
 use Rattle.words.proofs.Branch.{yes, no}
-use Rattle.export.specs.Choices.{ruleOf}
+use Rattle.radau_core.specs.Choices.{ruleOf}
 use Rattle.export.proofs.choices.rule.Statement.{statement}
 use Rattle.export.proofs.choices.rule.Tie as tie
 

@@ -3,7 +3,7 @@ use mathlib.Core.Path.{refl}
 use borrow.Author.Needs.{needs}
 use borrow.Author.Tests.{eq-eqb, ne-eqb}
 use Rattle.words.proofs.Branch.{yes, no}
-use Rattle.export.specs.Choices.{wholeOf}
+use Rattle.radau_core.specs.Choices.{wholeOf}
 use Rattle.export.proofs.choices.whole.Statement.{statement}
 use Rattle.export.proofs.choices.whole.Tie as tie
 

@@ -1,11 +1,11 @@
--- `elchepur_advance` meets its contract: words that are no state are refused, else the advance is told over them.
+-- `elchepur_advance` meets its contract: the advance of the run that the arrays hold is told.
 use Rattle.state.specs.Memory.{Memory, memory, amounts, newton, given, factors, differences}
-use Rattle.export.proofs.RunLaws.{are-many, advance-not, advance-run}
+use Rattle.export.proofs.RunLaws.{advance-left}
 use borrow.Author.Needs.{needs}
 use Rattle.export.proofs.run.elchepur_advance.Statement.{statement}
 use Rattle.export.proofs.run.elchepur_advance.Tie as tie
 
--- the memory at entry, and as the advance left it
+-- the memory at entry
 abbrev memory-at : (c : tie.Start) → Memory
 memory-at c =
     let a = c .args in
@@ -16,13 +16,24 @@ memory-at c =
     (factors (a .e1 .now) (a .e2r .now) (a .e2i .now) (a .ip1 .now) (a .ip2 .now))
     (differences (a .y-perturbed .now) (a .f-perturbed .now) (a .f-origin .now))
 
+-- the places on the way
+abbrev told-at : (c : tie.After-advance) → tie.After-reply-of
+told-at c =
+    c .before .before .before .before .before .before .before .before .before .before .before .before .before .before
+    .before .before .before .before .before
+
+abbrev held-at : (c : tie.After-advance) → tie.After-run-at
+held-at c = told-at c .before
+
+abbrev start : (c : tie.After-advance) → tie.Start
+start c =
+    held-at c .before .before .before .before .before .before .before .before .before .before .before .before .before
+    .before .before .before .before .before .before .before .before .before .before .before .before
+
 abbrev memory-left : (c : tie.After-advance) → Memory
 memory-left c =
     let l = c .advance .last in
-    let a = c .before .before .before .before .before .before .before .before .before .before .before .before .before
-    .before .before .before .before .before .before .before .before .before .before .before .before .before .before
-    .before .before .before .before .before .before .before .before .before .before .before .before .before .before
-    .before .before .before .before .before .before .args in
+    let a = start c .args in
     memory
     (amounts (l .1 .0) (a .f0 .now) (l .1 .1 .1 .0) (l .1 .1 .1 .1 .0))
     (newton (l .1 .1 .1 .1 .1 .0) (l .1 .1 .1 .1 .1 .1 .0) (l .1 .1 .1 .1 .1 .1 .1 .0) (l .1 .1 .1 .1 .1 .1 .1 .1 .0)
@@ -36,40 +47,11 @@ memory-left c =
     (l .1 .1 .1 .1 .1 .1 .1 .1 .1 .1 .1 .1 .1 .1 .1 .1 .1 .1 .1 .1 .1 .0)
     (l .1 .1 .1 .1 .1 .1 .1 .1 .1 .1 .1 .1 .1 .1 .1 .1 .1 .1 .1 .1 .1 .1 .0))
 
--- the places on the way
-abbrev ready : (c : tie.After-tell-answer-arg3) → tie.After-advance
-ready c =
+abbrev advanced : (c : tie.After-tell-answer) → tie.After-advance
+advanced c =
     c .before .before .before .before .before .before .before .before .before .before .before .before .before .before
     .before .before .before .before .before .before .before .before .before .before .before .before .before .before
-    .before .before .before .before .before .before .before .before .before .before .before
-
-abbrev advanced : (c : tie.After-tell-answer) → tie.After-advance
-advanced c = ready (c .before)
-
-abbrev taken : (c : tie.After-advance) → tie.After-run
-taken c =
-    c .before .before .before .before .before .before .before .before .before .before .before .before .before .before
-    .before .before .before .before .before .before .before
-
-abbrev start : (c : tie.After-unpack) → tie.Start
-start c =
-    c .before .before .before .before .before .before .before .before .before .before .before .before .before .before
-    .before .before .before .before .before .before .before .before .before .before
-
--- words that were taken for a run are 67
-tell-answer-requires : tie.Need-tell-answer-requires
-tell-answer-requires c κs =
-    let t = taken (ready c) in
-    let u = t .before .before in
-    are-many (start u .args .state .now) (t .run .given .0 .0) (u .unpack .result)
-    (u .unpack .ensures) (t .run .given .1)
-
-returns : tie.Need-returns
-returns c =
-    let u = c .before .before in
-    let a = start u .args in
-    advance-not (a .state .now) (a .told .now) (a .at .now) (a .reply) (a .value) (u .unpack .result)
-    (u .unpack .ensures) (memory-at (start u)) (c .enum-told .given .1)
+    .before .before .before .before .before .before .before .before .before .before .before .before .before
 
 same-length : tie.Need-same-length
 same-length c = advanced c .advance .kept .1 .0
@@ -125,23 +107,20 @@ same-length-17 c = advanced c .advance .kept .1 .1 .1 .1 .1 .1 .1 .1 .1 .1 .1 .1
 same-length-18 : tie.Need-same-length-18
 same-length-18 c = advanced c .advance .kept .1 .1 .1 .1 .1 .1 .1 .1 .1 .1 .1 .1 .1 .1 .1 .1 .1 .1 .1 .1 .1 .1 .0
 
-returns-2 : tie.Need-returns-2
-returns-2 c =
+returns : tie.Need-returns
+returns c =
     let o = advanced c in
-    let t = taken o in
-    let u = t .before .before in
-    let a = start u .args in
-    advance-run (a .state .now) (a .told .now) (a .at .now) (a .reply) (a .value) (u .unpack .result)
-    (u .unpack .ensures) (t .run .given .0 .0) (memory-at (start u)) (memory-left o)
-    (t .run .given .1)
-    (o .before .before .before .before .before .before .before .before .before .before .before .before .before .before
-    .before .before .before .before .before .reply-of .ensures)
+    let a = start o .args in
+    advance-left (a .words .now) (a .doubles .now) (a .told .now) (a .at .now) (a .reply) (a .value)
+    (memory-at (start o)) (memory-left o)
+    (held-at o .run-at .ensures)
+    (told-at o .reply-of .ensures)
     (o .advance .ensures)
     (c .tell-answer .ensures)
 
 pub elchepur-advance-spec : {M : Type 1} → statement M
 elchepur-advance-spec =
-    tie.close (tie.spec (λ c κs. search needs) (λ c. search needs) (λ c. search needs) (λ c κs. search needs)
-    (λ c κs. search needs) tell-answer-requires returns same-length same-length-2 same-length-3 same-length-4
-    same-length-5 same-length-6 same-length-7 same-length-8 same-length-9 same-length-10 same-length-11 same-length-12
-    same-length-13 same-length-14 same-length-15 same-length-16 same-length-17 same-length-18 returns-2)
+    tie.close (tie.spec (λ c κs. search needs) (λ c κs. search needs) (λ c κs. search needs) (λ c κs. search needs)
+    same-length same-length-2 same-length-3 same-length-4 same-length-5 same-length-6 same-length-7 same-length-8
+    same-length-9 same-length-10 same-length-11 same-length-12 same-length-13 same-length-14 same-length-15
+    same-length-16 same-length-17 same-length-18 returns)

@@ -46,7 +46,7 @@ opened c =
     c .before .before .before .before .before .before .before .before .before .before .before .before .before .before
     .before .before .before .before .before .before .before .before .before .before .before .before .before .before
     .before .before .before .before .before .before .before .before .before .before .before .before .before .before
-    .before .before .before .before
+    .before .before .before .before .before
 
 abbrev start : (c : tie.After-open) → tie.Start
 start c =
@@ -123,7 +123,8 @@ returns : tie.Need-returns
 returns c =
     let o = opened c in
     let a = start o .args in
-    open-left (a .state .now) (a .told .now) (a .at .now) (a .n) (a .x0) (a .xend) (memory-at (start o)) (memory-left o)
+    open-left (a .words .now) (a .doubles .now) (a .told .now) (a .at .now) (a .n) (a .x0) (a .xend)
+    (memory-at (start o)) (memory-left o)
     (o .before .before .before .before .before .before .before .before .before .before .before .before .before .before
     .before .before .before .before .before .before .before .before .before .given-settings .ensures)
     (o .before .before .before .before .before .before .before .before .before .before .before .before .before .before

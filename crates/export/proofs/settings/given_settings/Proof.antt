@@ -1,7 +1,7 @@
 -- `given_settings` meets its contract: field by field.
 use Rattle.words.specs.Words.{_!_}
-use Rattle.export.specs.Choices.{flagOf}
-use Rattle.export.specs.State.{wordAt}
+use Rattle.radau_core.specs.Choices.{flagOf}
+use Rattle.radau_core.specs.Places.{_#_}
 use borrow.Author.Needs.{needs}
 use Rattle.export.proofs.settings.given_settings.Statement.{statement}
 use Rattle.export.proofs.settings.given_settings.Tie as tie
@@ -18,23 +18,23 @@ returns c =
     let x = start .args .x .now in
     λ i.
     record {
-      «max_steps» = wordAt w 0;
+      «max_steps» = w # 0;
       uround = x ! 0;
       «safety_factor» = x ! 1;
       «scale_min» = x ! 2;
       «scale_max» = x ! 3;
       «max_step» = at-number2 .before .before .before .number .ensures i;
       «min_step» = at-number2 .number2 .ensures i;
-      «newton_maxiter» = wordAt w 1;
+      «newton_maxiter» = w # 1;
       «newton_tol» = at-number3 .number3 .ensures i;
-      predictive = flagOf (wordAt w 2);
+      predictive = flagOf (w # 2);
       nind1 = at-whole .whole .ensures i;
       nind2 = at-whole3 .before .before .before .whole2 .ensures i;
       nind3 = at-whole3 .whole3 .ensures i;
       mass = at-source .before .before .mass .ensures i;
       source = at-source .source .ensures i;
       «first_step» = c .before .before .before .number4 .ensures i;
-      «dense_output» = flagOf (wordAt w 3);
+      «dense_output» = flagOf (w # 3);
       rule = c .rule .ensures i;
     }
 

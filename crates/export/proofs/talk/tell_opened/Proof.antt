@@ -9,16 +9,20 @@ unfolding ofOpened
 returns c =
     let a = c .before .before .before .before .args in
     rw (c .before .before .opened .given .1)
-    (λ i. crossed (c .refusal-number .ensures i) (a .state .now) (a .told .now) (a .at .now))
+    (λ i. crossed (c .refusal-number .ensures i) (a .words .now) (a .doubles .now) (a .told .now) (a .at .now))
 
 returns-2 : tie.Need-returns-2
 unfolding ofOpened
 returns-2 c =
-    let at-packed = c .before .before .before .before in
-    rw (at-packed .before .before .opened2 .given .1)
-    (λ i. crossed 0 (at-packed .packed .ensures i) (c .before .before .tell .ensures i) (c .tell-points .ensures i))
+    let at-doubles-of = c .before .before .before .before in
+    let at-words-of = at-doubles-of .before in
+    rw (at-words-of .before .before .opened2 .given .1)
+    (λ i.
+    crossed 0 (at-words-of .words-of .ensures i) (at-doubles-of .doubles-of .ensures i)
+    (c .before .before .tell .ensures
+    i) (c .tell-points .ensures i))
 
 pub tell-opened-spec : {M : Type 1} → statement M
 tell-opened-spec =
     tie.close (tie.spec (λ c. search needs) (λ c κs. search needs) (λ c. search needs) (λ c κs. search needs)
-    (λ c κs. search needs) (λ c κs. search needs) returns returns-2)
+    (λ c κs. search needs) (λ c κs. search needs) (λ c κs. search needs) returns returns-2)

@@ -3,6 +3,7 @@
 use mathlib.Core.Path.{_∙_}
 use borrow.Author.Needs.{needs}
 use Rattle.model_run.proofs.Room.{square-fits}
+use Rattle.model_run.proofs.NoneRefused.{task-none-refused}
 use Rattle.model_run.proofs.TaskLaws.{run-refused, run-ran}
 use Rattle.model_run.proofs.run.run.Statement.{statement}
 use Rattle.model_run.proofs.run.run.Tie as tie
@@ -17,6 +18,15 @@ mul-ran-2 : tie.Need-mul-ran-2
 mul-ran-2 c =
     let o = c .before .before .before in
     square-fits (o .before .before .room .result) (o .before .before .room .ensures .0)
+
+ran-requires : tie.Need-ran-requires
+ran-requires c κs =
+    let o = c .before .before .before in
+    let a = start o .args in (
+      search needs,
+      task-none-refused (a .task) (a .rates .now) (a .species .now) _ _ _ (o .opened .ensures)
+          (c .before .run .given .1),
+    )
 
 returns : tie.Need-returns
 returns c =
@@ -43,6 +53,6 @@ run-spec =
     (λ c. search needs)
     (λ c. search needs)
     mul-ran-2
-    (λ c κs. search needs)
+    ran-requires
     returns
     returns-2)

@@ -1,0 +1,224 @@
+// The decompositions of a pass, and what a failure leads to (radau.rs:390-419).
+use crate::kept::mass_mode;
+use crate::matrices::built;
+use crate::places::CALL_DECOMP;
+use crate::places::CALL_JAC;
+use crate::places::DOUBLES;
+use crate::places::H;
+use crate::places::HHFAC;
+use crate::places::LAST;
+use crate::places::LU;
+use crate::places::MASS;
+use crate::places::N;
+use crate::places::REJECT;
+use crate::places::SINGULAR_COUNT;
+use crate::places::WORDS;
+use crate::stage::ended;
+use crate::step::Step;
+use matrix::Decomposed;
+use matrix::lu_decomp;
+use matrix::lu_decomp_complex;
+use state::run::Status;
+ghost use mathlib.Core.Path.{_≡_};
+ghost use Prim.Native.Nat.{ℕ, _+_, _≤_, _<_, _^_};
+ghost use mathlib.Core.List.{List};
+ghost use lib.ListN.{length};
+ghost use lib.Ieee.{Float};
+ghost use Rattle.words.specs.Grid.{Square};
+ghost use Rattle.state.specs.Memory.{factors};
+ghost use Rattle.solve_blocks.specs.Setters.{inCounts, oneLu};
+ghost use Rattle.solve_blocks.specs.Matrices.{missedOf, failedOf, isErr, tried, complexTriedOf};
+ghost use Rattle.solve_blocks.specs.Matrices.{realTriedOf, triedOf, passesOn, passesOf};
+ghost use Rattle.solve_blocks.specs.Needs.{Fit, StepFit, FactorsLong};
+ghost use Rattle.radau_core.specs.Places.{runAt, Sized, stepAt, shapeAt};
+
+// After any attempt that is not accepted.
+pub fn missed(words: &mut [usize; WORDS], doubles: &mut [f64; DOUBLES])
+    requires { ⌜ Sized (now words) (now doubles) ⌝ }
+    ensures { λ _. ⌜ Sized (now (words .exit)) (now (doubles .exit)) ⌝ }
+    ensures { λ _. ⌜ runAt (now (words .exit)) (now (doubles .exit))
+        ≡ missedOf (runAt (now (words .entry)) (now (doubles .entry))) ⌝ }
+{
+    words[REJECT] = 1;
+    words[LAST] = 0;
+    words[CALL_DECOMP] = 1;
+}
+
+// A failure: the sixth since the last acceptance ends the run, another halves the step.
+pub fn failed(words: &mut [usize; WORDS], doubles: &mut [f64; DOUBLES]) -> Step
+    requires { ⌜ Sized (now words) (now doubles) ⌝ }
+    requires { ⌜ runAt (now words) (now doubles) .control .«singular_count» ≤ 5 ⌝ }
+    ensures { λ _. ⌜ Sized (now (words .exit)) (now (doubles .exit)) ⌝ }
+    ensures { λ r. ⌜ stepAt r (runAt (now (words .exit)) (now (doubles .exit)))
+        ≡ failedOf (runAt (now (words .entry)) (now (doubles .entry))) ⌝ }
+{
+    let singular_count = words[SINGULAR_COUNT] + 1;
+    words[SINGULAR_COUNT] = singular_count;
+    if 5 < singular_count {
+        return Step::Asked(ended(words, doubles, Status::SingularMatrix));
+    }
+    doubles[H] = doubles[H] * 0.5;
+    doubles[HHFAC] = 0.5;
+    missed(words, doubles);
+    Step::Main
+}
+
+fn is_err(answer: Decomposed) -> bool
+    ensures { λ r. ⌜ r ≡ isErr answer ⌝ }
+{
+    match answer {
+        Decomposed::Done => false,
+        Decomposed::RefusedOrder => true,
+        Decomposed::RefusedLength => true,
+        Decomposed::Singular => true,
+    }
+}
+
+// One more decomposition is counted.
+pub fn counted(words: &mut [usize; WORDS], doubles: &mut [f64; DOUBLES])
+    requires { ⌜ Sized (now words) (now doubles) ⌝ }
+    requires { ⌜ runAt (now words) (now doubles) .counts .lu + 1 < 2 ^ 64 ⌝ }
+    ensures { λ _. ⌜ Sized (now (words .exit)) (now (doubles .exit)) ⌝ }
+    ensures { λ _. ⌜ runAt (now (words .exit)) (now (doubles .exit))
+        ≡ inCounts oneLu (runAt (now (words .entry)) (now (doubles .entry))) ⌝ }
+{
+    words[LU] = words[LU] + 1;
+}
+
+// E2, where E1 is decomposed.
+fn complex_tried(
+    words: &mut [usize; WORDS],
+    doubles: &mut [f64; DOUBLES],
+    e2r: &mut [f64],
+    e2i: &mut [f64],
+    ip2: &mut [usize],
+) -> Step
+    requires { ⌜ Sized (now words) (now doubles) ⌝ }
+    requires { ⌜ Fit 1 (shapeAt (now words) .n) (runAt (now words) (now doubles)) ⌝ }
+    ensures { λ _. ⌜ Sized (now (words .exit)) (now (doubles .exit)) ⌝ }
+    ensures { λ r. ⌜ ((e1 : List Float) (ip1 : List ℕ)
+        → tried (stepAt r (runAt (now (words .exit)) (now (doubles .exit))))
+        (factors e1 (now (e2r .exit)) (now (e2i .exit)) ip1 (now (ip2 .exit)))
+        ≡ complexTriedOf (runAt (now (words .entry)) (now (doubles .entry)))
+        (factors e1 (now (e2r .entry)) (now (e2i .entry)) ip1 (now (ip2 .entry))) .core) ⌝ }
+{
+    let n = words[N];
+    let answer = lu_decomp_complex(n, e2r, e2i, ip2);
+    counted(words, doubles);
+    if is_err(answer) {
+        return failed(words, doubles);
+    }
+    Step::Attempt
+}
+
+fn real_tried(
+    words: &mut [usize; WORDS],
+    doubles: &mut [f64; DOUBLES],
+    e1: &mut [f64],
+    e2r: &mut [f64],
+    e2i: &mut [f64],
+    ip1: &mut [usize],
+    ip2: &mut [usize],
+) -> Step
+    requires { ⌜ Sized (now words) (now doubles) ⌝ }
+    requires { ⌜ Fit 2 (shapeAt (now words) .n) (runAt (now words) (now doubles)) ⌝ }
+    ensures { λ _. ⌜ Sized (now (words .exit)) (now (doubles .exit)) ⌝ }
+    ensures { λ r. ⌜ tried (stepAt r (runAt (now (words .exit)) (now (doubles .exit))))
+        (factors (now (e1 .exit)) (now (e2r .exit)) (now (e2i .exit)) (now (ip1 .exit)) (now (ip2 .exit)))
+        ≡ realTriedOf (runAt (now (words .entry)) (now (doubles .entry)))
+        (factors (now (e1 .entry)) (now (e2r .entry)) (now (e2i .entry))
+        (now (ip1 .entry)) (now (ip2 .entry))) .core ⌝ }
+{
+    let n = words[N];
+    let answer = lu_decomp(n, e1, ip1);
+    counted(words, doubles);
+    if is_err(answer) {
+        return failed(words, doubles);
+    }
+    complex_tried(words, doubles, e2r, e2i, ip2)
+}
+
+// One pass through the matrices, where they are wanted.
+fn tried(
+    words: &mut [usize; WORDS],
+    doubles: &mut [f64; DOUBLES],
+    mass: &[f64],
+    jac: &[f64],
+    e1: &mut [f64],
+    e2r: &mut [f64],
+    e2i: &mut [f64],
+    ip1: &mut [usize],
+    ip2: &mut [usize],
+) -> Step
+    requires { ⌜ Sized (now words) (now doubles) ⌝ }
+    requires { ⌜ Fit 2 (shapeAt (now words) .n) (runAt (now words) (now doubles)) ⌝ }
+    requires { ⌜ Square (shapeAt (now words) .n) (now mass)
+        × Square (shapeAt (now words) .n) (now jac)
+        × FactorsLong (shapeAt (now words) .n)
+        (factors (now e1) (now e2r) (now e2i) (now ip1) (now ip2)) ⌝ }
+    ensures { λ _. ⌜ Sized (now (words .exit)) (now (doubles .exit)) ⌝ }
+    ensures { λ r. ⌜ tried (stepAt r (runAt (now (words .exit)) (now (doubles .exit))))
+        (factors (now (e1 .exit)) (now (e2r .exit)) (now (e2i .exit)) (now (ip1 .exit)) (now (ip2 .exit)))
+        ≡ triedOf (runAt (now (words .entry)) (now (doubles .entry))) (now (mass .entry)) (now (jac .entry))
+        (factors (now (e1 .entry)) (now (e2r .entry)) (now (e2i .entry)) (now (ip1 .entry))
+        (now (ip2 .entry))) .core ⌝ }
+{
+    if words[CALL_DECOMP] != 0 {
+        let mode = mass_mode(words[MASS]);
+        let n = words[N];
+        let h = doubles[H];
+        built(mode, n, mass, jac, h, e1, e2r, e2i);
+        return real_tried(words, doubles, e1, e2r, e2i, ip1, ip2);
+    }
+    Step::Attempt
+}
+
+fn passes_on(step: Step, words: &[usize; WORDS]) -> bool
+    ensures { λ r. ⌜ ((d : List Float) → r ≡ passesOn (stepAt step (runAt (now (words .entry)) d))) ⌝ }
+{
+    match step {
+        Step::Asked(_) => false,
+        Step::Main => words[CALL_JAC] == 0,
+        Step::Matrices => true,
+        Step::Attempt => false,
+    }
+}
+
+// Passes through the matrices until one stands, a Jacobian is wanted or the run has ended: the sixth failure
+// ends it, so six are enough.
+pub fn passes(
+    words: &mut [usize; WORDS],
+    doubles: &mut [f64; DOUBLES],
+    n: usize,
+    step: Step,
+    mass: &[f64],
+    jac: &[f64],
+    e1: &mut [f64],
+    e2r: &mut [f64],
+    e2i: &mut [f64],
+    ip1: &mut [usize],
+    ip2: &mut [usize],
+) -> Step
+    requires { ⌜ Sized (now words) (now doubles) ⌝ }
+    requires { ⌜ StepFit 12 n (stepAt step (runAt (now words) (now doubles))) ⌝ }
+    requires { ⌜ Square n (now mass)
+        × Square n (now jac)
+        × FactorsLong n
+        (factors (now e1) (now e2r) (now e2i) (now ip1) (now ip2)) ⌝ }
+    ensures { λ _. ⌜ Sized (now (words .exit)) (now (doubles .exit)) ⌝ }
+    ensures { λ r. ⌜ tried (stepAt r (runAt (now (words .exit)) (now (doubles .exit))))
+        (factors (now (e1 .exit)) (now (e2r .exit)) (now (e2i .exit)) (now (ip1 .exit)) (now (ip2 .exit)))
+        ≡ passesOf (stepAt step (runAt (now (words .entry)) (now (doubles .entry))))
+        (now (mass .entry)) (now (jac .entry))
+        (factors (now (e1 .entry)) (now (e2r .entry)) (now (e2i .entry)) (now (ip1 .entry))
+        (now (ip2 .entry))) .core ⌝ }
+{
+    let mut s = step;
+    for _ in 0..6usize {
+        if !passes_on(s, words) {
+            return s;
+        }
+        s = tried(words, doubles, mass, jac, e1, e2r, e2i, ip1, ip2);
+    }
+    s
+}
