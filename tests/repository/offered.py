@@ -30,6 +30,7 @@ UNSETTLED = {
     "replay::word::read_words": "reads standard input",
     "replay::word::read_block": "reads standard input",
     "sheet_input::reading::read_all": "reads standard input",
+    "piece_input::reading::read_piece": "reads standard input",
     "radau_core::advance::advanced": "asks that the run is fit",
 }
 

@@ -1,5 +1,5 @@
 -- The ways of a join that is carried on, and of an answer.
-use mathlib.Core.Path.{_≡_, sym}
+use mathlib.Core.Path.{_≡_}
 use Rattle.night_totals.specs.declared.totals.Totals.{Totals}
 use Rattle.night_join.specs.Join.{joinOf, thenJoin}
 use Rattle.night_join.specs.declared.joining.Joining.{Joining}

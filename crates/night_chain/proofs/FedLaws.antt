@@ -1,8 +1,7 @@
 -- Bytes taken one after the other: the borders of the pieces don't show.
 use Prim.Native.Nat.{ℕ, _+_, _≤_, _<_}
-use mathlib.Core.Path.{_≡_, refl, ap, _∙_}
+use mathlib.Core.Path.{_≡_, refl, ap}
 use mathlib.Core.List.{List, [], _∷_, _++_}
-use native.Mathlib.Omega.{arith}
 use lib.ListN.{length, getD, drop, drop-of-length-le}
 use Rattle.sheet.proofs.DigitsLaws.{drop-more}
 use Rattle.night_chain.specs.Chain.{stepOf, fedOf}

@@ -1,6 +1,5 @@
 -- Numbers that are read have at most sixteen digits.
-use Prim.Native.Nat.{ℕ, zero, suc, _+_, _*_, _-_, _≤_, _<_}
-use mathlib.Core.Path.{_≡_, refl}
+use Prim.Native.Nat.{ℕ, zero, suc, _-_, _≤_, _<_}
 use mathlib.Core.Bool.{Bool}
 use mathlib.Core.List.{List, [], _∷_}
 use native.Mathlib.Omega.{arith}
@@ -12,7 +11,6 @@ use Rattle.night_totals.specs.Filling.{blankOf, spoiltOf, numberedAt, onward, v
 use Rattle.night_totals.specs.Filling.{passedOf, digitOf, storedOf, behindOf, numberOf, filledOf}
 use Rattle.night_totals.specs.Printed.{totalsNumbers}
 use Rattle.night_totals.specs.declared.filling.Filling.{Filling}
-use Rattle.night_totals.specs.declared.totals.Totals.{Totals}
 use Rattle.night_chain.specs.Texts.{Short}
 use Rattle.night_chain.specs.Chain.{totalsFrom}
 

@@ -1,8 +1,7 @@
 -- Totals that pass 28 are short, so that what `totals` and `joined` print is read; and the totals of nights come to
 -- those of all their lines.
-use Prim.Native.Nat.{ℕ, _+_, _*_, _≤_, _<_}
+use Prim.Native.Nat.{_+_, _≤_, _<_}
 use mathlib.Core.Path.{_≡_, refl, sym, ap, _∙_}
-use mathlib.Core.Bool.{Bool, true, false}
 use mathlib.Core.List.{List, [], _∷_, _++_, append-assoc, append-nil}
 use native.Mathlib.Omega.{arith}
 use borrow.Author.Tests.{ltb-true, ltb-false, lt-ltb, le-ltb}
@@ -17,10 +16,10 @@ use Rattle.night_totals.specs.Printed.{totalsNumbers}
 use Rattle.night_totals.specs.declared.entry.Entry.{Entry}
 use Rattle.night_totals.specs.declared.totals.Totals.{Totals}
 use Rattle.night_totals.proofs.FormLaws.{split}
-use Rattle.night_join.specs.Join.{runsIn, Fit, joinOf, thenJoin}
+use Rattle.night_join.specs.Join.{Fit, thenJoin}
 use Rattle.night_join.specs.declared.joining.Joining.{Joining}
 use Rattle.night_join.specs.declared.joining.Joining.the-variants as joining
-use Rattle.night_join.proofs.JoinLaws.{Good, good}
+use Rattle.night_join.proofs.JoinLaws.{good}
 use Rattle.night_join.proofs.LinesLaws.{lines-fit}
 use Rattle.night_join.proofs.Theorems.{lines-joined}
 use Rattle.night_chain.specs.Texts.{Short, AllShort, nothing, another, printedAll}

@@ -1,14 +1,14 @@
 -- What is printed of totals: its fourteen lines, and its numbers found again.
-use Prim.Native.Nat.{ℕ, zero, suc, _+_, _/_, _%_, _^_, _≤_, _<_}
+use Prim.Native.Nat.{ℕ, zero, suc, _+_, _/_, _%_, _≤_}
 use mathlib.Core.Path.{_≡_, refl, sym, ap, _∙_}
-use mathlib.Core.Bool.{Bool, true, false}
+use mathlib.Core.Bool.{true, false}
 use mathlib.Core.List.{List, [], _∷_, _++_, append-assoc, append-nil}
 use native.Mathlib.Omega.{arith}
 use borrow.Author.Tests.{eqb-true, ne-eqb}
 use lib.Dec.{eqb, ltb}
 use lib.ListN.{length, getD}
 use Rattle.words.specs.Loop.{pick}
-use Rattle.words.proofs.Branch.{pick-yes, pick-no, pick-all}
+use Rattle.words.proofs.Branch.{pick-no, pick-all}
 use Rattle.sheet.specs.Digits.{byteOf, power, digits}
 use Rattle.forecast_text.specs.Printed.{text, numeralOf}
 use Rattle.night_totals.specs.Form.{spelt}
@@ -21,7 +21,7 @@ use Rattle.night_totals.proofs.CompleteLaws.{fillOf, properFrom, setIn, stateAt
 use Rattle.night_chain.specs.Texts.{printed, Short, firstLines, Begins}
 use Rattle.night_chain.specs.Chain.{totalsFrom}
 use Rattle.night_chain.proofs.TextLaws.{ended, behind, first-behind, ended-append, first-append, behind-append}
-use Rattle.night_chain.proofs.TextLaws.{ended-first, first-fewer, endsLine, behind-plain}
+use Rattle.night_chain.proofs.TextLaws.{first-fewer, endsLine, behind-plain}
 
 -- ---- lines of a form, and of a text of it
 

@@ -1,24 +1,24 @@
 -- Bytes that begin totals: what they say of the lines that came, and of those that can still come.
-use Prim.Native.Nat.{ℕ, zero, suc, _+_, _^_, _≤_, _<_}
+use Prim.Native.Nat.{ℕ, zero, suc, _+_, _≤_, _<_}
 use mathlib.Core.Path.{_≡_, refl, sym, ap, _∙_}
-use mathlib.Core.Bool.{Bool, true, false, true≢false, false≢true}
+use mathlib.Core.Bool.{true, false, true≢false}
 use mathlib.Core.List.{List, [], _∷_, _++_, append-assoc, append-nil}
 use native.Mathlib.Omega.{arith}
-use borrow.Author.Tests.{eqb-true, eqb-false}
+use borrow.Author.Tests.{eqb-false}
 use lib.Dec.{eqb}
-use lib.ListN.{length, getD, take, drop, take-append-drop, length-append, replicate}
+use lib.ListN.{length, take, drop, take-append-drop}
 use lib.Seq.{take-all}
 use Rattle.words.specs.Loop.{pick}
 use Rattle.words.proofs.Branch.{pick-yes, pick-no, pick-all}
 use Rattle.forecast_text.specs.Printed.{text, numeralOf}
 use Rattle.night_totals.specs.Form.{spelt}
 use Rattle.night_totals.specs.Filling.{blankOf, numberedAt, kept, filledOf}
-use Rattle.night_totals.specs.Printed.{totalsForm, totalsNumbers, printedOf}
+use Rattle.night_totals.specs.Printed.{totalsForm, printedOf}
 use Rattle.night_totals.specs.declared.filling.Filling.{Filling}
 use Rattle.night_totals.specs.declared.totals.Totals.{Totals}
-use Rattle.night_totals.proofs.FormLaws.{split, slotsIn, slots-append, slots-number, spelt-append}
-use Rattle.night_totals.proofs.SoundLaws.{past, Sound, blank-sound, blank-past, filled-next, numbered-is}
-use Rattle.night_totals.proofs.SoundLaws.{kept-sound, kept-past}
+use Rattle.night_totals.proofs.FormLaws.{split, slotsIn, slots-append, spelt-append}
+use Rattle.night_totals.proofs.SoundLaws.{past, Sound, blank-sound, blank-past, filled-next}
+use Rattle.night_totals.proofs.SoundLaws.{kept-past}
 use Rattle.night_totals.proofs.CompleteLaws.{fillOf, fill-append}
 use Rattle.night_chain.specs.Texts.{printed, Short, firstLines, Begins}
 use Rattle.night_chain.specs.Chain.{totalsFrom}
@@ -26,7 +26,7 @@ use Rattle.night_chain.proofs.TextLaws.{ended, behind, first-behind, en
 use Rattle.night_chain.proofs.TextLaws.{early-lines, Meet, longer, shorter, meet, first-byte}
 use Rattle.night_chain.proofs.FewLaws.{Few, blank-few, filled-few, set-small, totals-short}
 use Rattle.night_chain.proofs.PrintedLaws.{numeral-plain, ended-spelt, form-length, form-slots, form-ended}
-use Rattle.night_chain.proofs.PrintedLaws.{form-ends, printed-is, printed-ended, comeOf, printed-filled}
+use Rattle.night_chain.proofs.PrintedLaws.{form-ends, printed-ended, printed-filled}
 
 -- the bytes of totals that have begun, and are not whole yet
 pub record Run (come : List ℕ) (q : Filling) : Type 0 where

@@ -1,12 +1,12 @@
 -- What is told of a text is what it comes to, and nothing else is.
-use Prim.Native.Nat.{ℕ, zero, suc, _+_, _*_, _%_, _^_, _≤_, _<_}
+use Prim.Native.Nat.{ℕ, suc, _+_, _*_, _%_, _^_, _≤_, _<_}
 use mathlib.Core.Path.{_≡_, refl, sym, ap, _∙_}
-use mathlib.Core.Bool.{Bool, true, false}
+use mathlib.Core.Bool.{true, false}
 use mathlib.Core.Logic.{_↔_}
 use mathlib.Core.List.{List, [], _∷_, _++_, append-assoc, append-nil}
 use native.Mathlib.Nat.{mod-add-mod}
 use native.Mathlib.Omega.{arith}
-use borrow.Author.Tests.{eqb-true, eqb-false, ltb-true, ltb-false}
+use borrow.Author.Tests.{eqb-true, ltb-true, ltb-false}
 use lib.Dec.{eqb, ltb}
 use lib.ListN.{length}
 use Rattle.words.proofs.Branch.{pick-yes, pick-no}
@@ -16,7 +16,7 @@ use Rattle.night_totals.specs.declared.filling.Filling.{Filling}
 use Rattle.night_totals.specs.declared.totals.Totals.{Totals}
 use Rattle.night_totals.proofs.FormLaws.{split}
 use Rattle.night_join.specs.declared.joining.Joining.{Joining}
-use Rattle.night_chain.specs.Texts.{printed, Short, AllShort, nothing, another, printedAll, Begins}
+use Rattle.night_chain.specs.Texts.{printed, Short, AllShort, another, printedAll, Begins}
 use Rattle.night_chain.specs.Reads.{joinedOf, answerOf, Reads, joined, malformed}
 use Rattle.night_chain.specs.Chain.{chainAt, startOf, fedOf, toldOf}
 use Rattle.night_chain.specs.declared.chain.Chain.{Chain}
@@ -25,7 +25,7 @@ use Rattle.night_chain.specs.declared.chain.Answer.the-variants as answe
 use Rattle.night_chain.proofs.TextLaws.{ended, ended-append}
 use Rattle.night_chain.proofs.PrintedLaws.{printed-ended, fronts-same, rests-same, printed-once}
 use Rattle.night_chain.proofs.PrintedLaws.{begins-all, begins-fewer}
-use Rattle.night_chain.proofs.RunLaws.{Run, past-none, begun-some, lines-few, run-begins, run-no-more}
+use Rattle.night_chain.proofs.RunLaws.{past-none, begun-some, lines-few, run-begins, run-no-more}
 use Rattle.night_chain.proofs.RunLaws.{wrong-no-more}
 use Rattle.night_chain.proofs.StandLaws.{linesAt, Going, Wrong, Stand, going, wrong, stand}
 

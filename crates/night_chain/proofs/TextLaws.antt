@@ -2,7 +2,7 @@
 use Prim.Native.Nat.{ℕ, zero, suc, _+_, _≤_, _<_}
 use mathlib.Core.Path.{_≡_, refl, sym, ap, _∙_}
 use mathlib.Core.Bool.{Bool, true, false}
-use mathlib.Core.List.{List, [], _∷_, _++_, append-assoc}
+use mathlib.Core.List.{List, [], _∷_, _++_}
 use native.Mathlib.Omega.{arith}
 use lib.Dec.{eqb}
 use lib.ListN.{length, take}
@@ -120,8 +120,8 @@ pub data Meet (a b c d : List ℕ) : Type 0 where
   longer : (e : List ℕ) → c ≡ a ++ e → b ≡ e ++ d → Meet a b c d
   shorter : (e : List ℕ) → a ≡ c ++ e → Meet a b c d
 
-head-is : (x y : ℕ) (s t : List ℕ) → x ∷ s ≡ y ∷ t → x ≡ y
-head-is x y s t e = cc
+pub first-byte : (x y : ℕ) (s t : List ℕ) → x ∷ s ≡ y ∷ t → x ≡ y
+first-byte x y s t e = cc
 
 tail-is : (x y : ℕ) (s t : List ℕ) → x ∷ s ≡ y ∷ t → s ≡ t
 tail-is x y s t e = cc
@@ -134,7 +134,4 @@ pub meet : (a b c d : List ℕ) → a ++ b ≡ c ++ d → Meet a b c d
 meet [] b c d e = longer c refl e
 meet (x ∷ a) b [] d e = shorter (x ∷ a) refl
 meet (x ∷ a) b (y ∷ c) d e =
-    further x y a b c d (head-is x y (a ++ b) (c ++ d) e) (meet a b c d (tail-is x y (a ++ b) (c ++ d) e))
-
-pub first-byte : (b c : ℕ) (s t : List ℕ) → b ∷ s ≡ c ∷ t → b ≡ c
-first-byte = head-is
+    further x y a b c d (first-byte x y (a ++ b) (c ++ d) e) (meet a b c d (tail-is x y (a ++ b) (c ++ d) e))

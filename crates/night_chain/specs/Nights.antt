@@ -1,5 +1,5 @@
 -- The totals of several nights, each of its own lines.
-use Prim.Native.Nat.{ℕ, _≤_}
+use Prim.Native.Nat.{_≤_}
 use mathlib.Core.List.{List, [], _∷_, _++_}
 use lib.ListN.{length}
 use Rattle.night_totals.specs.Entries.{AllFit}

@@ -30,6 +30,6 @@ pub data Reads (s : List ℕ) : Answer → Type 0 where
   -- totals one after another and nothing else: what they come to
   joined : (ts : List Totals) → s ≡ printedAll ts → AllShort ts → Reads s (answerOf (joinedOf ts))
   -- behind totals something that goes on as totals do for n of their fourteen lines and for no more: the number of the
-  -- line that is wrong or missing, a word
+  -- line that is wrong or missing, in 64 bits
   malformed : (ts : List Totals) (c : List ℕ) (n : ℕ) → s ≡ printedAll ts ++ c → AllShort ts → 0 < length c → n < 14
       → Begins n c → (Begins (suc n) c → ⊥) → Reads s (answer.Malformed ((14 * length ts + suc n) % 2 ^ 64))

@@ -67,27 +67,33 @@ module _ (t : Totals) (f : Fit t) where
   behind : (n : ℕ) → n + 0 ≡ n
   behind n = omega arith
 
+  -- the totals with what is made of each number that is added, and with a largest and its place
+  abbrev with-each : (ℕ → ℕ) → ℕ → ℕ → Totals
+  with-each made largest place =
+      record {
+        lines = made (t .lines);
+        status0 = made (t .status0);
+        status1 = made (t .status1);
+        status2 = made (t .status2);
+        status3 = made (t .status3);
+        status5 = made (t .status5);
+        status7 = made (t .status7);
+        accepted = made (t .accepted);
+        rejected = made (t .rejected);
+        total = made (t .total);
+        ode = made (t .ode);
+        jac = made (t .jac);
+        lu = made (t .lu);
+        largest = largest;
+        place = place;
+      }
+
   none-first : sumTotals noTotals t ≡ t
   unfolding sumTotals placeOfBoth
   none-first =
-      λ i.
-      record {
-        lines = before (t .lines) i;
-        status0 = before (t .status0) i;
-        status1 = before (t .status1) i;
-        status2 = before (t .status2) i;
-        status3 = before (t .status3) i;
-        status5 = before (t .status5) i;
-        status7 = before (t .status7) i;
-        accepted = before (t .accepted) i;
-        rejected = before (t .rejected) i;
-        total = before (t .total) i;
-        ode = before (t .ode) i;
-        jac = before (t .jac) i;
-        lu = before (t .lu) i;
-        largest = (let z : max 0 (t .largest) ≡ t .largest = omega arith in z) i;
-        place = pick-yes {b = eqb 0 0} (t .place) (pick (ltb 0 (t .largest)) (0 + t .place) 0) refl i;
-      }
+      let e : max 0 (t .largest) ≡ t .largest = omega arith in
+      let p = pick-yes {b = eqb 0 0} (t .place) (pick (ltb 0 (t .largest)) (0 + t .place) 0) refl in
+      λ i. with-each (λ n. before n i) (e i) (p i)
 
   place-behind : placeOfBoth t noTotals ≡ t .place
   unfolding placeOfBoth
@@ -100,24 +106,8 @@ module _ (t : Totals) (f : Fit t) where
   none-second : sumTotals t noTotals ≡ t
   unfolding sumTotals
   none-second =
-      λ i.
-      record {
-        lines = behind (t .lines) i;
-        status0 = behind (t .status0) i;
-        status1 = behind (t .status1) i;
-        status2 = behind (t .status2) i;
-        status3 = behind (t .status3) i;
-        status5 = behind (t .status5) i;
-        status7 = behind (t .status7) i;
-        accepted = behind (t .accepted) i;
-        rejected = behind (t .rejected) i;
-        total = behind (t .total) i;
-        ode = behind (t .ode) i;
-        jac = behind (t .jac) i;
-        lu = behind (t .lu) i;
-        largest = (let z : max (t .largest) 0 ≡ t .largest = omega arith in z) i;
-        place = place-behind i;
-      }
+      let e : max (t .largest) 0 ≡ t .largest = omega arith in
+      λ i. with-each (λ n. behind n i) (e i) (place-behind i)
 
   both-sides : (joinOf noTotals t ≡ joining.Joined t) × (joinOf t noTotals ≡ joining.Joined t)
   both-sides =

@@ -43,7 +43,7 @@ unfolding past spelt pick
 blank-past form = refl
 
 -- a number stands at a place of the form
-pub numbered-is : (form : List ℕ) (at : ℕ) → numberedAt form at ≡ true → (at < length form) × (getD form at 0 ≡ 35)
+numbered-is : (form : List ℕ) (at : ℕ) → numberedAt form at ≡ true → (at < length form) × (getD form at 0 ≡ 35)
 unfolding numberedAt
 numbered-is form at =
     pick-all (λ b. b ≡ true → (at < length form) × (getD form at 0 ≡ 35)) (ltb at (length form)) _ false
@@ -121,7 +121,7 @@ module _ (form : List ℕ) (short : length form < 2 ^ 32) where
         ap (λ k. take k form) onto ∙ take-suc form (q .at) 0 l
         ∙ ap (λ x. take (q .at) form ++ (x ∷ [])) (numbered-is form (q .at) slot .1)
 
-    pub kept-sound : Sound form (kept q)
+    kept-sound : Sound form (kept q)
     kept-sound =
         let l : q .at < length form = numbered-is form (q .at) slot .0 in
         record {

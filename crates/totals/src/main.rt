@@ -1,52 +1,24 @@
 // The program `totals`: reads status lines on standard input and prints their totals, or why they were refused (02,
 // [12]). The bytes that it prints are the value of `print` for what `told` answers; here is only reading and writing.
-ghost use Prim.Native.Nat.{_≤_};
-use libc::STDIN_FILENO;
 use libc::STDOUT_FILENO;
 use night_totals::fed;
 use night_totals::night::Night;
 use night_totals::print;
 use night_totals::start;
 use night_totals::told;
-
-// A piece of the input.
-const PIECE: usize = 4096;
+use piece_input::read_piece;
+use piece_input::reading::Came;
+use piece_input::reading::MOST_READS;
+use piece_input::reading::PIECE;
+use replay::word::within;
 
 // Room for all that is printed.
 const OUT: usize = 4096;
-
-// No input is as long.
-const MOST_READS: u64 = 0xffff_ffff_ffff_ffff;
-
-fn within(count: usize, room: usize) -> usize
-    ensures { λ r. ⌜ (r ≤ count) × (r ≤ room) ⌝ }
-{
-    if count <= room { count } else { room }
-}
-
-// What a read came to: bytes, the end of the input, or an error.
-enum Came {
-    Bytes(usize),
-    End,
-    Failed,
-}
 
 // All that was read, or as much of it as came before an error.
 struct Taken {
     night: Night,
     readable: bool,
-}
-
-fn read_some(piece: &mut [u8; PIECE]) -> Came {
-    let room: &mut [u8] = piece;
-    let got = libc::read(STDIN_FILENO, room);
-    if got < 0 {
-        return Came::Failed;
-    }
-    if got == 0 {
-        return Came::End;
-    }
-    Came::Bytes(io::count(got, room))
 }
 
 fn extended(night: Night, piece: &[u8; PIECE], count: usize) -> Night {
@@ -58,7 +30,7 @@ fn extended(night: Night, piece: &[u8; PIECE], count: usize) -> Night {
 fn read_all(piece: &mut [u8; PIECE]) -> Taken {
     let mut night = start();
     for _ in 0..MOST_READS {
-        match read_some(piece) {
+        match read_piece(piece) {
             Came::Bytes(count) => night = extended(night, piece, count),
             Came::End => {
                 return Taken {

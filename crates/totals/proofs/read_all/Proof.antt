@@ -16,8 +16,8 @@ start-requires c κs = search needs
 loop-holds : tie.Need-loop-holds Inv-loop μ-loop
 loop-holds c = search needs
 
-read-some-requires : tie.Need-read-some-requires Inv-loop μ-loop
-read-some-requires c κs = search needs
+read-piece-requires : tie.Need-read-piece-requires Inv-loop μ-loop
+read-piece-requires c κs = search needs
 
 enum-known-count : tie.Need-enum-known-count Inv-loop μ-loop
 enum-known-count c = search needs
@@ -57,7 +57,7 @@ read-all-spec =
     μ-loop
     start-requires
     loop-holds
-    read-some-requires
+    read-piece-requires
     enum-known-count
     extended-requires
     enum-told
