@@ -16,7 +16,14 @@ use std::time::Instant;
 
 // A slice crosses as a pointer and a count.
 extern "C" {
-    fn elchepur_lu_decomp(n: usize, a: *mut f64, an: usize, ip: *mut usize, ipn: usize) -> u64;
+    fn elchepur_lu_decomp(
+        n: usize,
+        a: *mut f64,
+        an: usize,
+        ip: *mut usize,
+        ipn: usize,
+        column: *mut usize,
+    ) -> u64;
     fn elchepur_lu_decomp_complex(
         n: usize,
         ar: *mut f64,
@@ -25,6 +32,7 @@ extern "C" {
         ain: usize,
         ip: *mut usize,
         ipn: usize,
+        column: *mut usize,
     ) -> u64;
     fn elchepur_lin_solve(
         n: usize,
@@ -150,10 +158,11 @@ fn ours(routine: Routine, w: &mut Work) -> u64 {
     let (n, nn) = (w.n, w.n * w.n);
     let (ar, ai) = (w.ar.data.as_mut_ptr(), w.ai.data.as_mut_ptr());
     let (br, bi, ip) = (w.br.as_mut_ptr(), w.bi.as_mut_ptr(), w.ip.as_mut_ptr());
+    let mut column = 0;
     unsafe {
         match routine {
-            Routine::Decompose => elchepur_lu_decomp(n, ar, nn, ip, n),
-            Routine::DecomposeComplex => elchepur_lu_decomp_complex(n, ar, nn, ai, nn, ip, n),
+            Routine::Decompose => elchepur_lu_decomp(n, ar, nn, ip, n, &mut column),
+            Routine::DecomposeComplex => elchepur_lu_decomp_complex(n, ar, nn, ai, nn, ip, n, &mut column),
             Routine::Solve => elchepur_lin_solve(n, ar, nn, br, n, ip, n),
             _ => elchepur_lin_solve_complex(n, ar, nn, ai, nn, br, n, bi, n, ip, n),
         }

@@ -8,7 +8,7 @@
  * - Slices, arrays and results of one call must not overlap. Nothing can test that, and no promise holds where they do.
  * - A function that can refuse answers a number: 0 where it did its work, else one of `ELCHEPUR_REFUSED_..`. Where it
  *   refuses it has written nothing, with one exception: ELCHEPUR_REFUSED_SINGULAR leaves matrix and pivots as the Rust
- *   does.
+ *   does, and tells the column.
  * - Which of the patterns of NaN a NaN has is not settled. All else is, bit for bit, on every machine.
  * - Nothing is allocated and nothing is kept between calls, so that several threads may call at once, each with memory
  *   of its own.
@@ -70,13 +70,13 @@ enum {
 
 enum {
     ELCHEPUR_MOST = 32,           /* the most amounts of a run, and the largest order of a matrix */
-    ELCHEPUR_STATE_WORDS = 38,    /* whole numbers of a state */
+    ELCHEPUR_STATE_WORDS = 40,    /* whole numbers of a state */
     ELCHEPUR_STATE_DOUBLES = 29,  /* doubles of a state */
     ELCHEPUR_NUMBERS = 17,        /* settings that are whole numbers */
     ELCHEPUR_FLOATS = 8,          /* settings that are doubles */
     ELCHEPUR_TOLD = 3,            /* words that tell a request */
     ELCHEPUR_AT = 2,              /* points of a request */
-    ELCHEPUR_RESULT_NUMBERS = 7,  /* status and counts of a result */
+    ELCHEPUR_RESULT_NUMBERS = 9,  /* status, counts and singular matrix of a result */
     ELCHEPUR_RESULT_FLOATS = 2,   /* doubles of a result */
     ELCHEPUR_COEFFICIENTS = 27    /* entries of the table of coefficients */
 };
@@ -160,6 +160,13 @@ enum {
     ELCHEPUR_STATUS_SINGULAR_MATRIX = 5
 };
 
+/* Which matrix was singular latest in the whole run: neither ever, or the status is not 5; E1; E2. */
+enum {
+    ELCHEPUR_SINGULAR_NONE = 0,
+    ELCHEPUR_SINGULAR_REAL = 1,
+    ELCHEPUR_SINGULAR_COMPLEX = 2
+};
+
 /* Places in the `numbers` and the `floats` of a result. */
 enum {
     ELCHEPUR_RESULT_STATUS = 0,
@@ -169,6 +176,8 @@ enum {
     ELCHEPUR_RESULT_TOTAL = 4,
     ELCHEPUR_RESULT_ACCEPTED = 5,
     ELCHEPUR_RESULT_REJECTED = 6,
+    ELCHEPUR_RESULT_SINGULAR = 7,  /* the matrix that was singular latest, with status 5 alone */
+    ELCHEPUR_RESULT_COLUMN = 8,    /* its column without a pivot, from 0 */
     ELCHEPUR_RESULT_H = 0,
     ELCHEPUR_RESULT_X = 1
 };
@@ -191,7 +200,7 @@ enum {
     ELCHEPUR_WORD_SINGULAR_COUNT = 13,
     ELCHEPUR_WORD_NEWT_ITER = 14,
     ELCHEPUR_WORD_MARKED = 15,  /* 0: no mark stands; else XOUT is one */
-    ELCHEPUR_WORD_N = 16,  /* from here on the words stay as the opening left them */
+    ELCHEPUR_WORD_N = 16,  /* from here on the words but the last two stay as the opening left them */
     ELCHEPUR_WORD_NIND1 = 17,
     ELCHEPUR_WORD_NIND2 = 18,
     ELCHEPUR_WORD_NIND3 = 19,
@@ -212,7 +221,9 @@ enum {
     ELCHEPUR_WORD_HAS_NIND2 = 34,
     ELCHEPUR_WORD_GIVEN_NIND2 = 35,
     ELCHEPUR_WORD_HAS_NIND3 = 36,
-    ELCHEPUR_WORD_GIVEN_NIND3 = 37
+    ELCHEPUR_WORD_GIVEN_NIND3 = 37,
+    ELCHEPUR_WORD_SINGULAR = 38,  /* the matrix that was singular latest; a number above 2 stands for 0, none */
+    ELCHEPUR_WORD_COLUMN = 39  /* its column without a pivot; not looked at where there was none */
 };
 
 /* Places in the `doubles` of a state. */
@@ -322,8 +333,8 @@ uint64_t elchepur_advance(
     double *y_perturbed, size_t y_perturbed_count, double *f_perturbed, size_t f_perturbed_count,
     double *f_origin, size_t f_origin_count);
 
-/* Writes how a run ended: its status and counts, its h and the point reached. Refuses with 29 before the run has
- * ended. */
+/* Writes how a run ended: its status and counts, with status 5 the matrix that was singular latest and its column, its
+ * h and the point reached. Refuses with 29 before the run has ended. */
 uint64_t elchepur_result(
     const size_t words[ELCHEPUR_STATE_WORDS], const double doubles[ELCHEPUR_STATE_DOUBLES],
     uint64_t numbers[ELCHEPUR_RESULT_NUMBERS], double floats[ELCHEPUR_RESULT_FLOATS]);
@@ -345,12 +356,13 @@ void elchepur_bounds(double xold, double h, double ends[2]);
 /* ---- The matrix routines, of order 1 to 32. A matrix has n n entries, row by row; pivots are n. ---- */
 
 /* Decomposes a in place: the multipliers, negated, below the diagonal, and in ip[k] the row exchanged with row k.
- * Refuses with 1, 16, 17. */
-uint64_t elchepur_lu_decomp(size_t n, double *a, size_t a_count, size_t *ip, size_t ip_count);
+ * Refuses with 1, 16, 17; with 17, and then alone, it writes the column, from 0, that has no pivot. */
+uint64_t elchepur_lu_decomp(
+    size_t n, double *a, size_t a_count, size_t *ip, size_t ip_count, size_t *column);
 
 /* The same of a complex matrix, real and imaginary parts apart. */
 uint64_t elchepur_lu_decomp_complex(
-    size_t n, double *ar, size_t ar_count, double *ai, size_t ai_count, size_t *ip, size_t ip_count);
+    size_t n, double *ar, size_t ar_count, double *ai, size_t ai_count, size_t *ip, size_t ip_count, size_t *column);
 
 /* Solves for the right side b, of n entries, in place, with a matrix that was decomposed. Refuses with 1, 16, 18. */
 uint64_t elchepur_lin_solve(

@@ -99,7 +99,7 @@ enum {
 struct elchepur_outcome {
     uint64_t refused;  /* the number of the refusal, else 0 */
     int given_up;      /* what the callback answered that gave up, else 0 */
-    uint64_t numbers[ELCHEPUR_RESULT_NUMBERS];  /* status and counts; without a result each is the largest number */
+    uint64_t numbers[ELCHEPUR_RESULT_NUMBERS];  /* those of the result; without one each is the largest number */
     double floats[ELCHEPUR_RESULT_FLOATS];      /* the doubles of the result; without one each is NaN */
     const double *y;        /* the amounts at the end of a run that succeeded; else null */
     const double *reached;  /* those where it ended, at floats[ELCHEPUR_RESULT_X]; null without a result */

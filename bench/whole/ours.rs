@@ -19,7 +19,7 @@ const RULE: usize = 6;
 const UROUND: usize = 0;
 
 pub struct Run {
-    words: [usize; 38],
+    words: [usize; 40],
     doubles: [f64; 29],
     pub told: [u64; 3],
     at: [f64; 2],
@@ -54,7 +54,7 @@ impl Run {
             .map(|_: Vec<f64>| vec![0.0; n]);
         let [mass, jac, e1, e2r, e2i] = [const { Vec::new() }; 5].map(|_: Vec<f64>| vec![0.0; nn]);
         let mut r = Run {
-            words: [0; 38],
+            words: [0; 40],
             doubles: [0.0; 29],
             told: [0; 3],
             at: [0.0; 2],
@@ -138,9 +138,9 @@ impl Run {
     }
 
     pub fn outcome(self, points: &Points) -> Outcome {
-        let (mut numbers, mut floats) = ([0; 7], [0.0; 2]);
+        let (mut numbers, mut floats) = ([0; 9], [0.0; 2]);
         assert_eq!(elchepur_result(&self.words, &self.doubles, &mut numbers, &mut floats), 0);
-        let [status, ode, jac, lu, total, accepted, rejected] = numbers;
+        let [status, ode, jac, lu, total, accepted, rejected, ..] = numbers;
         Outcome { status: status as i64, accepted, rejected, total, ode, jac, lu, rounds: 0, y: self.y,
             sum: points.sum }
     }

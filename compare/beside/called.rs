@@ -22,6 +22,7 @@ pub fn with<T>(act: impl FnOnce(&mut Side) -> T) -> T {
 }
 
 pub fn begin(side: Side) {
+    crate::stopped::forget();
     SIDE.set(Some(side));
 }
 

@@ -123,6 +123,9 @@ fn entries(count: usize, sort: usize, d: &mut Draw) -> Vec<f64> {
     })
 }
 
+// A column that no decomposition tells.
+const UNWRITTEN: usize = 77;
+
 struct System {
     n: usize,
     ar: Vec<f64>,
@@ -147,6 +150,17 @@ impl System {
         }
     }
 
+    // The identity with a zero at a place of its diagonal, its rows in another order: singular at that column.
+    fn stopping(&mut self, d: &mut Draw) {
+        let (n, at) = (self.n, d.below(self.n));
+        let turn = d.below(n);
+        self.ar.fill(0.0);
+        self.ai.fill(0.0);
+        for k in (0..n).filter(|&k| k != at) {
+            self.ar[(k + turn) % n * n + k] = d.one_of(&[1.0, -2.0, 0.5]);
+        }
+    }
+
     fn matrices(&self) -> (Matrix, Matrix) {
         (Matrix::from_vec(self.n, self.n, self.ar.clone()), Matrix::from_vec(self.n, self.n, self.ai.clone()))
     }
@@ -164,14 +178,18 @@ impl System {
     fn decompose(mut self, complex: bool) -> System {
         let (mut ar, mut ai) = self.matrices();
         let mut ip = self.ip.clone();
+        let mut column = UNWRITTEN;
         let (said, failed) = if complex {
             (
-                elchepur_lu_decomp_complex(self.n, &mut self.ar, &mut self.ai, &mut self.ip),
+                elchepur_lu_decomp_complex(self.n, &mut self.ar, &mut self.ai, &mut self.ip, &mut column),
                 lu_decomp_complex(&mut ar, &mut ai, &mut ip).is_err(),
             )
         } else {
-            (elchepur_lu_decomp(self.n, &mut self.ar, &mut self.ip), lu_decomp(&mut ar, &mut ip).is_err())
+            (elchepur_lu_decomp(self.n, &mut self.ar, &mut self.ip, &mut column), lu_decomp(&mut ar, &mut ip).is_err())
         };
+        let stopped = (complex as u64 + 1, column as u64);
+        insist(if failed { stopped == crate::stopped::latest() } else { column == UNWRITTEN },
+            || format!("a decomposition of order {}: column {column}", self.n));
         let theirs = System { ar: ar.data, ai: ai.data, ip, br: self.br.clone(), bi: self.bi.clone(), ..self };
         self.same(if complex { "lu_decomp_complex" } else { "lu_decomp" }, said, if failed { 17 } else { 0 }, &theirs);
         self
@@ -209,7 +227,10 @@ impl System {
 
 // Decomposed and then solved, or solved with a matrix that never was.
 fn matrix(d: &mut Draw) {
-    let system = System::draw(d);
+    let mut system = System::draw(d);
+    if d.percent(20) {
+        system.stopping(d);
+    }
     let complex = d.percent(50);
     match d.below(10) {
         0 => system.misuse(d),

@@ -14,6 +14,9 @@ use crate::interface::{elchepur_bounds, elchepur_interpolate};
 use crate::methods::IntegrationResult;
 use crate::radau_rust::RADAU;
 
+// The status that tells which matrix was singular.
+const SINGULAR_MATRIX: u64 = 5;
+
 pub struct Side {
     pub ours: Ours,
     // The Rust's parts as they stand at its call of the host, and its tolerances where they are scalars.
@@ -194,13 +197,16 @@ impl Side {
         self.compare(ENDED, 0, status, [0.0, 0.0]);
         let (evals, steps) = (&result.evals, &result.steps);
         let counts = [evals.ode, evals.jac, evals.lu, steps.total, steps.accepted, steps.rejected];
+        let (matrix, column) = if status == SINGULAR_MATRIX { crate::stopped::latest() } else { (0, 0) };
         let (said, numbers, floats) = self.ours.result();
         insist(said == 0, || format!("the result is refused by {said}"));
         insist(numbers[0] == status, || format!("status: ours {}, the Rust's {status}", numbers[0]));
-        let ours = &numbers[1..];
+        let ours = &numbers[1..7];
         let theirs = counts.map(|count| count as u64);
         insist(ours == theirs,
             || format!("ode, jac, lu, total, accepted, rejected: ours {ours:?}, the Rust's {theirs:?}"));
+        insist(numbers[7..] == [matrix, column],
+            || format!("singular matrix and column: ours {:?}, the Rust's {:?}", &numbers[7..], [matrix, column]));
         none(difference("h and x of the result", &floats, &[result.h, x]));
         if let Some(trace) = &mut self.trace {
             trace.end(numbers, floats);

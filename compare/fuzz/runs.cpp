@@ -88,6 +88,7 @@ class Session {
 
     uint64_t call_advance(uint64_t reply, double value);
     void advance(uint64_t reply, double value);
+    void judge_notes(const Words &was);
     void judge_advanced(const Lent &before);
     void judge_request();
     void repeat(const Lent &before, uint64_t reply, double value);
@@ -206,13 +207,23 @@ void Session::judge_request() {
     insist(right, "a request with a wrong flag");
 }
 
+// The notes stay, or tell of a decomposition that this advance has made.
+void Session::judge_notes(const Words &was) {
+    Words words = lent[STATE_WORDS];
+    uint64_t kind = words[ELCHEPUR_WORD_SINGULAR], column = words[ELCHEPUR_WORD_COLUMN];
+    bool stay = kind == singular_of(was) && column == plain_word(was, ELCHEPUR_WORD_COLUMN);
+    bool made = kind != ELCHEPUR_SINGULAR_NONE && words[ELCHEPUR_WORD_LU] > was[ELCHEPUR_WORD_LU];
+    insist(stay || (made && column < words[ELCHEPUR_WORD_N]), "an advance noted a matrix that it did not decompose");
+}
+
 // What is fixed stays, counts don't fall, and what was lent to be read was only read.
 void Session::judge_advanced(const Lent &before) {
     Words words = lent[STATE_WORDS], doubles = lent[STATE_DOUBLES];
     const Words was = before[STATE_WORDS], had = before[STATE_DOUBLES];
     insist(is_plain(words, doubles), "an advance left numbers that it does not write");
-    for (size_t k = ELCHEPUR_WORD_N; k < ELCHEPUR_STATE_WORDS; k++) insist(words[k] == plain_word(was, k),
+    for (size_t k = ELCHEPUR_WORD_N; k < ELCHEPUR_WORD_SINGULAR; k++) insist(words[k] == plain_word(was, k),
         "an advance changed a word that is fixed for the run");
+    judge_notes(was);
     for (size_t k = ELCHEPUR_DOUBLE_NEWTON_TOL; k < ELCHEPUR_STATE_DOUBLES; k++)
         insist(same_number(doubles.number(k), plain_double(was, had, k)),
                "an advance changed a double that is fixed for the run");
@@ -341,11 +352,14 @@ void Session::forge_word() {
 // Of each number that moves something of its kind, so that the state is sometimes fit; choices by any number.
 void Session::draw_state() {
     Words words = lent[STATE_WORDS], doubles = lent[STATE_DOUBLES];
-    for (size_t k = 0; k < ELCHEPUR_WORD_N; k++) {
+    for (size_t k = 0; k < ELCHEPUR_STATE_WORDS; k++) {
+        if (k >= ELCHEPUR_WORD_N && k < ELCHEPUR_WORD_SINGULAR) continue;
         uint64_t word = rubbish.word();
         switch (KINDS[k]) {
         case 'w': case 'c': words[k] = word % 6; break;
         case 'S': words[k] = word % 14; break;
+        case 'k': words[k] = word % 4; break;
+        case 'd': words[k] = word % 40; break;
         default: words[k] = word % 2 * (word / 2);
         }
     }
@@ -360,7 +374,7 @@ void Session::draw_state() {
 void Session::ask_result() {
     const uint64_t kept = 77;
     const double kept_float = 0.77;
-    uint64_t numbers[ELCHEPUR_RESULT_NUMBERS] = {kept, kept, kept, kept, kept, kept, kept};
+    uint64_t numbers[ELCHEPUR_RESULT_NUMBERS] = {kept, kept, kept, kept, kept, kept, kept, kept, kept};
     double floats[ELCHEPUR_RESULT_FLOATS] = {kept_float, kept_float};
     Words words = lent[STATE_WORDS], doubles = lent[STATE_DOUBLES];
     double h = doubles.number(ELCHEPUR_DOUBLE_H), x = doubles.number(ELCHEPUR_DOUBLE_X);
@@ -372,6 +386,10 @@ void Session::ask_result() {
     for (size_t k = 0; k < 6; k++)
         insist(numbers[ELCHEPUR_RESULT_ODE + k] == (told ? words[ELCHEPUR_WORD_ODE + k] : kept),
                "a result has other counts");
+    uint64_t kind = !told ? kept : blames(words) ? singular_of(words) : 0;
+    uint64_t column = !told ? kept : blames(words) ? plain_word(words, ELCHEPUR_WORD_COLUMN) : 0;
+    insist(numbers[ELCHEPUR_RESULT_SINGULAR] == kind, "a result blames another matrix");
+    insist(numbers[ELCHEPUR_RESULT_COLUMN] == column, "a result blames another column");
     insist(same_number(floats[ELCHEPUR_RESULT_H], told ? h : kept_float), "a result has another h");
     insist(same_number(floats[ELCHEPUR_RESULT_X], told ? x : kept_float), "a result has another x");
     insist(same_number(elchepur_held_step(LENT_STATE(lent)), h), "the step held is another");

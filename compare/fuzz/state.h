@@ -6,8 +6,8 @@
 #include "lent.h"
 
 // Of each word what it holds: w a number, b a choice, t whether something is given, h a number that is looked at where
-// the word before it says so, S the stage, c its column or status.
-const char KINDS[] = "Sc" "wwwwww" "bbbbb" "ww" "t" "wwww" "b" "ww" "bbbbb" "tttt" "ththth";
+// the word before it says so, S the stage, c its column or status, k the kind of a singular matrix, d its column.
+const char KINDS[] = "Sc" "wwwwww" "bbbbb" "ww" "t" "wwww" "b" "ww" "bbbbb" "tttt" "ththth" "kd";
 static_assert(sizeof KINDS == ELCHEPUR_STATE_WORDS + 1, "every word has its kind");
 
 // Of each double the word that says whether it is looked at, where there is one.
@@ -38,7 +38,16 @@ inline uint64_t status_of(const Words &w) {
     return status <= 3 || status == 5 ? status : 0;
 }
 
+// Likewise a number that is no kind's for none.
+inline uint64_t singular_of(const Words &w) {
+    uint64_t kind = w[ELCHEPUR_WORD_SINGULAR];
+    return kind <= ELCHEPUR_SINGULAR_COMPLEX ? kind : static_cast<uint64_t>(ELCHEPUR_SINGULAR_NONE);
+}
+
 inline bool has_ended(const Words &w) { return stage_of(w) == ENDED; }
+
+// Whether the result of an ended run tells of a singular matrix.
+inline bool blames(const Words &w) { return status_of(w) == ELCHEPUR_STATUS_SINGULAR_MATRIX; }
 
 // What an advance leaves of a word that it keeps: 0 or 1 for a choice, and 0 for what is not looked at.
 inline uint64_t plain_word(const Words &w, size_t k) {
@@ -47,6 +56,8 @@ inline uint64_t plain_word(const Words &w, size_t k) {
     case 'h': return w[k - 1] != 0 ? w[k] : 0;
     case 'S': return stage_of(w);
     case 'c': return stage_of(w) == COLUMN ? w[k] : has_ended(w) ? status_of(w) : 0;
+    case 'k': return singular_of(w);
+    case 'd': return singular_of(w) != ELCHEPUR_SINGULAR_NONE ? w[k] : 0;
     default: return w[k];
     }
 }

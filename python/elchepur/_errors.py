@@ -61,3 +61,12 @@ def ending_words(status, x, xend, accepted, rejected):
         return words
     way = f"broken off at x = {x!r}" + (f", on the way to {xend!r}" if xend is not None else "")
     return f"{way}: {words} (status {status}), {accepted} steps accepted, {rejected} rejected"
+
+
+def singular_words(singular, column):
+    """A column belongs to a species, which is counted from 1."""
+    if singular is None:
+        return ""
+    if column is None:
+        return "; no matrix was singular"
+    return f"; species {column + 1}: the {singular} matrix had no pivot in column {column}"

@@ -32,13 +32,13 @@ REFUSED_TOTALS = 28
 REFUSED_NOT_ENDED = 29
 REFUSED_OUTSIDE = 30
 MOST = 32
-STATE_WORDS = 38
+STATE_WORDS = 40
 STATE_DOUBLES = 29
 NUMBERS = 17
 FLOATS = 8
 TOLD = 3
 AT = 2
-RESULT_NUMBERS = 7
+RESULT_NUMBERS = 9
 RESULT_FLOATS = 2
 COEFFICIENTS = 27
 NUMBER_MAX_STEPS = 0
@@ -91,6 +91,9 @@ STATUS_USER_INTERRUPT = 1
 STATUS_NEED_LARGER_NMAX = 2
 STATUS_STEP_SIZE_TOO_SMALL = 3
 STATUS_SINGULAR_MATRIX = 5
+SINGULAR_NONE = 0
+SINGULAR_REAL = 1
+SINGULAR_COMPLEX = 2
 RESULT_STATUS = 0
 RESULT_ODE = 1
 RESULT_JAC = 2
@@ -98,6 +101,8 @@ RESULT_LU = 3
 RESULT_TOTAL = 4
 RESULT_ACCEPTED = 5
 RESULT_REJECTED = 6
+RESULT_SINGULAR = 7
+RESULT_COLUMN = 8
 RESULT_H = 0
 RESULT_X = 1
 WORD_STAGE = 0
@@ -138,6 +143,8 @@ WORD_HAS_NIND2 = 34
 WORD_GIVEN_NIND2 = 35
 WORD_HAS_NIND3 = 36
 WORD_GIVEN_NIND3 = 37
+WORD_SINGULAR = 38
+WORD_COLUMN = 39
 DOUBLE_X = 0
 DOUBLE_XOLD = 1
 DOUBLE_XPH = 2
@@ -289,10 +296,10 @@ FUNCTIONS = {
         "void", "double", "double", "double *",
     ),
     "elchepur_lu_decomp": (
-        "uint64_t", "size_t", "double *", "size_t", "size_t *", "size_t",
+        "uint64_t", "size_t", "double *", "size_t", "size_t *", "size_t", "size_t *",
     ),
     "elchepur_lu_decomp_complex": (
-        "uint64_t", "size_t", "double *", "size_t", "double *", "size_t", "size_t *", "size_t",
+        "uint64_t", "size_t", "double *", "size_t", "double *", "size_t", "size_t *", "size_t", "size_t *",
     ),
     "elchepur_lin_solve": (
         "uint64_t", "size_t", "const double *", "size_t", "double *", "size_t", "const size_t *", "size_t",

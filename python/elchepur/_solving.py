@@ -5,10 +5,11 @@ import dataclasses
 import itertools
 
 from . import _numbers as numbers
-from ._errors import BrokenOff, Refused, ending_words, refusal_words
+from ._errors import BrokenOff, Refused, ending_words, refusal_words, singular_words
 from ._run import Opening, Run, whole
 
 RULES = {"rust": 0, "book": 1}
+SINGULARS = {numbers.SINGULAR_NONE: "none", numbers.SINGULAR_REAL: "real", numbers.SINGULAR_COMPLEX: "complex"}
 # Settings that go by other arguments, or that say of another whether it is given.
 APART = {"MASS", "SOURCE", "RULE", "DENSE_OUTPUT"}
 INTERRUPT = object()  # what `report` answers to end the run
@@ -47,6 +48,8 @@ class Result:
     nlu: int | None = None  # decompositions that were tried, real and complex, and first error solves
     x: float | None = None  # the point reached
     h: float | None = None  # the step that the run held there
+    singular: str | None = None  # with status 5: "real" or "complex", the matrix that was singular latest, or "none"
+    column: int | None = None  # its column without a pivot, from 0; None where there is none
     sol: object = None  # a Solution, where dense_output asked for one
 
 
@@ -257,16 +260,25 @@ def to_its_end(run, f, jac, report, shelf, seen):
             reported(run, report, shelf, seen)
 
 
+def singular_of(counts):
+    """Which matrix was singular latest, and its column: told with status 5 alone."""
+    if counts[numbers.RESULT_STATUS] != numbers.STATUS_SINGULAR_MATRIX:
+        return None, None
+    singular = SINGULARS[counts[numbers.RESULT_SINGULAR]]
+    return singular, None if singular == "none" else counts[numbers.RESULT_COLUMN]
+
+
 def result_of(run, seen):
     counts, floats = run.result()
     status, x = counts[numbers.RESULT_STATUS], floats[numbers.RESULT_X]
     accepted, rejected = counts[numbers.RESULT_ACCEPTED], counts[numbers.RESULT_REJECTED]
     success = status == numbers.STATUS_SUCCESS
+    singular, column = singular_of(counts)
     if success:
         seen.succeed()
     return Result(
         success=success,
-        message=ending_words(status, x, seen.xend, accepted, rejected),
+        message=ending_words(status, x, seen.xend, accepted, rejected) + singular_words(singular, column),
         t=seen.t,
         y=by_amount(seen.amounts, run.n),
         status=status,
@@ -278,6 +290,8 @@ def result_of(run, seen):
         nlu=counts[numbers.RESULT_LU],
         x=x,
         h=floats[numbers.RESULT_H],
+        singular=singular,
+        column=column,
         sol=seen.sol,
     )
 

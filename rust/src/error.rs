@@ -2,7 +2,7 @@
 
 use crate::outcome::{Evals, Steps};
 pub use crate::refused::{Refused, RefusedOpening};
-use crate::status::Status;
+use crate::status::{Singular, Status};
 use std::fmt;
 
 /// Why there is no result. A broken-off run is one of these, so its amounts can't be taken for those at the end.
@@ -130,6 +130,7 @@ pub struct BrokenOff {
     pub(crate) h: f64,
     pub(crate) evals: Evals,
     pub(crate) steps: Steps,
+    pub(crate) singular: Option<Singular>,
     pub(crate) has_zero_mass: bool,
 }
 
@@ -147,6 +148,11 @@ impl BrokenOff {
     /// Why it broke off.
     pub fn status(&self) -> Status {
         self.status
+    }
+
+    /// Which matrix was singular latest, or that none ever was: told with [`Status::SingularMatrix`] alone.
+    pub fn singular(&self) -> Option<Singular> {
+        self.singular
     }
 
     /// How far it came.
@@ -183,6 +189,9 @@ impl fmt::Display for BrokenOff {
         let (x, number, Steps { accepted, rejected, .. }) = (reached.x, status.number(), steps);
         write!(f, "broken off at x = {x}, on the way to {xend}: {status} (status {number}, {status:?}), ")?;
         write!(f, "with {accepted} steps accepted and {rejected} rejected")?;
+        if let Some(singular) = self.singular {
+            write!(f, "; {singular}")?;
+        }
         if self.has_zero_mass && *status == Status::SingularMatrix {
             f.write_str("; the mass is all zeros: for y' = f(x, y) choose MatrixStorage::Identity")?;
         }

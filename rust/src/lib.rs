@@ -89,5 +89,5 @@ pub mod prelude {
     pub use crate::sheet::{NoSheet, Reaction, Sheet};
     pub use crate::shelf::{Shelf, Shelved};
     pub use crate::solout::{AtPoints, ControlFlag, NoSolOut, SolOut};
-    pub use crate::status::Status;
+    pub use crate::status::{Singular, Status};
 }

@@ -1,13 +1,13 @@
 //! Numbers of include/elchepur.h, each under its name there without `ELCHEPUR_`. tests/header.rs holds them to it.
 
 pub const MOST: usize = 32;
-pub const STATE_WORDS: usize = 38;
+pub const STATE_WORDS: usize = 40;
 pub const STATE_DOUBLES: usize = 29;
 pub const NUMBERS: usize = 17;
 pub const FLOATS: usize = 8;
 pub const TOLD: usize = 3;
 pub const AT: usize = 2;
-pub const RESULT_NUMBERS: usize = 7;
+pub const RESULT_NUMBERS: usize = 9;
 pub const RESULT_FLOATS: usize = 2;
 pub const PRINTED: usize = 1024;
 pub const SHEET_SETTINGS: usize = 6;
@@ -79,6 +79,10 @@ pub const STATUS_NEED_LARGER_NMAX: u64 = 2;
 pub const STATUS_STEP_SIZE_TOO_SMALL: u64 = 3;
 pub const STATUS_SINGULAR_MATRIX: u64 = 5;
 
+pub const SINGULAR_NONE: u64 = 0;
+pub const SINGULAR_REAL: u64 = 1;
+pub const SINGULAR_COMPLEX: u64 = 2;
+
 pub const RESULT_STATUS: usize = 0;
 pub const RESULT_ODE: usize = 1;
 pub const RESULT_JAC: usize = 2;
@@ -86,6 +90,8 @@ pub const RESULT_LU: usize = 3;
 pub const RESULT_TOTAL: usize = 4;
 pub const RESULT_ACCEPTED: usize = 5;
 pub const RESULT_REJECTED: usize = 6;
+pub const RESULT_SINGULAR: usize = 7;
+pub const RESULT_COLUMN: usize = 8;
 pub const RESULT_H: usize = 0;
 pub const RESULT_X: usize = 1;
 

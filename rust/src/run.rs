@@ -10,7 +10,7 @@ use crate::numbers::*;
 use crate::outcome::{Evals, IntegrationResult, Steps};
 use crate::settings::RADAU;
 use crate::solout::{ControlFlag, SolOut};
-use crate::status::Status;
+use crate::status::{Singular, Status};
 use crate::system::FirstOrderSystem;
 use crate::tolerance::Tolerance;
 
@@ -128,6 +128,7 @@ impl Talk {
             STATUS_USER_INTERRUPT => Err(Error::Interrupted(Interrupted { x, y, xend, h, evals, steps })),
             status => Err(Error::BrokenOff(BrokenOff {
                 status: Status::of(status).expect("a status is 0, 1, 2, 3 or 5"),
+                singular: singular_of(&numbers),
                 reached: Reached { x, y },
                 xend,
                 h,
@@ -137,6 +138,15 @@ impl Talk {
             })),
         }
     }
+}
+
+/// What a result blames, which only a status 5 tells.
+fn singular_of(numbers: &[u64; RESULT_NUMBERS]) -> Option<Singular> {
+    if numbers[RESULT_STATUS] != STATUS_SINGULAR_MATRIX {
+        return None;
+    }
+    let told = Singular::of(numbers[RESULT_SINGULAR], numbers[RESULT_COLUMN] as usize);
+    Some(told.expect("a singular matrix is none, real or complex"))
 }
 
 /// A run with those who answer it.

@@ -71,6 +71,7 @@ fn too_few_steps_break_a_run_off() {
     let answer = solve(&few, |_, _, _| ControlFlag::Continue);
     let Err(Error::BrokenOff(run)) = answer else { panic!("{answer:?}") };
     assert_eq!((run.status(), run.steps().accepted, run.steps().total), (Status::NeedLargerNMax, 2, 3));
+    assert_eq!(run.singular(), None);
     assert_eq!(
         run.to_string(),
         format!(
@@ -101,7 +102,9 @@ fn a_full_mass_that_nobody_fills_is_zero_as_in_the_rust() {
     let (evals, steps) = (run.evals(), run.steps());
     // Document 01 has these counts.
     assert_eq!((run.status(), steps.total, evals.ode, evals.jac, evals.lu), (Status::SingularMatrix, 0, 1, 6, 6));
-    let hint = "; the mass is all zeros: for y' = f(x, y) choose MatrixStorage::Identity";
+    assert_eq!(run.singular(), Some(Singular::Real(0)));
+    let hint = " rejected; species 1: the real matrix had no pivot in column 0; the mass is all zeros: \
+                for y' = f(x, y) choose MatrixStorage::Identity";
     assert!(run.to_string().ends_with(hint), "{run}");
 }
 
@@ -125,8 +128,8 @@ fn where_the_mass_is_not_to_blame_no_hint_is_given() {
         let (solver, wild) = (RADAU { mass_storage: storage, ..RADAU::default() }, Wild(Cell::new(1e9)));
         let answer = solver.solve(&wild, 0.0, &[1.0], 1.0, 1e-6.into(), 1e-6.into(), None::<&mut NoSolOut>);
         let Err(Error::BrokenOff(run)) = answer else { panic!("{answer:?}") };
-        assert_eq!(run.status(), Status::SingularMatrix);
-        assert!(run.to_string().ends_with(" rejected"), "{run}");
+        assert_eq!((run.status(), run.singular()), (Status::SingularMatrix, Some(Singular::Never)));
+        assert!(run.to_string().ends_with(" rejected; no matrix was singular"), "{run}");
     }
 }
 

@@ -1,4 +1,4 @@
-//! The Rust's runs through this crate: the 440 of crates/replay_run/stdin (laid out as tests/replays/replay_run.py
+//! The Rust's runs through this crate: the 446 of crates/replay_run/stdin (laid out as tests/replays/replay_run.py
 //! says). The system and the `SolOut` answer each call as the Rust's host did, and see that it is the call that the
 //! Rust made: which function, at which x, with an interpolant or not. All settings, masses, lists of tolerances,
 //! Jacobians of the system's own, marks, modified points and interrupts come there.
@@ -34,6 +34,9 @@ const INTERRUPT: u64 = 3;
 const MODIFIED: u64 = 4;
 const MARK: u64 = 5;
 
+// The words that a stored ending tells: h, x, the six counts, the kind of the singular matrix and its column.
+const RESULT_WORDS: usize = 10;
+
 /// The stored words, in order.
 struct Stored<'a>(std::iter::Peekable<std::str::SplitWhitespace<'a>>);
 
@@ -55,7 +58,7 @@ impl Stored<'_> {
         let (kind, reply) = (head >> 12, head & 15);
         let at = self.floats([0, 1, 1, 2, 0][kind as usize]);
         let told = match (kind, reply) {
-            (ENDED, _) => 8,
+            (ENDED, _) => RESULT_WORDS,
             (JACOBIAN, _) => n * n,
             (DERIVATIVE, _) => n,
             (_, MODIFIED) => 1 + n,
@@ -227,15 +230,23 @@ impl SolOut for Reports<'_> {
     }
 }
 
-/// How a run ended: its status, and h, x and the counts as the file has them.
+/// How a run ended: its status, and h, x, the counts and the singular matrix as the file has them.
 fn ended(answer: Result<IntegrationResult, Error>) -> (u64, Vec<u64>) {
-    let (status, h, x, evals, steps) = match answer {
-        Ok(run) => (0, run.h, run.x, run.evals, run.steps),
-        Err(Error::Interrupted(run)) => (1, run.h, run.x, run.evals, run.steps),
-        Err(Error::BrokenOff(run)) => (run.status().number(), run.h(), run.reached().x, run.evals(), run.steps()),
+    let (status, h, x, evals, steps, singular) = match answer {
+        Ok(run) => (0, run.h, run.x, run.evals, run.steps, None),
+        Err(Error::Interrupted(run)) => (1, run.h, run.x, run.evals, run.steps, None),
+        Err(Error::BrokenOff(run)) => {
+            (run.status().number(), run.h(), run.reached().x, run.evals(), run.steps(), run.singular())
+        }
         Err(other) => panic!("{other}"),
     };
-    let counts = [evals.ode, evals.jac, evals.lu, steps.total, steps.accepted, steps.rejected];
+    assert_eq!(singular.is_some(), status == 5);
+    let (kind, column) = match singular {
+        None | Some(Singular::Never) => (0, 0),
+        Some(Singular::Real(column)) => (1, column),
+        Some(Singular::Complex(column)) => (2, column),
+    };
+    let counts = [evals.ode, evals.jac, evals.lu, steps.total, steps.accepted, steps.rejected, kind, column];
     let words = [bits(h), bits(x)].into_iter().chain(counts.map(|count| count as u64));
     (status, words.collect())
 }
@@ -255,7 +266,7 @@ fn every_run_makes_the_rusts_calls_and_ends_as_it_did() {
         statuses[status as usize] += 1;
         shortened += run.shortened.get();
     }
-    assert_eq!(runs, 440);
+    assert_eq!(runs, 446);
     assert!(shortened > 0, "no step was shortened");
     assert!([0, 1, 2, 3, 5].iter().all(|status| statuses[*status] > 0), "{statuses:?}");
 }

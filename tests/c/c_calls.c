@@ -50,23 +50,28 @@ static void matrices(void) {
         bi[] = {0};
     const double decomposed[] = {4, 4, -0.25, 1}, solved[] = {1, 1}, left[] = {1, 1, -1, 0}, minus[] = {-1},
         none[] = {0};
-    size_t ip[] = {9, 9}, one[] = {9}, stray[] = {2, 0};
-    same("a decomposition (P6)", elchepur_lu_decomp(2, a, 4, ip, 2), 0);
+    size_t ip[] = {9, 9}, one[] = {9}, stray[] = {2, 0}, column = 7;
+    same("a decomposition (P6)", elchepur_lu_decomp(2, a, 4, ip, 2, &column), 0);
     doubles("an entry of P6", a, decomposed, 4);
     same("the first pivot of P6", ip[0], 1);
+    same("the column, not written", column, 7);
     same("a solution with a stray pivot", elchepur_lin_solve(2, a, 4, b, 2, stray, 2), ELCHEPUR_REFUSED_PIVOT);
     same("a solution (P7)", elchepur_lin_solve(2, a, 4, b, 2, ip, 2), 0);
     doubles("an entry of P7", b, solved, 2);
-    same("a singular matrix (P8)", elchepur_lu_decomp(2, ones, 4, ip, 2), ELCHEPUR_REFUSED_SINGULAR);
+    same("a singular matrix (P8)", elchepur_lu_decomp(2, ones, 4, ip, 2, &column), ELCHEPUR_REFUSED_SINGULAR);
+    same("the column of P8", column, 1);
     doubles("an entry of P8", ones, left, 4);
-    same("a complex decomposition", elchepur_lu_decomp_complex(1, re, 1, im, 1, one, 1), 0);
+    same("a complex decomposition", elchepur_lu_decomp_complex(1, re, 1, im, 1, one, 1, &column), 0);
     same("a complex solution (P9)", elchepur_lin_solve_complex(1, re, 1, im, 1, br, 1, bi, 1, one, 1), 0);
     doubles("the real part of P9", br, none, 1);
     doubles("the imaginary part of P9", bi, minus, 1);
-    same("n = 1, matrix 0 (P12)", elchepur_lu_decomp(1, zero, 1, one, 1), ELCHEPUR_REFUSED_SINGULAR);
-    same("n = 33", elchepur_lu_decomp(33, a, 4, ip, 2), ELCHEPUR_REFUSED_ORDER);
-    same("a short matrix", elchepur_lu_decomp(2, a, 3, ip, 2), ELCHEPUR_REFUSED_LENGTH);
-    same("short pivots", elchepur_lu_decomp_complex(1, re, 1, im, 1, one, 0), ELCHEPUR_REFUSED_LENGTH);
+    same("n = 1, matrix 0 (P12)", elchepur_lu_decomp(1, zero, 1, one, 1, &column), ELCHEPUR_REFUSED_SINGULAR);
+    same("the column of P12", column, 0);
+    column = 7;
+    same("n = 33", elchepur_lu_decomp(33, a, 4, ip, 2, &column), ELCHEPUR_REFUSED_ORDER);
+    same("a short matrix", elchepur_lu_decomp(2, a, 3, ip, 2, &column), ELCHEPUR_REFUSED_LENGTH);
+    same("short pivots", elchepur_lu_decomp_complex(1, re, 1, im, 1, one, 0, &column), ELCHEPUR_REFUSED_LENGTH);
+    same("the column, not written by refusals", column, 7);
     same("a long right side", elchepur_lin_solve_complex(1, re, 1, im, 1, a, 2, bi, 1, one, 1),
          ELCHEPUR_REFUSED_LENGTH);
 }

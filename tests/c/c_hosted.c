@@ -73,7 +73,8 @@ static int answer_of(uint64_t status) {
 
 static void met_end(struct replay *replay, int answer, const struct elchepur_outcome *outcome) {
     static const size_t order[] = {ELCHEPUR_RESULT_ODE, ELCHEPUR_RESULT_JAC, ELCHEPUR_RESULT_LU,
-                                   ELCHEPUR_RESULT_TOTAL, ELCHEPUR_RESULT_ACCEPTED, ELCHEPUR_RESULT_REJECTED};
+                                   ELCHEPUR_RESULT_TOTAL, ELCHEPUR_RESULT_ACCEPTED, ELCHEPUR_RESULT_REJECTED,
+                                   ELCHEPUR_RESULT_SINGULAR, ELCHEPUR_RESULT_COLUMN};
     uint64_t status = met(replay, ELCHEPUR_KIND_ENDED, 0.0, 0.0) >> 4 & 15;
     same("how many requests are left", replay->left, 0);
     same("a refusal", outcome->refused, 0);

@@ -45,7 +45,7 @@ static void refused(const struct run *run, const struct elchepur_state *state, u
 }
 
 static void no_result(const struct elchepur_state *state, uint64_t number) {
-    uint64_t counts[ELCHEPUR_RESULT_NUMBERS] = {9, 9, 9, 9, 9, 9, 9};
+    uint64_t counts[ELCHEPUR_RESULT_NUMBERS] = {9, 9, 9, 9, 9, 9, 9, 9, 9};
     double floats[ELCHEPUR_RESULT_FLOATS] = {9.0, 9.0};
     same("the refusal of a result", elchepur_result(ELCHEPUR_STATE(*state), counts, floats), number);
     for (size_t k = 0; k < ELCHEPUR_RESULT_NUMBERS; k++) same("a count of a refused result", counts[k], 9);
@@ -109,6 +109,10 @@ static struct elchepur_state in_other_words(struct elchepur_state state) {
         state.doubles[ELCHEPUR_DOUBLE_RTOL] = state.doubles[ELCHEPUR_DOUBLE_ATOL] = -7.5;
     for (size_t k = 0; k < sizeof CHOICES / sizeof *CHOICES; k++)
         if (state.words[CHOICES[k]]) state.words[CHOICES[k]] = SIZE_MAX - (requests + k) % 1000;
+    if (state.words[ELCHEPUR_WORD_SINGULAR] == ELCHEPUR_SINGULAR_NONE) {
+        state.words[ELCHEPUR_WORD_SINGULAR] = 3 + requests % 1000;
+        state.words[ELCHEPUR_WORD_COLUMN] = SIZE_MAX;
+    }
     size_t stage = state.words[ELCHEPUR_WORD_STAGE];
     if (stage == 0) state.words[ELCHEPUR_WORD_STAGE] = 13 + requests % 1000;
     if (stage != STAGE_COLUMN && stage != STAGE_ENDED) state.words[ELCHEPUR_WORD_PART] = SIZE_MAX;
@@ -205,9 +209,21 @@ static void advanced(struct run *run, uint64_t reply) {
     alike(&before, run, reply, value);
 }
 
+// A column that no matrix of the run has is no refusal: the result shows it with status 5, and nothing with others.
+static void forged_column(struct elchepur_state state) {
+    int blames = state.words[ELCHEPUR_WORD_PART] == ELCHEPUR_STATUS_SINGULAR_MATRIX;
+    uint64_t counts[ELCHEPUR_RESULT_NUMBERS];
+    double floats[ELCHEPUR_RESULT_FLOATS];
+    state.words[ELCHEPUR_WORD_SINGULAR] = ELCHEPUR_SINGULAR_COMPLEX;
+    state.words[ELCHEPUR_WORD_COLUMN] = SIZE_MAX;
+    same("a result with a forged column", elchepur_result(ELCHEPUR_STATE(state), counts, floats), 0);
+    same("its matrix", counts[ELCHEPUR_RESULT_SINGULAR], blames ? ELCHEPUR_SINGULAR_COMPLEX : ELCHEPUR_SINGULAR_NONE);
+    same("its column", counts[ELCHEPUR_RESULT_COLUMN], blames ? SIZE_MAX : 0);
+}
+
 static void met_end(const struct run *run) {
     static const size_t order[] = {ELCHEPUR_RESULT_ODE, ELCHEPUR_RESULT_JAC, ELCHEPUR_RESULT_LU, ELCHEPUR_RESULT_TOTAL,
-        ELCHEPUR_RESULT_ACCEPTED, ELCHEPUR_RESULT_REJECTED};
+        ELCHEPUR_RESULT_ACCEPTED, ELCHEPUR_RESULT_REJECTED, ELCHEPUR_RESULT_SINGULAR, ELCHEPUR_RESULT_COLUMN};
     uint64_t counts[ELCHEPUR_RESULT_NUMBERS];
     double floats[ELCHEPUR_RESULT_FLOATS];
     same("a result", elchepur_result(ELCHEPUR_STATE(run->state), counts, floats), 0);
@@ -216,6 +232,7 @@ static void met_end(const struct run *run) {
     same("h", bits_of(floats[ELCHEPUR_RESULT_H]), word());
     same("x", bits_of(floats[ELCHEPUR_RESULT_X]), word());
     for (size_t k = 0; k < sizeof order / sizeof *order; k++) same("a count", counts[order[k]], word());
+    forged_column(run->state);
 }
 
 static void replay(struct run *run, uint64_t count) {

@@ -275,6 +275,8 @@ def check_models(module, records):
 
 # --- The Rust's runs -----------------------------------------------------------------------------
 
+# What a Result says of a singular matrix, by the numbers of a stored run.
+SINGULARS = ("none", "real", "complex")
 GIVEN = ("max_step", "min_step", "newton_tol", "first_step", "nind1", "nind2", "nind3")
 PREDICTIVE, DENSE_OUTPUT, FULL, HOST, BOOK, LISTS = range(7, 13)
 FLOATS = ("uround", "safety_factor", "scale_min", "scale_max", "max_step", "min_step", "newton_tol", "first_step")
@@ -352,7 +354,10 @@ class Replay:
         insist(self.requests == self.left, f"{self.requests} requests and not {self.left}")
         insist(found.status == head >> 4 & 15, f"status {found.status}")
         counts = [found.nfev, found.njev, found.nlu, found.total, found.accepted, found.rejected]
-        insist([bits(found.h), bits(found.x), *counts] == [self.word() for _ in range(8)], "a run ends otherwise")
+        insist((found.singular is None) == (found.status != 5), f"status {found.status} blames {found.singular}")
+        blame = [SINGULARS.index(found.singular or "none"), found.column or 0]
+        wanted = [self.word() for _ in range(10)]
+        insist([bits(found.h), bits(found.x), *counts, *blame] == wanted, "a run ends otherwise")
         return self.requests
 
 

@@ -5,9 +5,9 @@
     tests/replays/replay_matrix.py check [FOLDER]   make both anew and compare them with what is stored
 
 FOLDER holds the Rust's text; tests/support/rust_text.py says where it is looked for otherwise. The answers are those of
-the Rust's own files, compiled unchanged around a program of ours (tests/support/rust_crate.py,
-tests/replays/replay_matrix.rs). Without the text, or without rustc, `write` refuses, and `check` passes over the Rust's
-answers and compares all the rest.
+the Rust's own files, compiled around a program of ours (tests/support/rust_crate.py, tests/replays/replay_matrix.rs),
+unchanged but that lu.rs tells the column at which it stops (tests/support/rust_stops.py). Without the text, or without
+rustc, `write` refuses, and `check` passes over the Rust's answers and compares all the rest.
 
 Exit status: 0 nothing differs; 1 a line differs, and the first is shown; 2 wrong use; 4 nothing was compared with the
 Rust.
@@ -25,7 +25,8 @@ is a line of 16 digits. All digits are hexadecimal; a double is its bit pattern,
 The parts are the matrix, its imaginary parts, the right side, its imaginary parts, the pivots. After the head come the
 values before the call: matrix, imaginary parts and pivots with g (given), and not with h (held: they are what the case
 before left); then the two parts of the right side. If the answer is 00 or 11 (17, singular) there follow the values
-after the call: for a decomposition, matrix, imaginary parts and pivots; else the two parts of the right side.
+after the call: for a decomposition, with 17 first the column at which elimination stopped, from 0, then matrix,
+imaginary parts and pivots; else the two parts of the right side.
 
     d lu_decomp           D lu_decomp_complex        the pivots start as 90, 91, .., so that one not written shows
     s lin_solve           S lin_solve_complex
@@ -62,12 +63,13 @@ ROUTINES = {
 # bytes that are to be stored.
 ROOM = 1089
 MOST_CASES = 20_000
-MOST_BYTES = 900_000
+MOST_BYTES = 4_400_000
 
 # Document 01's numbers.
 WORKS, ORDER, LENGTH, SINGULAR, PIVOT, TARGET = 0, 1, 16, 17, 18, 19
 
 SMALL_ORDERS = range(1, 9)
+LARGEST_ORDER = 32
 
 
 def insist(fact, words):
@@ -106,7 +108,9 @@ class Case:
         """How many lines of values come after the call."""
         if wanted not in (WORKS, SINGULAR):
             return 0
-        return sum(self.lengths) if self.letter in "dD" else len(self.side[0]) + len(self.side[1])
+        if self.letter not in "dD":
+            return len(self.side[0]) + len(self.side[1])
+        return sum(self.lengths) + (wanted == SINGULAR)
 
 
 class Refused(Case):
@@ -257,7 +261,7 @@ def singulars(draw):
     """A column of zeros at each stage, for the real and the complex routine. Only the last stage leaves
     pivots to solve with."""
     found = []
-    for n in SMALL_ORDERS:
+    for n in (*SMALL_ORDERS, LARGEST_ORDER):
         for stage in range(n):
             for is_complex in (False, True):
                 case = decomposition(n, *singular(n, stage, draw, is_complex), stage=stage)
@@ -337,7 +341,7 @@ def skipped(draw):
 
 def large(draw):
     """The largest order."""
-    n, nn = 32, 1024
+    n, nn = LARGEST_ORDER, LARGEST_ORDER**2
     found = with_side(decomposition(n, filled(well_scaled, nn, draw)), draw)
     found.append(solve_after(found[-2], filled(wild, n, draw)))
     found += with_side(decomposition(n, filled(well_scaled, nn, draw), filled(well_scaled, nn, draw)), draw)
@@ -561,6 +565,7 @@ def try_stages(cases, answers):
     for case, (wanted, after) in zip(cases, answers):
         if case.stage is not None:
             insist(wanted == SINGULAR, f"an n of {case.n} is not singular at stage {case.stage}")
+            insist(int(after[0], 16) == case.stage, f"an n of {case.n} does not tell the stage {case.stage}")
             pivots = [int(line, 16) for line in after[-case.n :]]
             written = 0 if case.n == 1 else min(case.stage + 1, case.n - 1)
             told = [k for k in range(case.n) if pivots[k] != 90 + k]

@@ -1,12 +1,14 @@
 // What the Rust's own routines answer to the cases of tests/replays/replay_matrix.py, which says how they are laid out.
 // Standard input has the cases without what is wanted of them; standard output gets, for each case, a line with the
-// answer, document 01's number in two hexadecimal digits, and then the lines of all that the routine may write.
+// answer, document 01's number in two hexadecimal digits, with 17 the line of the column at which elimination stopped,
+// and then the lines of all that the routine may write.
 use crate::dense::StepInterpolant;
 use crate::error::{Error, LinearAlgebraError};
 use crate::matrix::base::Matrix;
 use crate::matrix::linear::{lin_solve, lin_solve_complex};
 use crate::matrix::lu::{lu_decomp, lu_decomp_complex};
 use crate::radau;
+use crate::stopped;
 use std::io::{Read, Write};
 
 fn pattern(x: f64) -> u64 {
@@ -50,8 +52,18 @@ fn same(a: &[f64], b: &[f64]) -> bool {
     a.len() == b.len() && (0..a.len()).all(|i| pattern(a[i]) == pattern(b[i]))
 }
 
-fn told(out: &mut String, answer: u8, doubles: &[&[f64]], pivots: &[usize]) {
+// The line of the column, with 17; the routine that stopped is the one that was called.
+fn column(out: &mut String, answer: u8, routine: u64) {
+    if answer == 17 {
+        let (stopped, column) = stopped::latest();
+        assert_eq!(stopped, routine);
+        out.push_str(&format!("{column:016x}\n"));
+    }
+}
+
+fn told(out: &mut String, answer: u8, routine: u64, doubles: &[&[f64]], pivots: &[usize]) {
     out.push_str(&format!("{answer:02x}\n"));
+    column(out, answer, routine);
     for part in doubles {
         for &x in *part {
             out.push_str(&format!("{:016x}\n", pattern(x)));
@@ -76,6 +88,7 @@ pub fn answers(text: &str) -> String {
             ip = numbers(lines, number(words[8])).into_iter().map(|x| x as usize).collect();
         }
         let mut br = doubles(lines, number(words[6]));
+        stopped::forget();
         let mut bi = doubles(lines, number(words[7]));
         match words[0] {
             "d" => {
@@ -84,10 +97,10 @@ pub fn answers(text: &str) -> String {
                 let said = answer(lu_decomp(&mut a, &mut ip));
                 if said == 16 {
                     assert!(same(&a.data, &ar) && ip == before);
-                    told(&mut out, said, &[], &[]);
+                    told(&mut out, said, 0, &[], &[]);
                 } else {
                     ar = a.data;
-                    told(&mut out, said, &[&ar], &ip);
+                    told(&mut out, said, 1, &[&ar], &ip);
                 }
             }
             "D" => {
@@ -96,27 +109,27 @@ pub fn answers(text: &str) -> String {
                 let said = answer(lu_decomp_complex(&mut a, &mut i, &mut ip));
                 if said == 16 {
                     assert!(same(&a.data, &ar) && same(&i.data, &ai) && ip == before);
-                    told(&mut out, said, &[], &[]);
+                    told(&mut out, said, 0, &[], &[]);
                 } else {
                     (ar, ai) = (a.data, i.data);
-                    told(&mut out, said, &[&ar, &ai], &ip);
+                    told(&mut out, said, 2, &[&ar, &ai], &ip);
                 }
             }
             "s" => {
                 lin_solve(&matrix(n, &ar), &mut br, &ip);
-                told(&mut out, 0, &[&br], &[]);
+                told(&mut out, 0, 0, &[&br], &[]);
             }
             "S" => {
                 lin_solve_complex(&matrix(n, &ar), &matrix(n, &ai), &mut br, &mut bi, &ip);
-                told(&mut out, 0, &[&br, &bi], &[]);
+                told(&mut out, 0, 0, &[&br, &bi], &[]);
             }
             "i" => {
                 radau::interpolate(ai[0], &mut br, &ar, ai[1], ai[2]);
-                told(&mut out, 0, &[&br], &[]);
+                told(&mut out, 0, 0, &[&br], &[]);
             }
             "b" => {
                 let (left, right) = StepInterpolant::new(&[], ai[0], ai[1], radau::interpolate).bounds();
-                told(&mut out, 0, &[&[left, right]], &[]);
+                told(&mut out, 0, 0, &[&[left, right]], &[]);
             }
             other => panic!("{other} is no kind"),
         }

@@ -58,6 +58,9 @@ def build(folder, other=None):
 
 # --- The runs ------------------------------------------------------------------------------------
 
+# The Rust's constants (radau.rs), by which E1 and E2 are made.
+U1, ALPH, BETA = 3.637_834_252_744_496, 2.681_082_873_627_752_3, 3.050_430_199_247_410_5
+
 INF = float("inf")
 NOT_A_NUMBER = float("nan")
 
@@ -341,6 +344,24 @@ def runs_of_limits():
         found.append(algebraic.copy(spoiled=[(3, 3, change), (6, 3, change * 0.99)], newton_tol=1e-9))
     # Nothing changes where nothing is tolerated.
     found.append(Run("zero", [1.0], newton_tol=0.0, max_steps=4))
+    return found
+
+
+def runs_of_singulars():
+    """A matrix that is singular at the first step alone, attempts that are accepted, and then six that fail in the
+    Newton iteration: the latest singular decomposition is old. Amounts of 0 make the host's Jacobian exact; from some
+    derivative on it says 1, which with that Jacobian diverges."""
+    found = []
+    steps = 64.0
+    real, alpha, beta = (number * steps for number in (U1, ALPH, BETA))
+    for book in (False, True):
+        base = Run("linear", [0.0], real, first_step=1.0 / steps, xend=80.0, host=True, spoiled=[(13, 99, 1.0)],
+                   max_steps=20, book=book)
+        found.append(base)
+        found.append(base.copy(y=[0.0, 0.0], numbers=(alpha, -beta, beta, alpha)))
+        # E1 at the first step, E2 at its half: the latest is E2's.
+        found.append(base.copy(y=[0.0, 0.0, 0.0], numbers=(
+            real, 0.0, 0.0, 0.0, 2.0 * alpha, -2.0 * beta, 0.0, 2.0 * beta, 2.0 * alpha)))
     return found
 
 
@@ -716,7 +737,7 @@ NOTICING = [
 def every_run():
     found = [run for run, _ in FIGURES]
     for make in (runs_of_reports, runs_of_systems, runs_of_settings, runs_of_masses, runs_of_newton, runs_of_limits,
-                 runs_of_noise):
+                 runs_of_singulars, runs_of_noise):
         found += make()
     return found + NOTICING
 
@@ -740,7 +761,7 @@ KINDS = {1: "derivatives", 2: "Jacobians", 3: "reports", 4: "ends"}
 PLACES = ("", "y to f0", "cont to z1", "cont to z2", "cont to z3", "cont to f1", "y to f_origin",
           "y_perturbed to f_perturbed")
 FILLED, MODIFIED, MARK = 1, 4, 5
-RESULT = "h x ode jac lu total accepted rejected".split()
+RESULT = "h x ode jac lu total accepted rejected kind column".split()
 
 
 def lengths_behind(n, head):
@@ -786,6 +807,9 @@ NEVER = {
     "advance: Step::Matrices": "six passes settle the matrices",
     "passes: Decomposed::RefusedOrder": "the order fits",
     "passes: Decomposed::RefusedLength": "the lengths fit",
+    "passes: Decomposed::Done, again": "only a matrix that is singular is asked for its column",
+    "passes: Decomposed::RefusedOrder, again": "likewise",
+    "passes: Decomposed::RefusedLength, again": "likewise",
     "report: Reply::Filled": "15 stands before it",
     "stage: _, again": "no advance leads back to the first derivative",
 }

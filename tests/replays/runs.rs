@@ -12,6 +12,7 @@ use crate::matrix::{Matrix, MatrixStorage};
 use crate::methods::{Evals, Steps, Tolerance};
 use crate::solout::{ControlFlag, SolOut};
 use crate::status::Status;
+use crate::stopped;
 pub use branches::{hit, note, noted, taken};
 pub use powers::{four_fifths, inverse_root, power, quarter, two_thirds};
 use std::cell::{Cell, RefCell};
@@ -224,6 +225,12 @@ fn number_of(status: &Status) -> u64 {
     }
 }
 
+// The routine that stopped latest and its column, which only a status 5 tells.
+fn blamed(status: &Status) -> [u64; 2] {
+    let (routine, column) = if *status == Status::SingularMatrix { stopped::latest() } else { (0, 0) };
+    [routine, column]
+}
+
 // The end of a run: the request, then the result.
 pub fn end(h: f64, x: f64, status: Status, evals: &Evals, steps: &Steps) {
     let name = format!("status {}", number_of(&status));
@@ -238,6 +245,7 @@ pub fn end(h: f64, x: f64, status: Status, evals: &Evals, steps: &Steps) {
     ];
     let mut said = vec![pattern(h), pattern(x)];
     said.extend(counts.iter().map(|&count| count as u64));
+    said.extend(blamed(&status));
     with(|t| t.ask(ENDED, number_of(&status), &[], NO_REPLY, said));
 }
 
@@ -669,6 +677,7 @@ pub fn read_line(line: &str) -> (Opening, Host) {
 
 // A new trace, in which nothing was asked yet.
 pub fn begin(opening: &Opening) {
+    stopped::forget();
     let (n, square) = (opening.n(), opening.n() * opening.n());
     branches::forget();
     with(|t| {

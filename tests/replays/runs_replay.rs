@@ -337,6 +337,8 @@ fn replay(o: &Opening, asked: &[Asked]) -> std::result::Result<usize, String> {
                     c.total as u64,
                     c.accepted as u64,
                     c.rejected as u64,
+                    state::blame_kind(r.blame) as u64,
+                    state::blame_column(r.blame) as u64,
                 ];
                 if mine != a.reply {
                     return Err(format!("result: port {mine:x?} rust {:x?}", a.reply));

@@ -22,7 +22,8 @@ LEVELS = {"||": 1, "&&": 2, **dict.fromkeys(COMPARISONS, 3), "+": 4, "-": 4, "*"
 ASSIGNS = ("=", "+=", "-=", "*=", "/=")
 
 # The calls that our edits put in.
-TRACE = re.compile(r"\s*crate::program::(?:hit|note|snap|end|differences|mass_made)\(.*?\);\s*", re.S)
+TRACE = re.compile(
+    r"\s*crate::(?:program::(?:hit|note|snap|end|differences|mass_made)|stopped::told)\(.*?\);\s*", re.S)
 COUNTING = re.compile(r"\{(?:\s*crate::program::hit\([^)]*\);)+\s*\}")
 
 

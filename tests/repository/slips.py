@@ -45,6 +45,7 @@ import replay_opening
 import port
 import rust_crate
 import rust_solve
+import rust_stops
 import rust_text
 import replay_sheet
 import slip_text
@@ -90,7 +91,7 @@ class Texts:
             "rust": self.solver(raw, "radau.rs", [], ["pub fn solve<", "pub fn interpolate("], ()),
             "book": self.solver(raw, "book", rust_solve.BOOK_EDITS, ["pub fn solve<"], SETTINGS),
             "ivp": self.plain("ivp.rs", rust_solve.IVP_EDITS, ["    fn jac(&self"]),
-            "lu": self.plain("matrix/lu.rs", [], ["pub fn lu_decomp(", "pub fn lu_decomp_complex("]),
+            "lu": self.plain("matrix/lu.rs", rust_stops.EDITS, ["pub fn lu_decomp(", "pub fn lu_decomp_complex("]),
             "linear": self.plain("matrix/linear.rs", [], ["pub fn lin_solve(", "pub fn lin_solve_complex("]),
             "dense": self.plain("dense.rs", [], ["pub fn bounds("]),
         }

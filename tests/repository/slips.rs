@@ -36,7 +36,7 @@ fn lengths(n: usize, head: u64) -> (usize, usize) {
         (3, MODIFIED) => (2, n + 1),
         (3, MARK) => (2, 1),
         (3, _) => (2, 0),
-        _ => (0, 8),
+        _ => (0, 10),
     }
 }
 
@@ -191,7 +191,7 @@ fn printed(opening: &Opening, host: &Host, most: u64) -> Option<Vec<u64>> {
     with(|t| {
         let end = t.asked.first()?;
         let mut words = vec![end.words[0]];
-        words.extend(&end.reply[1..]);
+        words.extend(&end.reply[1..8]);
         words.extend(&end.parts[0]);
         Some(words)
     })

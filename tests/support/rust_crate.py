@@ -1,9 +1,10 @@
-"""A Rust program around the Rust's own files: what is ours is a crate root that takes them where they stand, unchanged.
+"""A Rust program around the Rust's own files: what is ours is a crate root that takes them where they stand, unchanged
+but for lu.rs, which also tells where an elimination stops (tests/support/rust_stops.py).
 
-The crate root, written below target/, has `Float`, `error`, `dense` and the four files of `matrix` as modules by
-their paths. Of radau.rs, which leans on crates that are not here, it has the text of `interpolate` alone, with
-the two constants that it names, in a module `radau`. A program of ours is its module `program`, whose function
-`run` is the main function."""
+The crate root, written below target/, has `Float`, `error`, `dense` and the four files of `matrix` as modules by their
+paths, and `stopped`, by which lu.rs tells. Of radau.rs, which leans on crates that are not here, it has the text of
+`interpolate` alone, with the two constants that it names, in a module `radau`. A program of ours is its module
+`program`, whose function `run` is the main function."""
 
 import pathlib
 import re
@@ -12,6 +13,7 @@ import subprocess
 import sys
 
 sys.path[:0] = [str(each) for each in pathlib.Path(__file__).resolve().parents[1].iterdir() if each.is_dir()]
+import rust_stops
 import rust_text
 
 TARGET = rust_text.ROOT / "target" / "rust"
@@ -30,13 +32,15 @@ mod matrix {{
     pub mod index;
     #[path = "{source}/matrix/linear.rs"]
     pub mod linear;
-    #[path = "{source}/matrix/lu.rs"]
+    #[path = "{lu}"]
     pub mod lu;
 }}
 mod radau {{
     use crate::Float;
 {interpolate}
 }}
+#[path = "{stopped}"]
+mod stopped;
 #[path = "{program}"]
 mod program;
 fn main() {{
@@ -71,7 +75,8 @@ def build(folder, program, words=()):
     TARGET.mkdir(parents=True, exist_ok=True)
     root = TARGET / f"{program.stem}_root.rs"
     source = (folder / "src").resolve()
-    root.write_text(ROOT_TEXT.format(source=source, program=program, interpolate=interpolate_text(folder)))
+    root.write_text(ROOT_TEXT.format(source=source, lu=rust_stops.write(source, TARGET), stopped=rust_stops.MODULE,
+                                     program=program, interpolate=interpolate_text(folder)))
     made = TARGET / program.stem
     run = ["rustc", "--edition", "2021", "-O", "--crate-name", program.stem, str(root), "-o", str(made), *words]
     done = subprocess.run(run, capture_output=True, text=True)

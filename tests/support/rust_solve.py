@@ -1,9 +1,9 @@
 """The Rust's own `solve` in a crate of ours, changed so that its calls of the host can be traced. For
 tests/replays/runs.py and compare/beside/run; untraced for bench/run.
 
-error.rs, dense.rs, status.rs and the four files of matrix/ are taken where they stand. Of methods/mod.rs stands what
-comes after its lists of modules. radau.rs and ivp.rs are copied with these changes, each of which must find its words
-exactly once:
+error.rs, dense.rs, status.rs and three files of matrix/ are taken where they stand; its lu.rs also tells where an
+elimination stops (tests/support/rust_stops.py). Of methods/mod.rs stands what comes after its lists of modules.
+radau.rs and ivp.rs are copied with these changes, each of which must find its words exactly once:
   - `SHIMS`: the derive of the crate `bon` goes, since that crate is not here and only the struct is wanted;
   - `POWERS`: each power goes to a routine of the program, since the C library's `pow` is not the same on every
     machine, and 01 says which power is meant;
@@ -23,6 +23,7 @@ import sys
 
 import pathlib
 sys.path[:0] = [str(each) for each in pathlib.Path(__file__).resolve().parents[1].iterdir() if each.is_dir()]
+import rust_stops
 import rust_text
 
 
@@ -351,7 +352,7 @@ mod matrix {{
     pub mod index;
     #[path = "{source}/matrix/linear.rs"]
     pub mod linear;
-    #[path = "{source}/matrix/lu.rs"]
+    #[path = "{lu}"]
     pub mod lu;
     pub use base::*;
     pub use linear::*;
@@ -366,6 +367,8 @@ mod solve {{
     }}
 }}
 {modules}
+#[path = "{stopped}"]
+mod stopped;
 #[path = "{program}"]
 mod program;
 {extra}
@@ -426,8 +429,8 @@ def make_root(source, target, program, modules, extra, main):
     (target / "methods.rs").write_text(after_modules((source / "methods" / "mod.rs").read_text()))
     root = target / "root.rs"
     tests = rust_text.ROOT / "tests" / "support"
-    root.write_text(ROOT_TEXT.format(source=source, tests=tests, modules=modules, program=program.resolve(),
-                                     extra=extra, main=main))
+    root.write_text(ROOT_TEXT.format(source=source, lu=rust_stops.write(source, target), stopped=rust_stops.MODULE,
+                                     tests=tests, modules=modules, program=program.resolve(), extra=extra, main=main))
     return root
 
 

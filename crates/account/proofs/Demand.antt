@@ -5,6 +5,7 @@ use mathlib.Core.Bool.{Bool, true, false, true≢false}
 use mathlib.Core.Logic.{_↔_}
 use Rattle.state.specs.declared.run.Counts.{Counts}
 use Rattle.state.specs.declared.run.Run.{Run}
+use Rattle.state.specs.declared.run.Singular.{Singular}
 use Rattle.state.specs.declared.run.Stage.{Stage}
 use Rattle.state.specs.declared.run.Stage.the-variants as stage
 use Rattle.state.specs.declared.run.Status.{Status}
@@ -22,7 +23,7 @@ use Rattle.account.specs.Account.{Strategy, played, FairHost, EndsWithin
 use Rattle.account.specs.Demand.{tells, Demand3}
 use Rattle.account.proofs.Matches.{Matches, ended-matches}
 use Rattle.account.proofs.Journals.{sound, ends-proof, counts-told-proof, limits-proof, success-exactly-proof}
-use Rattle.account.proofs.Journals.{events-true-proof, ledger-proof}
+use Rattle.account.proofs.Journals.{events-true-proof, latest-kept-proof, ledger-proof}
 use Rattle.account.proofs.Played.{played-of}
 
 record Status-of (q : Request) : Type 0 where
@@ -59,7 +60,10 @@ demand-3-proof o start starts h fair =
       status = s .status;
       result =
           ap (resultAt (j .point .run)) at
-          ∙ ap (λ (c : Counts). result.Ended (tells (j .point .run) (s .status) c)) told;
+          ∙ ap
+          (λ (c : Counts). result.Ended (tells (j .point .run) (s .status) c (j .point .run .notes .singular))) told
+          ∙ ap (λ (latest : Singular). result.Ended (tells (j .point .run) (s .status) (countsOf j) latest))
+          (latest-kept-proof o j w .kept);
       events = events-true-proof o j w;
       ledger = ledger-proof o j w;
       accepted = b .accepted;

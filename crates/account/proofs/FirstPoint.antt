@@ -32,7 +32,7 @@ use Rattle.state.specs.Pivots.{stray}
 use Rattle.state.proofs.Pivots.{noughts-no-stray}
 use Rattle.opening.specs.Rows.{Opening, openingRows, rangeRows, verdictOf, partitionFails}
 use Rattle.opening.specs.Tolerances.{Columns, columns, Converted, convertedOf, listTurnAt}
-use Rattle.opening.specs.Opening.{firstCounts, firstControl, firstRun, fixedOf, shapeOf}
+use Rattle.opening.specs.Opening.{firstCounts, firstControl, firstNotes, firstRun, fixedOf, shapeOf}
 use Rattle.opening.specs.Opening.{nind1Of, massKept, clearedOf, acceptedOf, byVerdict, openOf}
 use Rattle.opening.proofs.RowLaws.{NoneHolds}
 use Rattle.opening.proofs.Theorems.{verdict-first}
@@ -123,6 +123,7 @@ pub record Opens (o : Opening) (here : Point) : Type 0 where
   pub posneg : here .run .fixed .posneg ≡ signumOf (o .xend ⊖ o .x0)
   pub counts : here .run .counts ≡ firstCounts
   pub control : here .run .control ≡ firstControl
+  pub notes : here .run .notes ≡ firstNotes
   pub stage : here .run .stage ≡ stage.FirstDerivative
   pub request : here .request ≡ request.Derivative (o .x0)
   pub place : here .place ≡ YToF0
@@ -176,6 +177,7 @@ module _ (o : Opening) (j : Journal) (none : NoneHolds (openingRows o)) where
         posneg = ap (λ (r : Run). r .fixed .posneg) run;
         counts = ap (λ (r : Run). r .counts) run;
         control = ap (λ (r : Run). r .control) run;
+        notes = ap (λ (r : Run). r .notes) run;
         stage = ap (λ (r : Run). r .stage) run;
         request = asks;
         place = into;

@@ -38,6 +38,7 @@ use Rattle.account.specs.Journal.{Fair, Turn, Journal, next, FairFrom, a
 use Rattle.account.specs.Reading.{one, many, Question, questions, askedIn, isReport, firstStage, says, sameStatus}
 use Rattle.account.specs.Reading.{standingAt, interruptedIn, countsOf, happened, Means, width, mostRequests}
 use Rattle.account.specs.Truth.{EventsTrue}
+use Rattle.account.specs.Latest.{LatestKept}
 use Rattle.account.specs.Account.{Strategy, played, FairHost, Answered}
 use Rattle.account.specs.Account.{EndsWithin, Over, Limits, Ends, Lands, Ledger}
 use Rattle.account.proofs.Matches.{Matches, by-stage, matches-report, matches-end, matches-ended, ended-matches}
@@ -45,6 +46,7 @@ use Rattle.account.proofs.Flow.{owed, endsWith}
 use Rattle.account.proofs.StandingKept.{Stands, marksOf, endMarks}
 use Rattle.account.proofs.Bounds.{WithinAt, Ceilings, bounds-fit, bounds-ended}
 use Rattle.account.proofs.SuccessLands.{lands-report}
+use Rattle.account.proofs.LatestLaws.{latest-true}
 use Rattle.account.proofs.SuccessLands as landed
 use Rattle.account.proofs.Admits.{ended-refuses}
 use Rattle.account.proofs.FirstPoint.{opens}
@@ -366,6 +368,11 @@ success-lands-proof o j w xold x offered e awaited =
 
 pub events-true-proof : (o : Opening) (j : Journal) → JournalOf o j → EventsTrue o j
 events-true-proof o j w = sound o j w .tallied .truths
+
+pub latest-kept-proof : (o : Opening) (j : Journal) → JournalOf o j → LatestKept o j
+latest-kept-proof o j w =
+    let t = sound o j w .tallied in
+    record { kept = t .latest; pass = latest-true o (j .point .memory) (j .turns) (t .truths) }
 
 -- ---- the ledger
 

@@ -8,6 +8,7 @@ pub mod Flow
 pub mod StandingKept
 pub mod SuccessLands
 pub mod EventsTrue
+pub mod LatestLaws
 pub mod Ledgers
 pub mod Admits
 pub mod FirstPoint

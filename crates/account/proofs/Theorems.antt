@@ -15,12 +15,14 @@ use Rattle.account.specs.Journal.{Journal, Starts, JournalOf}
 use Rattle.account.specs.Reading.{one, many, Question, questions, isReport, firstStage, says, sameStatus}
 use Rattle.account.specs.Reading.{standingAt, countsOf}
 use Rattle.account.specs.Truth.{EventsTrue}
+use Rattle.account.specs.Latest.{LatestKept}
 use Rattle.account.specs.Account.{Strategy, FairHost, EndsWithin, Over, Limits, Ends, Lands, Ledger}
 use Rattle.account.specs.Demand.{most, Demand3}
 use Rattle.account.proofs.Flow.{endsWith}
 use Rattle.account.proofs.Journals.{ends-proof, over-proof, counts-told-proof, attempts-told-proof}
 use Rattle.account.proofs.Journals.{reports-told-proof, limits-proof, statuses-proof, success-exactly-proof}
 use Rattle.account.proofs.Journals.{not-yet-proof, success-lands-proof, events-true-proof, ledger-proof}
+use Rattle.account.proofs.Journals.{latest-kept-proof}
 use Rattle.account.proofs.Demand.{demand-3-proof}
 use Rattle.account.proofs.Exists.{sample, end, success-journal, success-reached}
 
@@ -64,6 +66,11 @@ reports-told = reports-told-proof
 -- Every event is true: what decided it is so, by the numbers of the opening and of the history before it.
 pub events-true : (o : Opening) (j : Journal) → JournalOf o j → EventsTrue o j
 events-true = events-true-proof
+
+-- At every point of every journal the run keeps which matrix was singular latest and the column, or that none was; and
+-- the elimination of that very matrix of its pass stops there.
+pub latest-kept : (o : Opening) (j : Journal) → JournalOf o j → LatestKept o j
+latest-kept = latest-kept-proof
 
 -- Every attempt comes to one end, unless it is open, and every error solve is judged once.
 pub ledger : (o : Opening) (j : Journal) → JournalOf o j → Ledger (o .settings .rule) j

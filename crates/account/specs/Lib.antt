@@ -2,5 +2,6 @@
 pub mod Journal
 pub mod Reading
 pub mod Truth
+pub mod Latest
 pub mod Account
 pub mod Demand

@@ -4,7 +4,7 @@ use Prim.Native.Nat.{ℕ}
 use mathlib.Core.List.{List}
 use lib.Ieee.{Float}
 use Rattle.words.specs.Contract.{Settles}
-use Rattle.words.proofs.OneOutcome.{_▹_, one-part, one-result, two-parts, three-parts}
+use Rattle.words.proofs.OneOutcome.{_▹_, one-part, one-result, two-parts, four-parts}
 use Rattle.matrix.specs.Complex.{Parts}
 use Rattle.export.specs.Talk.{Left, Ended}
 use Rattle.export.proofs.scalars.elchepur_sqrt as sqrt
@@ -90,12 +90,15 @@ pub elchepur-bounds-once : Settles bounds.Kinds.ps bounds.Kinds.r bounds.Reads.A
 elchepur-bounds-once κs a = (tt, λ o p. one-part (λ (ends : List Float). tt ▹ tt ▹ tt ▹ ends ▹ tt))
 
 pub elchepur-lu-decomp-once : Settles lu-decomp.Kinds.ps lu-decomp.Kinds.r lu-decomp.Reads.Asked lu-decomp.Reads.Post
-elchepur-lu-decomp-once κs a = (tt, λ o p. three-parts (λ (r : ℕ) (a : List Float) (ip : List ℕ). r ▹ tt ▹ a ▹ ip ▹ tt))
+elchepur-lu-decomp-once κs a =
+    (tt, λ o p. four-parts (λ (r : ℕ) (a : List Float) (ip : List ℕ) (column : ℕ). r ▹ tt ▹ a ▹ ip ▹ column ▹ tt))
 
 pub elchepur-lu-decomp-complex-once
     : Settles lu-complex.Kinds.ps lu-complex.Kinds.r lu-complex.Reads.Asked lu-complex.Reads.Post
-elchepur-lu-decomp-complex-once κs a =
-    (tt, λ o p. three-parts (λ (r : ℕ) (a : Parts) (ip : List ℕ). r ▹ tt ▹ a .re ▹ a .im ▹ ip ▹ tt))
+elchepur-lu-decomp-complex-once κs a = (
+  tt,
+  λ o p. four-parts (λ (r : ℕ) (a : Parts) (ip : List ℕ) (column : ℕ). r ▹ tt ▹ a .re ▹ a .im ▹ ip ▹ column ▹ tt),
+)
 
 pub elchepur-lin-solve-once : Settles lin-solve.Kinds.ps lin-solve.Kinds.r lin-solve.Reads.Asked lin-solve.Reads.Post
 elchepur-lin-solve-once κs a = (tt, λ o p. two-parts (λ (r : ℕ) (b : List Float). r ▹ tt ▹ tt ▹ b ▹ tt ▹ tt))

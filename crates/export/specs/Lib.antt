@@ -4,3 +4,4 @@ pub mod Held
 pub mod Defaults
 pub mod Ends
 pub mod Entries
+pub mod Matrices

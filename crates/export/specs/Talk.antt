@@ -24,7 +24,7 @@ use Rattle.state.specs.declared.talk.Answer.the-variants as answer
 use Rattle.state.specs.declared.talk.IntegrationResult.{IntegrationResult}
 use Rattle.state.specs.declared.talk.Result.{Result}
 use Rattle.state.specs.declared.talk.Result.the-variants as result
-use Rattle.state.specs.Numbers.{refusalNumber, statusNumber}
+use Rattle.state.specs.Numbers.{refusalNumber, statusNumber, blameKind, blameColumn}
 use Rattle.state.specs.Memory.{Memory}
 use Rattle.state.specs.Result.{resultOf}
 use Rattle.opening.specs.Rows.{Opening}
@@ -154,7 +154,7 @@ advanceLeft k value words doubles told at m =
 
 -- ---- the result
 
--- the number, and seven numbers and two floats
+-- the number, and nine numbers and two floats
 pub record Ended : Type 0 where
   pub number : ℕ
   pub numbers : List ℕ
@@ -172,6 +172,8 @@ endNumbers e =
     ∷ e .counts .total
     ∷ e .counts .accepted
     ∷ e .counts .rejected
+    ∷ blameKind (e .blame)
+    ∷ blameColumn (e .blame)
     ∷ []
 
 -- 29, which document 01 does not use, where the run has not ended

@@ -9,15 +9,21 @@ ghost use Rattle.matrix.specs.Linear.{linSolveOf};
 ghost use Rattle.matrix.specs.LinearComplex.{linSolveComplexOf};
 ghost use Rattle.matrix.specs.Lu.{luDecompOf};
 ghost use Rattle.matrix.specs.LuComplex.{luDecompComplexOf};
+ghost use Rattle.export.specs.Matrices.{columnLeft};
 
-fn decomposed(answer: Decomposed) -> u64
-    ensures { λ r. ⌜ r ≡ decomposedNumber answer ⌝ }
+// With 17, and then alone, the column is written.
+fn decomposed(answer: Decomposed, column: &mut usize) -> u64
+    ensures { λ r. ⌜ (r ≡ decomposedNumber answer)
+        × (now (column .exit) ≡ columnLeft answer (now (column .entry))) ⌝ }
 {
     match answer {
         Decomposed::Done => 0,
         Decomposed::RefusedOrder => 1,
         Decomposed::RefusedLength => 16,
-        Decomposed::Singular => 17,
+        Decomposed::Singular(k) => {
+            *column = k;
+            17
+        }
     }
 }
 
@@ -33,12 +39,19 @@ fn solved(answer: Solved) -> u64
 }
 
 #[no_mangle]
-pub extern "C" fn elchepur_lu_decomp(n: usize, a: &mut [f64], ip: &mut [usize]) -> u64
+pub extern "C" fn elchepur_lu_decomp(
+    n: usize,
+    a: &mut [f64],
+    ip: &mut [usize],
+    column: &mut usize,
+) -> u64
     ensures { λ r. ⌜ (r ≡ decomposedNumber (luDecompOf n (now (a .entry)) (now (ip .entry)) .answer))
         × (now (a .exit) ≡ luDecompOf n (now (a .entry)) (now (ip .entry)) .a)
-        × (now (ip .exit) ≡ luDecompOf n (now (a .entry)) (now (ip .entry)) .ip) ⌝ }
+        × (now (ip .exit) ≡ luDecompOf n (now (a .entry)) (now (ip .entry)) .ip)
+        × (now (column .exit)
+        ≡ columnLeft (luDecompOf n (now (a .entry)) (now (ip .entry)) .answer) (now (column .entry))) ⌝ }
 {
-    decomposed(matrix::lu_decomp(n, a, ip))
+    decomposed(matrix::lu_decomp(n, a, ip), column)
 }
 
 #[no_mangle]
@@ -47,14 +60,18 @@ pub extern "C" fn elchepur_lu_decomp_complex(
     ar: &mut [f64],
     ai: &mut [f64],
     ip: &mut [usize],
+    column: &mut usize,
 ) -> u64
     ensures { λ r. ⌜ (r
         ≡ decomposedNumber (luDecompComplexOf n (parts (now (ar .entry)) (now (ai .entry))) (now (ip .entry)) .answer))
         × (parts (now (ar .exit)) (now (ai .exit))
         ≡ luDecompComplexOf n (parts (now (ar .entry)) (now (ai .entry))) (now (ip .entry)) .a)
-        × (now (ip .exit) ≡ luDecompComplexOf n (parts (now (ar .entry)) (now (ai .entry))) (now (ip .entry)) .ip) ⌝ }
+        × (now (ip .exit) ≡ luDecompComplexOf n (parts (now (ar .entry)) (now (ai .entry))) (now (ip .entry)) .ip)
+        × (now (column .exit)
+        ≡ columnLeft (luDecompComplexOf n (parts (now (ar .entry)) (now (ai .entry))) (now (ip .entry)) .answer)
+        (now (column .entry))) ⌝ }
 {
-    decomposed(matrix::lu_decomp_complex(n, ar, ai, ip))
+    decomposed(matrix::lu_decomp_complex(n, ar, ai, ip), column)
 }
 
 #[no_mangle]

@@ -5,6 +5,8 @@ use radau_core::pack::doubles_of;
 use radau_core::pack::words_of;
 use radau_core::places::DOUBLES;
 use radau_core::places::WORDS;
+use state::blame_column;
+use state::blame_kind;
 use state::refusal_number;
 use state::run::Stage;
 use state::status_number;
@@ -159,11 +161,12 @@ pub fn tell_answer(
     }
 }
 
-fn end_numbers(result: IntegrationResult) -> [u64; 7]
+fn end_numbers(result: IntegrationResult) -> [u64; 9]
     ensures { λ r. ⌜ r ≡ endNumbers result ⌝ }
 {
     let status = result.status;
     let counts = result.counts;
+    let blame = result.blame;
     [
         status_number(status),
         counts.ode as u64,
@@ -172,11 +175,13 @@ fn end_numbers(result: IntegrationResult) -> [u64; 7]
         counts.total as u64,
         counts.accepted as u64,
         counts.rejected as u64,
+        blame_kind(blame) as u64,
+        blame_column(blame) as u64,
     ]
 }
 
 // Writes the result of a run that has ended.
-pub fn tell_result(result: Result, numbers: &mut [u64; 7], floats: &mut [f64; 2]) -> u64
+pub fn tell_result(result: Result, numbers: &mut [u64; 9], floats: &mut [f64; 2]) -> u64
     ensures { λ r. ⌜ ended r (now (numbers .exit)) (now (floats .exit))
         ≡ ofResult result (now (numbers .entry)) (now (floats .entry)) ⌝ }
 {

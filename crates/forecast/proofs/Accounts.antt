@@ -8,6 +8,7 @@ use lib.ListN.{length}
 use lib.Ieee.{Float}
 use Rattle.state.specs.declared.run.Counts.{Counts}
 use Rattle.state.specs.declared.run.Run.{Run}
+use Rattle.state.specs.declared.run.Singular.{Singular}
 use Rattle.state.specs.declared.run.Status.{Status}
 use Rattle.state.specs.declared.talk.IntegrationResult.{IntegrationResult}
 use Rattle.state.specs.declared.talk.Opened.{Opened}
@@ -17,12 +18,14 @@ use Rattle.state.specs.declared.talk.Place.the-variants.{Nowhere}
 use Rattle.state.specs.declared.talk.Request.{Request}
 use Rattle.state.specs.declared.talk.Request.the-variants as request
 use Rattle.state.specs.Memory.{Memory}
+use Rattle.state.specs.Result.{blameOf}
 use Rattle.opening.specs.Rows.{Opening}
 use Rattle.opening.specs.Opening.{openingOutcome, openOf}
 use Rattle.history.specs.History.{Point, point}
 use Rattle.account.specs.Journal.{Journal, journal, JournalOf}
+use Rattle.account.specs.Latest.{latestOf, keptOf}
 use Rattle.account.specs.Account.{played, Limits}
-use Rattle.account.proofs.Theorems.{counts-told, limits, statuses}
+use Rattle.account.proofs.Theorems.{counts-told, latest-kept, limits, statuses}
 use Rattle.solve_whole.specs.Talk.{World, Talk, offered}
 use Rattle.solve_whole.proofs.Talks.{one-end}
 use Rattle.solve_whole.proofs.Theorems.{solve-offered}
@@ -66,6 +69,7 @@ module _ (m : Model) (valid : Valid m) (r : Run) (q : Request) (p : Place) (memo
         x = runs .run .numbers .x;
         status = runs .talks .status;
         counts = runs .run .counts;
+        blame = blameOf (runs .talks .status) (runs .run .notes);
       }
   result-told = let is = ap (λ (f : Forecast). f .ending) (runs .told) in cc
 
@@ -87,6 +91,14 @@ module _ (m : Model) (valid : Valid m) (r : Run) (q : Request) (p : Place) (memo
   same-counts : played-to .point .run .counts ≡ e .result .counts
   same-counts =
       ap (λ (here : Point). here .run .counts) last ∙ sym (ap (λ (x : IntegrationResult). x .counts) result-told)
+
+  -- the latest singular decomposition, as the run keeps it and as its journal has it
+  same-blame : e .result .blame ≡ blameOf (e .result .status) (record { singular = keptOf (latestOf played-to) })
+  same-blame =
+      ap (λ (x : IntegrationResult). x .blame) result-told
+      ∙ ap (λ (s : Status). blameOf s (runs .run .notes)) (sym status)
+      ∙ ap (λ (latest : Singular). blameOf (e .result .status) (record { singular = latest }))
+      (sym (ap (λ (here : Point). here .run .notes .singular) last) ∙ latest-kept o played-to of .kept)
 
   few : k < mostOf o
   few =
@@ -112,6 +124,7 @@ module _ (m : Model) (valid : Valid m) (r : Run) (q : Request) (p : Place) (memo
         of = of;
         last = last;
         counts = sym same-counts ∙ counts-told o played-to of;
+        blame = same-blame;
         status = λ t. statuses o played-to of (e .result .status) t (ap (λ (here : Point). here .request) last);
         limits =
             subst (λ (x : Request). Limits (o .settings) (e .result .counts) x)

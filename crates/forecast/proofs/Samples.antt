@@ -15,6 +15,7 @@ use Rattle.state.specs.declared.settings.Rule.the-variants.{Rust}
 use Rattle.state.specs.declared.run.Run.{Run}
 use Rattle.state.specs.declared.run.Stage.the-variants as stage
 use Rattle.state.specs.declared.run.Status.the-variants.{StepSizeTooSmall}
+use Rattle.state.specs.declared.talk.Blame.the-variants.{Untold}
 use Rattle.state.specs.declared.talk.Opened.the-variants as opened
 use Rattle.state.specs.declared.talk.Place.the-variants as place
 use Rattle.state.specs.declared.talk.Request.the-variants as request
@@ -121,7 +122,13 @@ abbrev pub stillForecast : Forecast
 stillForecast =
     record {
       ending = ending.Ended (record {
-        result = record { h = double 0; x = double one; status = StepSizeTooSmall; counts = counts 1 1 2 1 0 0 };
+        result = record {
+          h = double 0;
+          x = double one;
+          status = StepSizeTooSmall;
+          counts = counts 1 1 2 1 0 0;
+          blame = Untold;
+        };
         species = 1;
       });
       amounts = (double one ∷ []) ++ zeros 31;

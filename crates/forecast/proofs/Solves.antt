@@ -21,7 +21,7 @@ use Rattle.state.specs.declared.talk.Opened.{Opened}
 use Rattle.state.specs.declared.talk.Opened.the-variants as opened
 use Rattle.state.specs.declared.talk.Result.the-variants as result
 use Rattle.state.specs.Memory.{Memory, zeros, noughts}
-use Rattle.state.specs.Result.{resultAt, resultOf}
+use Rattle.state.specs.Result.{blameOf, resultAt, resultOf}
 use Rattle.opening.specs.Rows.{Opening, opening}
 use Rattle.opening.specs.Opening.{openingOutcome, openOf}
 use Rattle.history.specs.History.{Point, point}
@@ -79,7 +79,14 @@ module _ (m : sheet.Model) (valid : Valid m) where
 
   -- the result of an ended run, and a forecast that tells it with k amounts
   abbrev endOf : Run → Status → IntegrationResult
-  endOf e s = record { h = e .numbers .h; x = e .numbers .x; status = s; counts = e .counts }
+  endOf e s =
+      record {
+        h = e .numbers .h;
+        x = e .numbers .x;
+        status = s;
+        counts = e .counts;
+        blame = blameOf s (e .notes);
+      }
 
   abbrev tells : IntegrationResult → ℕ → List Float → Forecast
   tells i k y = record { ending = ending.Ended (record { result = i; species = k }); amounts = y ++ zeros (32 - k) }

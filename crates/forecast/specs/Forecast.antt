@@ -19,6 +19,7 @@ use Rattle.state.specs.declared.talk.Request.{Request}
 use Rattle.state.specs.declared.talk.Request.the-variants as request
 use Rattle.state.specs.Settings.{defaultsOf}
 use Rattle.state.specs.Memory.{Memory, zeros}
+use Rattle.state.specs.Result.{blameOf}
 use Rattle.opening.specs.Rows.{Opening, opening}
 use Rattle.opening.specs.Opening.{openOf}
 use Rattle.history.specs.Host.{Action}
@@ -91,7 +92,13 @@ abbrev pub endedAt : Run → Status → List Float → Forecast
 endedAt e s y =
     record {
       ending = ending.Ended (record {
-        result = record { h = e .numbers .h; x = e .numbers .x; status = s; counts = e .counts };
+        result = record {
+          h = e .numbers .h;
+          x = e .numbers .x;
+          status = s;
+          counts = e .counts;
+          blame = blameOf s (e .notes);
+        };
         species = length y;
       });
       amounts = y ++ zeros (32 - length y);

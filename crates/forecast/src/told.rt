@@ -12,6 +12,7 @@ use state::run::Run;
 use state::run::Status;
 use state::settings::Mass;
 use state::settings::Settings;
+use state::talk::Blame;
 use state::talk::IntegrationResult;
 use state::talk::Result;
 ghost use mathlib.Core.Path.{_≡_};
@@ -95,6 +96,7 @@ fn never(run: Run) -> IntegrationResult
         x: numbers.x,
         status: Status::StepSizeTooSmall,
         counts,
+        blame: Blame::Untold,
     }
 }
 

@@ -8,6 +8,7 @@ use Rattle.words.specs.Words.{double}
 use Rattle.words.specs.Loop.{pick}
 use Rattle.state.specs.declared.run.Counts.{Counts}
 use Rattle.state.specs.declared.run.Status.the-variants.{Success}
+use Rattle.state.specs.declared.talk.Blame.the-variants.{Untold}
 use Rattle.state.specs.declared.talk.Refusal.the-variants.{MinStep}
 use Rattle.sheet.specs.Digits.{byteOf, power, digits}
 use Rattle.forecast_text.specs.declared.ending.Forecast.{Forecast}
@@ -27,7 +28,10 @@ told e = record { ending = e; amounts = replicate 32 one }
 -- the end of a run with these counts, at x, with so many amounts, each 1
 abbrev pub ended : Float → ℕ → Forecast
 ended x n =
-    told (ending.Ended (record { result = record { h = one; x = x; status = Success; counts = counted }; species = n }))
+    told (ending.Ended (record {
+      result = record { h = one; x = x; status = Success; counts = counted; blame = Untold };
+      species = n;
+    }))
 
 pub decayed-printed : printedOf (ended one 1)
     ≡ text "status 0 accepted 8 rejected 0 total 8 ode 33 jac 8 lu 24\nx 3ff0000000000000\ny 3ff0000000000000\n"

@@ -1,3 +1,4 @@
 -- In order of reading.
 pub mod Refuted
+pub mod RefutedNotes
 pub mod RefutedReadings

@@ -28,7 +28,7 @@ use Rattle.state.specs.Memory.{amountsFit, newtonFit, givenFit, factorsFit, dif
 use Rattle.state.specs.Pivots.{stray, strayAt}
 use Rattle.opening.specs.Rows.{verdictOf}
 use Rattle.opening.specs.Admission.{askingAt, answersReport}
-use Rattle.opening.specs.Opening.{firstCounts, firstControl, firstNumbers}
+use Rattle.opening.specs.Opening.{firstCounts, firstControl, firstNumbers, firstNotes}
 use Rattle.solve_blocks.specs.Advance.{AdvanceOutcome, advanceOutcome, advanceOf}
 use Rattle.solve_blocks.specs.Advance.{advanceBy, startedOf, repliedOf, calledOf}
 use Rattle.solve_blocks.specs.Attempt.{stageSumAt, askStageOf}
@@ -70,6 +70,7 @@ sampleAt s =
       control = firstControl;
       numbers = firstNumbers «0·0» «0·0»;
       stage = s;
+      notes = firstNotes;
     }
 
 -- the first advance is admitted, and asks for a report

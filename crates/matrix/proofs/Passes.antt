@@ -50,13 +50,13 @@ module _ {A E : Type 0} (kind : Kind A E) (n : ℕ) where
     still j = pick-no _ _ refl
 
     pub ends-within : {k : ℕ} {w : Work A} → work a ip (column k) ≡ w
-        → decomposition Singular a ip ≡ answered kind n (lastTested kind n w)
+        → decomposition (Singular k) a ip ≡ answered kind n (lastTested kind n w)
     unfolding answered lastTested
     ends-within e = ap (answered kind n) (no _ _ _ refl refl ∙ ap (lastTested kind n) e)
 
     module _ {w : Work A} (e : work a ip nowhere ≡ w) where
       pub ends-zero : kind .isZero (kind .at a n (n - 1) (n - 1)) ≡ true
-          → decomposition Singular a ip ≡ answered kind n (lastTested kind n w)
+          → decomposition (Singular (n - 1)) a ip ≡ answered kind n (lastTested kind n w)
       unfolding answered lastTested
       ends-zero z = ap (answered kind n) (yes _ _ _ refl (yes _ _ _ z refl) ∙ ap (lastTested kind n) e)
 
@@ -68,7 +68,7 @@ module _ {A E : Type 0} (kind : Kind A E) (n : ℕ) where
     -- ---- the whole
 
     pub one-zero : eqb n 1 ≡ true → kind .isZero (kind .at a n 0 0) ≡ true
-        → decomposition Singular a ip ≡ answered kind n (worked kind n a ip)
+        → decomposition (Singular 0) a ip ≡ answered kind n (worked kind n a ip)
     unfolding answered worked single
     one-zero o z = ap (answered kind n) (yes _ _ _ o (yes _ _ _ z refl))
 

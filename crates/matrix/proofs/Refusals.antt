@@ -21,12 +21,14 @@ use Rattle.matrix.specs.LinearComplex.{complexSide, linSolveComplexOf}
 
 module _ {A : Type 0} (a : A) (ip : List ℕ) where
   abbrev pub Kept : Decomposition A → Type 0
-  Kept d = (d .answer ≡ decomposed.Done → ⊥) → (d .answer ≡ decomposed.Singular → ⊥) → (d .a ≡ a) × (d .ip ≡ ip)
+  Kept d =
+      (d .answer ≡ decomposed.Done → ⊥) → ((k : ℕ) → d .answer ≡ decomposed.Singular k → ⊥)
+      → (d .a ≡ a) × (d .ip ≡ ip)
 
   -- the work itself refuses with 17 alone
   work-kept : (x : A) (jp : List ℕ) (stop : Stop) → Kept (decomposition (stopAnswer stop) x jp)
   work-kept x jp nowhere p q = absurd (p refl)
-  work-kept x jp (column k) p q = absurd (q refl)
+  work-kept x jp (column k) p q = absurd (q k refl)
 
   decomposition-kept : (ranged fits : Bool) (w : Work A)
       → Kept (pick ranged

@@ -4,10 +4,12 @@
 --     not-last-of-largest     the last of the largest pivots, not the first
 --     not-one-way-swap        a row that is to go up put where it came from, so that the other is lost
 --     not-first-diagonal      the first diagonal entry tested at the end, not the last
+--     not-from-one            the column of a zero pivot counted from 1, not from 0 (02, [3])
+--     not-always-first        the first column told of every zero pivot
 --     not-imaginary-sign      the real part of an imaginary-only product added, not taken away
 --     not-tested-late         pivots tested when the right side is written already
 use Prim.Native.Nat.{ℕ, _+_, _-_}
-use mathlib.Core.Bool.{Bool, true≢false}
+use mathlib.Core.Bool.{Bool, true, false, true≢false}
 use mathlib.Core.Path.{_≡_, ap, sym}
 use mathlib.Core.List.{List, [], _∷_}
 use lib.Dec.{eqb}
@@ -18,9 +20,12 @@ use Rattle.words.specs.Loop.{loop, pick}
 use Rattle.words.specs.Grid.{at, put}
 use Rattle.scalar.specs.Order.{absOf}
 use Rattle.state.specs.Pivots.{strayAt, stray}
+use Rattle.matrix.specs.declared.answers.Decomposed.{Decomposed}
+use Rattle.matrix.specs.declared.answers.Decomposed.the-variants as decomposes
 use Rattle.matrix.specs.declared.answers.Solved.the-variants as solves
 use Rattle.matrix.specs.declared.complex.Complex.{Complex}
-use Rattle.matrix.specs.Answers.{nowhere, column, Decomposition, decomposedNumber, Solution, solution}
+use Rattle.matrix.specs.Answers.{nowhere, column, Decomposition, decomposition, decomposedNumber}
+use Rattle.matrix.specs.Answers.{Solution, solution}
 use Rattle.matrix.specs.Complex.{complex, Parts, parts, atComplex, putComplex, sizeComplex, negatedComplex}
 use Rattle.matrix.specs.Complex.{plusComplex, timesComplex, squareComplex, reciprocalComplex}
 use Rattle.matrix.specs.Elimination.{Kind, Best, best, Work, work, goesOn, betterAt, pivotRow}
@@ -146,6 +151,40 @@ unfolding loop pick at put absOf betterAt pivotRow swapped scaledAt columnAt
     eliminated passWith passed passAt lastTested single worked answered updateAt
     updated reciprocal multiplier isZero luDecompOf add mul div neg lt eq ne ofBits
 not-first-diagonal meets = true≢false (ap isDone (meets 2 (one ∷ one ∷ one ∷ one ∷ []) (7 ∷ 7 ∷ [])))
+
+-- ---- the column of a zero pivot (02, [3])
+
+abbrev renumbered : (ℕ → ℕ) → Decomposed → Decomposed
+renumbered f decomposes.Done = decomposes.Done
+renumbered f decomposes.RefusedOrder = decomposes.RefusedOrder
+renumbered f decomposes.RefusedLength = decomposes.RefusedLength
+renumbered f (decomposes.Singular k) = decomposes.Singular (f k)
+
+-- told as f has it, and else the same
+abbrev pub toldAs : (ℕ → ℕ) → Routine (List Float)
+toldAs f n a ip =
+    decomposition (renumbered f (luDecompOf n a ip .answer)) (luDecompOf n a ip .a) (luDecompOf n a ip .ip)
+
+abbrev isSecond : Decomposed → Bool
+isSecond decomposes.Done = false
+isSecond decomposes.RefusedOrder = false
+isSecond decomposes.RefusedLength = false
+isSecond (decomposes.Singular k) = eqb k 1
+
+-- 1,1;1,1 has no pivot in the second of its columns, which is column 1
+module _ (f : ℕ → ℕ) where
+  stops-in-second : Meets (toldAs f) → eqb (f 1) 1 ≡ true
+  unfolding loop pick at put absOf betterAt pivotRow swapped scaledAt columnAt
+      eliminated passWith passed passAt lastTested single worked answered updateAt
+      updated reciprocal multiplier isZero luDecompOf add mul div neg lt eq ne ofBits
+  stops-in-second meets =
+      ap (λ (d : Decomposition (List Float)). isSecond (d .answer)) (meets 2 (one ∷ one ∷ one ∷ one ∷ []) (7 ∷ 7 ∷ []))
+
+pub not-from-one : Meets (toldAs (λ (k : ℕ). k + 1)) → ⊥
+not-from-one meets = true≢false (sym (stops-in-second (λ (k : ℕ). k + 1) meets))
+
+pub not-always-first : Meets (toldAs (λ (k : ℕ). 0)) → ⊥
+not-always-first meets = true≢false (sym (stops-in-second (λ (k : ℕ). 0) meets))
 
 -- ---- the imaginary-only product with its real part's sign left out (lu.rs:282)
 

@@ -11,7 +11,7 @@ abbrev pub decomposedNumber : Decomposed → ℕ
 decomposedNumber decomposed.the-variants.Done = 0
 decomposedNumber decomposed.the-variants.RefusedOrder = 1
 decomposedNumber decomposed.the-variants.RefusedLength = 16
-decomposedNumber decomposed.the-variants.Singular = 17
+decomposedNumber (decomposed.the-variants.Singular k) = 17
 
 abbrev pub solvedNumber : Solved → ℕ
 solvedNumber solved.the-variants.Done = 0
@@ -19,14 +19,14 @@ solvedNumber solved.the-variants.RefusedOrder = 1
 solvedNumber solved.the-variants.RefusedLength = 16
 solvedNumber solved.the-variants.RefusedPivot = 18
 
--- Whether an elimination met a zero pivot, and in which column. The answer doesn't tell the column yet.
+-- Whether an elimination met a zero pivot, and in which column, counted from 0 (02, [3]).
 pub data Stop : Type 0 where
   nowhere : Stop
   column : ℕ → Stop
 
 abbrev pub stopAnswer : Stop → Decomposed
 stopAnswer nowhere = decomposed.the-variants.Done
-stopAnswer (column k) = decomposed.the-variants.Singular
+stopAnswer (column k) = decomposed.the-variants.Singular k
 
 -- what a decomposition of a matrix of the kind A answers, and how it leaves the matrix and the pivots
 pub record Decomposition (A : Type 0) : Type 0 where

@@ -104,6 +104,7 @@ module _ {A E : Type 0} (kind : Kind A E) (n : ℕ) where
   unfoldable pub worked : A → List ℕ → Work A
   worked a ip = pick (eqb n 1) (single a ip) (lastTested (loop passAt 0 (n - 1) (work a ip nowhere)))
 
-  -- the answer, which keeps of the stop only whether there was one [lu.rs:126] [again lu.rs:305]
+  -- the answer, which tells the stop's column (02, [3]); the Rust's tells only that there is one [lu.rs:126]
+  -- [again lu.rs:305]
   unfoldable pub answered : Work A → Decomposition A
   answered w = decomposition (stopAnswer (w .stop)) (w .a) (w .ip)

@@ -8,8 +8,8 @@ pub enum Decomposed {
     RefusedOrder,
     // A slice has another length than n * n or n; nothing was written.
     RefusedLength,
-    // A pivot is zero; matrix and pivots are left as far as the elimination came.
-    Singular,
+    // The pivot of this column, counted from 0, is zero; matrix and pivots are left as far as the elimination came.
+    Singular(usize),
 }
 
 // The answer of a solve.

@@ -167,11 +167,11 @@ pub fn passes(n: usize, a: &mut [f64], ip: &mut [usize]) -> Decomposed
     let nm1 = n - 1;
     for k in 0..nm1 {
         if !pass(n, a, ip, k) {
-            return Decomposed::Singular;
+            return Decomposed::Singular(k);
         }
     }
     if at(n, a, nm1, nm1) == 0.0 {
-        return Decomposed::Singular;
+        return Decomposed::Singular(nm1);
     }
     Decomposed::Done
 }
@@ -185,7 +185,7 @@ pub fn decompose(n: usize, a: &mut [f64], ip: &mut [usize]) -> Decomposed
 {
     if n == 1 {
         if at(n, a, 0, 0) == 0.0 {
-            return Decomposed::Singular;
+            return Decomposed::Singular(0);
         }
         ip[0] = 0;
         return Decomposed::Done;

@@ -176,11 +176,11 @@ pub fn passes(n: usize, ar: &mut [f64], ai: &mut [f64], ip: &mut [usize]) -> Dec
     let nm1 = n - 1;
     for k in 0..nm1 {
         if !pass(n, ar, ai, ip, k) {
-            return Decomposed::Singular;
+            return Decomposed::Singular(k);
         }
     }
     if size(at_complex(n, ar, ai, nm1, nm1)) == 0.0 {
-        return Decomposed::Singular;
+        return Decomposed::Singular(nm1);
     }
     Decomposed::Done
 }
@@ -195,7 +195,7 @@ pub fn decompose(n: usize, ar: &mut [f64], ai: &mut [f64], ip: &mut [usize]) -> 
 {
     if n == 1 {
         if size(at_complex(n, ar, ai, 0, 0)) == 0.0 {
-            return Decomposed::Singular;
+            return Decomposed::Singular(0);
         }
         ip[0] = 0;
         return Decomposed::Done;

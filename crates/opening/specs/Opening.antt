@@ -19,6 +19,8 @@ use Rattle.state.specs.declared.run.Fixed.{Fixed}
 use Rattle.state.specs.declared.run.Counts.{Counts}
 use Rattle.state.specs.declared.run.Control.{Control}
 use Rattle.state.specs.declared.run.Numbers.{Numbers}
+use Rattle.state.specs.declared.run.Singular.the-variants as singular
+use Rattle.state.specs.declared.run.Notes.{Notes}
 use Rattle.state.specs.declared.run.Run.{Run}
 use Rattle.state.specs.declared.run.Stage.the-variants.{FirstDerivative}
 use Rattle.state.specs.declared.talk.Request.the-variants.{Derivative}
@@ -114,6 +116,10 @@ firstNumbers x h =
       xout = number.Absent;
     }
 
+-- nothing is decomposed yet (02, [3])
+abbrev pub firstNotes : Notes
+firstNotes = record { singular = singular.None }
+
 -- [radau.rs:291-293]
 unfoldable pub firstRun : Settings → ℕ → Float → Float → Conversion → Run
 firstRun s n x0 xend c =
@@ -125,6 +131,7 @@ firstRun s n x0 xend c =
       control = firstControl;
       numbers = firstNumbers x0 (firstStepOf s (signumOf (xend ⊖ x0)) (ceilingOf s x0 xend));
       stage = FirstDerivative;
+      notes = firstNotes;
     }
 
 -- ---- the memory: what was given stays or is converted, all else is +0

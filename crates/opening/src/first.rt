@@ -11,9 +11,11 @@ use state::parts::zero;
 use state::run::Control;
 use state::run::Counts;
 use state::run::Fixed;
+use state::run::Notes;
 use state::run::Numbers;
 use state::run::Run;
 use state::run::Shape;
+use state::run::Singular;
 use state::run::Stage;
 use state::settings::Mass;
 use state::settings::Number;
@@ -148,6 +150,9 @@ pub fn first_run(s: Settings, n: usize, x0: f64, xend: f64, conversion: Conversi
         control: control(),
         numbers: numbers(x0, first_h(s, signum(xend - x0), ceiling(s, x0, xend))),
         stage: Stage::FirstDerivative,
+        notes: Notes {
+            singular: Singular::None,
+        },
     }
 }
 

@@ -2,6 +2,7 @@
 --     words-at, doubles-at    an array is the list of its entries, so that a store computes, and with it the run
 --     resized                 arrays of the same lengths
 --     stage-back              a stage is read as it was written
+--     singular-back           and so is the latest singular decomposition
 --     flag-back, unflagged    a flag is read as it was written; denied twice it is itself
 --     flag-set, flag-clear    a flag that was tested
 --     run-back                the run of a step is the run
@@ -22,13 +23,16 @@ use Rattle.words.specs.Loop.{pick}
 use Rattle.state.specs.declared.run.Run.{Run}
 use Rattle.state.specs.declared.run.Stage.{Stage}
 use Rattle.state.specs.declared.run.Stage.the-variants as stage
+use Rattle.state.specs.declared.run.Singular.{Singular}
+use Rattle.state.specs.declared.run.Singular.the-variants as singular
 use Rattle.state.specs.declared.run.Status.{Status}
 use Rattle.state.specs.declared.run.Status.the-variants as status
-use Rattle.state.specs.Numbers.{statusNumber}
+use Rattle.state.specs.Numbers.{statusNumber, singularKind, singularColumn}
 use Rattle.solve_blocks.specs.Matrices.{runOf}
 use Rattle.radau_core.specs.declared.step.Step.{Step}
 use Rattle.radau_core.specs.declared.step.Step.the-variants.{Asked, Main, Matrices, Attempt}
 use Rattle.radau_core.specs.Choices.{flagOf, statusOf, stageOf, stageTag, stagePart}
+use Rattle.radau_core.specs.Choices.{singularOf}
 use Rattle.radau_core.specs.Places.{Sized, stepAt}
 
 -- ---- an array is the list of its entries
@@ -46,8 +50,8 @@ from {A} z l i (suc k) h =
     (ap (λ (j : ℕ). drop j l) (sym (add-one i)) ∙ from z l (i + 1) k (omega arith))
 
 module _ {w : List ℕ} {d : List Float} (sized : Sized w d) where
-  pub words-at : w ≡ entries 0 w 0 38
-  words-at = from 0 w 0 38 (omega (arith, sized .words))
+  pub words-at : w ≡ entries 0 w 0 40
+  words-at = from 0 w 0 40 (omega (arith, sized .words))
 
   pub doubles-at : d ≡ entries nan d 0 29
   doubles-at = from nan d 0 29 (omega (arith, sized .doubles))
@@ -76,6 +80,12 @@ stage-back (stage.Ended status.UserInterrupt) = refl
 stage-back (stage.Ended status.NeedLargerNMax) = refl
 stage-back (stage.Ended status.StepSizeTooSmall) = refl
 stage-back (stage.Ended status.SingularMatrix) = refl
+
+pub singular-back : (s : Singular) → singularOf (singularKind s) (singularColumn s) ≡ s
+unfolding singularOf pick
+singular-back singular.None = refl
+singular-back (singular.Real k) = refl
+singular-back (singular.Complex k) = refl
 
 pub flag-back : (b : Bool) → flagOf (boolByte b) ≡ b
 flag-back true = refl

@@ -40,7 +40,7 @@ use Rattle.state.specs.Memory.{amountsFit, newtonFit, givenFit, factorsFit, dif
 use Rattle.state.specs.Pivots.{stray, strayAt}
 use Rattle.opening.specs.Rows.{verdictOf}
 use Rattle.opening.specs.Admission.{admissionRows, askingAt, answersReport}
-use Rattle.opening.specs.Opening.{firstCounts, firstControl, firstNumbers}
+use Rattle.opening.specs.Opening.{firstCounts, firstControl, firstNumbers, firstNotes}
 use Rattle.solve_blocks.specs.Advance.{AdvanceOutcome, advanceOutcome, advanceBy, repliedOf, calledOf}
 use Rattle.solve_blocks.specs.Matrices.{passesOf, passAt}
 use Rattle.solve_blocks.specs.Needs.{Fit, StageFit, MemoryLong}
@@ -79,6 +79,7 @@ sampleAt s =
       control = firstControl;
       numbers = firstNumbers «0·0» «0·0»;
       stage = s;
+      notes = firstNotes;
     }
 
 -- ---- an advance

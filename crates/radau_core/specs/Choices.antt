@@ -17,6 +17,8 @@ use Rattle.state.specs.declared.settings.Rule.{Rule}
 use Rattle.state.specs.declared.settings.Rule.the-variants as rule
 use Rattle.state.specs.declared.run.Tolerances.{Tolerances}
 use Rattle.state.specs.declared.run.Tolerances.the-variants as tolerances
+use Rattle.state.specs.declared.run.Singular.{Singular}
+use Rattle.state.specs.declared.run.Singular.the-variants as singular
 use Rattle.state.specs.declared.run.Status.{Status}
 use Rattle.state.specs.declared.run.Status.the-variants as status
 use Rattle.state.specs.declared.run.Stage.{Stage}
@@ -100,6 +102,14 @@ stagePart stage.Accepted = 0
 stagePart stage.Report = 0
 stagePart stage.DerivativeAgain = 0
 stagePart (stage.Ended s) = statusNumber s
+
+-- ---- the latest singular decomposition: of which matrix, and its column
+
+unfoldable pub singularOf : ℕ → ℕ → Singular
+singularOf kind column =
+    pick (eqb kind 1) (singular.Real column)
+    (pick (eqb kind 2) (singular.Complex column)
+    singular.None)
 
 -- ---- written: the other is 1, and what is absent is 0
 

@@ -14,6 +14,8 @@ use Rattle.state.specs.declared.run.Counts.{Counts}
 use Rattle.state.specs.declared.run.Control.{Control}
 use Rattle.state.specs.declared.run.Numbers.{Numbers}
 use Rattle.state.specs.declared.run.Stage.{Stage}
+use Rattle.state.specs.declared.run.Notes.{Notes}
+use Rattle.state.specs.Numbers.{singularKind, singularColumn}
 use Rattle.state.specs.Settings.{orNone}
 use Rattle.solve_blocks.specs.declared.step.Call as theCall
 use Rattle.solve_blocks.specs.declared.step.Step as theStep
@@ -32,6 +34,7 @@ use Rattle.radau_core.specs.declared.step.Heard.the-variants as held
 use Rattle.radau_core.specs.Choices.{flagOf, numberOf, wholeOf, massOf, sourceOf, ruleOf, tolerancesOf, stageOf}
 use Rattle.radau_core.specs.Choices.{stageTag, stagePart, flagWord, numberTag, numberValue, wholeTag}
 use Rattle.radau_core.specs.Choices.{massWord, sourceWord, ruleWord, tolerancesTag, rtolValue, atolValue}
+use Rattle.radau_core.specs.Choices.{singularOf}
 
 infixl 90 _#_
 abbrev pub _#_ : List ℕ → ℕ → ℕ
@@ -116,6 +119,9 @@ settingsAt w d = record {
 abbrev pub stageAt : List ℕ → Stage
 stageAt w = stageOf (w # 0) (w # 1)
 
+abbrev pub notesAt : List ℕ → Notes
+notesAt w = record { singular = singularOf (w # 38) (w # 39) }
+
 abbrev pub runAt : List ℕ → List Float → Run
 runAt w d = record {
   settings = settingsAt w d;
@@ -125,10 +131,11 @@ runAt w d = record {
   control = controlAt w;
   numbers = numbersAt w d;
   stage = stageAt w;
+  notes = notesAt w;
 }
 
 pub record Sized (w : List ℕ) (d : List Float) : Type 0 where
-  pub words : length w ≡ 38
+  pub words : length w ≡ 40
   pub doubles : length d ≡ 29
 
 -- ---- where `solve` stands
@@ -193,6 +200,8 @@ wordsOf r =
     ∷ orNone (r .settings .nind2)
     ∷ wholeTag (r .settings .nind3)
     ∷ orNone (r .settings .nind3)
+    ∷ singularKind (r .notes .singular)
+    ∷ singularColumn (r .notes .singular)
     ∷ []
 
 abbrev pub doublesOf : Run → List Float

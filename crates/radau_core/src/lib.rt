@@ -10,6 +10,7 @@ mod judge;
 mod kept;
 mod matrices;
 mod newton;
+mod notes;
 pub mod pack;
 mod passes;
 pub mod places;

@@ -4,6 +4,7 @@ use crate::kept::rule_mode;
 use crate::kept::shape_at;
 use crate::kept::source_mode;
 use crate::kept::tolerances_at;
+use crate::notes::notes_at;
 use crate::places::ACCEPTED;
 use crate::places::CALL_DECOMP;
 use crate::places::CALL_JAC;
@@ -67,6 +68,8 @@ use crate::places::XPH;
 use crate::stage::stage_at;
 use crate::stage::stage_part;
 use crate::stage::stage_tag;
+use state::numbers::singular_column;
+use state::numbers::singular_kind;
 use state::run::Control;
 use state::run::Counts;
 use state::run::Fixed;
@@ -206,6 +209,8 @@ pub fn words_of(run: Run) -> [usize; WORDS]
     let mass = s.mass;
     let source = s.source;
     let rule = s.rule;
+    let notes = run.notes;
+    let singular = notes.singular;
     [
         stage_tag(stage),
         stage_part(stage),
@@ -245,6 +250,8 @@ pub fn words_of(run: Run) -> [usize; WORDS]
         whole_word(nind2),
         whole_tag(nind3),
         whole_word(nind3),
+        singular_kind(singular),
+        singular_column(singular),
     ]
 }
 
@@ -410,5 +417,6 @@ pub fn run_at(words: &[usize; WORDS], doubles: &[f64; DOUBLES]) -> Run
         control: control_at(words),
         numbers: numbers_at(words, doubles),
         stage: stage_at(words),
+        notes: notes_at(words),
     }
 }

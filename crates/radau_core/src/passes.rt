@@ -1,6 +1,7 @@
 // The decompositions of a pass, and what a failure leads to (radau.rs:390-419).
 use crate::kept::mass_mode;
 use crate::matrices::built;
+use crate::notes::noted;
 use crate::places::CALL_DECOMP;
 use crate::places::CALL_JAC;
 use crate::places::DOUBLES;
@@ -18,6 +19,7 @@ use crate::step::Step;
 use matrix::Decomposed;
 use matrix::lu_decomp;
 use matrix::lu_decomp_complex;
+use state::run::Singular;
 use state::run::Status;
 ghost use mathlib.Core.Path.{_≡_};
 ghost use Prim.Native.Nat.{ℕ, _+_, _≤_, _<_, _^_};
@@ -27,7 +29,7 @@ ghost use lib.Ieee.{Float};
 ghost use Rattle.words.specs.Grid.{Square};
 ghost use Rattle.state.specs.Memory.{factors};
 ghost use Rattle.solve_blocks.specs.Setters.{inCounts, oneLu};
-ghost use Rattle.solve_blocks.specs.Matrices.{missedOf, failedOf, isErr, tried, complexTriedOf};
+ghost use Rattle.solve_blocks.specs.Matrices.{missedOf, failedOf, isErr, columnOf, stopping, tried, complexTriedOf};
 ghost use Rattle.solve_blocks.specs.Matrices.{realTriedOf, triedOf, passesOn, passesOf};
 ghost use Rattle.solve_blocks.specs.Needs.{Fit, StepFit, FactorsLong};
 ghost use Rattle.radau_core.specs.Places.{runAt, Sized, stepAt, shapeAt};
@@ -70,8 +72,31 @@ fn is_err(answer: Decomposed) -> bool
         Decomposed::Done => false,
         Decomposed::RefusedOrder => true,
         Decomposed::RefusedLength => true,
-        Decomposed::Singular => true,
+        Decomposed::Singular(_) => true,
     }
+}
+
+fn column_of(answer: Decomposed) -> usize
+    ensures { λ r. ⌜ r ≡ columnOf answer ⌝ }
+{
+    match answer {
+        Decomposed::Done => 0,
+        Decomposed::RefusedOrder => 0,
+        Decomposed::RefusedLength => 0,
+        Decomposed::Singular(k) => k,
+    }
+}
+
+// A decomposition that failed is kept as the latest, and is a failure.
+fn stopping(words: &mut [usize; WORDS], doubles: &mut [f64; DOUBLES], singular: Singular) -> Step
+    requires { ⌜ Sized (now words) (now doubles) ⌝ }
+    requires { ⌜ runAt (now words) (now doubles) .control .«singular_count» ≤ 5 ⌝ }
+    ensures { λ _. ⌜ Sized (now (words .exit)) (now (doubles .exit)) ⌝ }
+    ensures { λ r. ⌜ stepAt r (runAt (now (words .exit)) (now (doubles .exit)))
+        ≡ stopping singular (runAt (now (words .entry)) (now (doubles .entry))) ⌝ }
+{
+    noted(words, doubles, singular);
+    failed(words, doubles)
 }
 
 // One more decomposition is counted.
@@ -106,7 +131,7 @@ fn complex_tried(
     let answer = lu_decomp_complex(n, e2r, e2i, ip2);
     counted(words, doubles);
     if is_err(answer) {
-        return failed(words, doubles);
+        return stopping(words, doubles, Singular::Complex(column_of(answer)));
     }
     Step::Attempt
 }
@@ -133,7 +158,7 @@ fn real_tried(
     let answer = lu_decomp(n, e1, ip1);
     counted(words, doubles);
     if is_err(answer) {
-        return failed(words, doubles);
+        return stopping(words, doubles, Singular::Real(column_of(answer)));
     }
     complex_tried(words, doubles, e2r, e2i, ip2)
 }

@@ -1,6 +1,6 @@
-// The places of a run: 38 whole numbers in one array and 29 doubles in another, each at a place with a name, changed
+// The places of a run: 40 whole numbers in one array and 29 doubles in another, each at a place with a name, changed
 // where they stand. specs/Places.antt says which run two such arrays hold.
-pub const WORDS: usize = 38;
+pub const WORDS: usize = 40;
 
 pub const DOUBLES: usize = 29;
 
@@ -85,6 +85,12 @@ pub const GIVEN_NIND2: usize = 35;
 pub const HAS_NIND3: usize = 36;
 
 pub const GIVEN_NIND3: usize = 37;
+
+// ---- the notes, which no decision reads: the matrix of the latest singular decomposition (0 there was none, 1 E1,
+// 2 E2), and its column
+pub const SINGULAR: usize = 38;
+
+pub const COLUMN: usize = 39;
 
 // ---- doubles that an advance changes
 pub const X: usize = 0;

@@ -16,9 +16,11 @@ use replay::word::read_block;
 use state::run::Control;
 use state::run::Counts;
 use state::run::Fixed;
+use state::run::Notes;
 use state::run::Numbers;
 use state::run::Run;
 use state::run::Shape;
+use state::run::Singular;
 use state::run::Stage;
 use state::run::Status;
 use state::talk::Reply;
@@ -65,7 +67,7 @@ const PIVOTS: usize = 40;
 
 const ODD_PIVOT: usize = 41;
 
-// What the floats of the state are that no test looks at.
+// What the floats of the state are that no test looks at, and the column of its notes.
 const FLOATS: usize = 43;
 
 // The entries of an array that holds the pivots of up to 33 amounts, and one more.
@@ -234,6 +236,24 @@ impl Case {
         }
     }
 
+    // Any notes are fit: a column of n or more too.
+    fn notes(self) -> Notes {
+        let words = self.words;
+        let column = words[FLOATS] as usize;
+        let kind = words[FLOATS] % 3;
+        match kind {
+            0 => Notes {
+                singular: Singular::None,
+            },
+            1 => Notes {
+                singular: Singular::Real(column),
+            },
+            _ => Notes {
+                singular: Singular::Complex(column),
+            },
+        }
+    }
+
     pub fn run(self) -> Run {
         let words = self.words;
         Run {
@@ -244,6 +264,7 @@ impl Case {
             control: self.control(),
             numbers: self.numbers(),
             stage: self.stage(),
+            notes: self.notes(),
         }
     }
 }

@@ -1,5 +1,4 @@
-// The calls of the routines, each lent as much of the memory as the case says. An answer is document 01's number, and 0
-// where the routine did its work.
+// The calls of the routines, each lent as much of the memory as the case says.
 use crate::line::Case;
 use crate::memory::ROOM;
 use dense::Interpolated;
@@ -7,38 +6,51 @@ use matrix::Decomposed;
 use matrix::Solved;
 use replay::word::within;
 
-fn decomposed(answer: Decomposed) -> u64 {
+// Document 01's number, and 0 where the routine did its work; with 17 the column.
+pub struct Answered {
+    pub answer: u64,
+    pub column: u64,
+}
+
+fn plain(answer: u64) -> Answered {
+    Answered { answer, column: 0 }
+}
+
+fn decomposed(answer: Decomposed) -> Answered {
     match answer {
-        Decomposed::Done => 0,
-        Decomposed::RefusedOrder => 1,
-        Decomposed::RefusedLength => 16,
-        Decomposed::Singular => 17,
+        Decomposed::Done => plain(0),
+        Decomposed::RefusedOrder => plain(1),
+        Decomposed::RefusedLength => plain(16),
+        Decomposed::Singular(k) => Answered {
+            answer: 17,
+            column: k as u64,
+        },
     }
 }
 
-fn solved(answer: Solved) -> u64 {
+fn solved(answer: Solved) -> Answered {
     match answer {
-        Solved::Done => 0,
-        Solved::RefusedOrder => 1,
-        Solved::RefusedLength => 16,
-        Solved::RefusedPivot => 18,
+        Solved::Done => plain(0),
+        Solved::RefusedOrder => plain(1),
+        Solved::RefusedLength => plain(16),
+        Solved::RefusedPivot => plain(18),
     }
 }
 
-fn interpolated(answer: Interpolated) -> u64 {
+fn interpolated(answer: Interpolated) -> Answered {
     match answer {
-        Interpolated::Done => 0,
-        Interpolated::RefusedTarget => 19,
+        Interpolated::Done => plain(0),
+        Interpolated::RefusedTarget => plain(19),
     }
 }
 
-fn decompose(case: Case, a: &mut [f64], ip: &mut [usize]) -> u64 {
+fn decompose(case: Case, a: &mut [f64], ip: &mut [usize]) -> Answered {
     let entries = within(case.matrix, a.len());
     let pivots = within(case.pivots, ip.len());
     decomposed(matrix::lu_decomp(case.n, &mut a[0..entries], &mut ip[0..pivots]))
 }
 
-fn decompose_complex(case: Case, ar: &mut [f64], ai: &mut [f64], ip: &mut [usize]) -> u64 {
+fn decompose_complex(case: Case, ar: &mut [f64], ai: &mut [f64], ip: &mut [usize]) -> Answered {
     let entries = within(case.matrix, ar.len());
     let imaginary = within(case.matrix_imaginary, ai.len());
     let pivots = within(case.pivots, ip.len());
@@ -50,7 +62,7 @@ fn decompose_complex(case: Case, ar: &mut [f64], ai: &mut [f64], ip: &mut [usize
     ))
 }
 
-fn solve(case: Case, a: &[f64], b: &mut [f64], ip: &[usize]) -> u64 {
+fn solve(case: Case, a: &[f64], b: &mut [f64], ip: &[usize]) -> Answered {
     let entries = within(case.matrix, a.len());
     let side = within(case.side, b.len());
     let pivots = within(case.pivots, ip.len());
@@ -64,7 +76,7 @@ fn solve_complex(
     br: &mut [f64],
     bi: &mut [f64],
     ip: &[usize],
-) -> u64 {
+) -> Answered {
     let entries = within(case.matrix, ar.len());
     let imaginary = within(case.matrix_imaginary, ai.len());
     let side = within(case.side, br.len());
@@ -81,17 +93,17 @@ fn solve_complex(
 }
 
 // At xi, in the step from xold by h.
-fn interpolate(case: Case, cont: &[f64], xi: f64, xold: f64, h: f64, yi: &mut [f64]) -> u64 {
+fn interpolate(case: Case, cont: &[f64], xi: f64, xold: f64, h: f64, yi: &mut [f64]) -> Answered {
     let entries = within(case.matrix, cont.len());
     let amounts = within(case.side, yi.len());
     interpolated(dense::interpolate(xi, &mut yi[0..amounts], &cont[0..entries], xold, h))
 }
 
-fn bounds(xold: f64, h: f64, ends: &mut [f64; ROOM]) -> u64 {
+fn bounds(xold: f64, h: f64, ends: &mut [f64; ROOM]) -> Answered {
     let found = dense::bounds(xold, h);
     ends[0] = found.left;
     ends[1] = found.right;
-    0
+    plain(0)
 }
 
 // Calls the case's routine.
@@ -102,7 +114,7 @@ pub fn called(
     br: &mut [f64; ROOM],
     bi: &mut [f64; ROOM],
     ip: &mut [usize; ROOM],
-) -> u64 {
+) -> Answered {
     let letter = case.letter;
     match letter {
         b'd' => decompose(case, ar, ip),

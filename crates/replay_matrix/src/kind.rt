@@ -3,9 +3,12 @@
 
 pub const ROWS: usize = 7;
 
+// Document 01's number of a singular matrix.
+pub const SINGULAR: u64 = 17;
+
 // Whether a routine that answers so has done its work, or as much of it as a singular matrix lets it do.
 pub fn is_worked(wanted: u64) -> bool {
-    (wanted == 0) | (wanted == 17)
+    (wanted == 0) | (wanted == SINGULAR)
 }
 
 // The row of a case in the summary, or ROWS where the letter means no routine.

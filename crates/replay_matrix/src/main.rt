@@ -6,8 +6,10 @@ mod kind;
 mod line;
 mod memory;
 
+use call::Answered;
 use call::called;
 use kind::ROWS;
+use kind::SINGULAR;
 use kind::is_decomposition;
 use kind::is_worked;
 use kind::row;
@@ -26,6 +28,7 @@ use replay::found::Found;
 use replay::told::counted;
 use replay::told::malformed;
 use replay::told::write_summary;
+use replay::word::read_word;
 use replay::word::within;
 
 // More cases than there are.
@@ -69,6 +72,15 @@ fn met_side(case: Case, found: Found, br: &[f64], bi: &[f64]) -> Found {
     meet(&bi[0..imaginary], first)
 }
 
+// Holds the answer against the head, and with 17 the column against the next line.
+fn met_answer(case: Case, told: Answered) -> Found {
+    let found = Found::nothing().compared(told.answer, case.wanted);
+    if case.wanted == SINGULAR {
+        return found.held_against(told.column, read_word(b'\n'));
+    }
+    found
+}
+
 // A case in which the routine works: the lines after it tell what is then in the memory.
 fn worked(
     case: Case,
@@ -78,8 +90,8 @@ fn worked(
     bi: &mut [f64; ROOM],
     ip: &mut [usize; ROOM],
 ) -> Found {
-    let answer = called(case, ar, ai, br, bi, ip);
-    let found = Found::nothing().compared(answer, case.wanted);
+    let told = called(case, ar, ai, br, bi, ip);
+    let found = met_answer(case, told);
     if is_decomposition(case.letter) {
         return met_factors(case, found, ar, ai, ip);
     }
@@ -100,8 +112,8 @@ fn refused(
     let br_before = *br;
     let bi_before = *bi;
     let ip_before = *ip;
-    let answer = called(case, ar, ai, br, bi, ip);
-    let start = Found::nothing().compared(answer, case.wanted);
+    let told = called(case, ar, ai, br, bi, ip);
+    let start = Found::nothing().compared(told.answer, case.wanted);
     let first = keep(ar, &ar_before, start);
     let second = keep(ai, &ai_before, first);
     let third = keep(br, &br_before, second);

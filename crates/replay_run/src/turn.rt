@@ -16,6 +16,8 @@ use bits::double;
 use radau::advance::Resumed;
 use replay::found::Found;
 use replay::memory::Memory;
+use state::blame_column;
+use state::blame_kind;
 use state::run::Counts;
 use state::run::Run;
 use state::status_number;
@@ -70,7 +72,10 @@ fn met_end(found: Found, ended: IntegrationResult, words: [u64; ASKED]) -> Found
     let step = found
         .double(ended.h, words[FLOATS])
         .double(ended.x, words[FLOATS + 1]);
+    let blame = ended.blame;
     met_counts(step, ended.counts, words)
+        .compared(blame_kind(blame) as u64, words[FLOATS + 8])
+        .compared(blame_column(blame) as u64, words[FLOATS + 9])
 }
 
 fn met_result(found: Found, run: Run, words: [u64; ASKED]) -> Found {
@@ -114,7 +119,7 @@ fn met_talk(found: Found, talk: Talk, words: [u64; ASKED]) -> Found {
 }
 
 // The values are compared in this order: the digest of memory, the request's kind, place and flag, then its floats, or
-// at the end h, x and the six counts.
+// at the end h, x, the six counts and the singular matrix that is blamed, with its column.
 pub fn met(outcome: CallOutcome, n: usize, words: [u64; ASKED]) -> Found {
     let memory = outcome.memory;
     let talk = outcome.talk;

@@ -11,7 +11,7 @@ use Rattle.state.specs.declared.run.Run.{Run}
 use Rattle.state.specs.Memory.{Factors, factors}
 use Rattle.solve_blocks.specs.declared.step.Step.{Step}
 use Rattle.solve_blocks.specs.declared.step.Step.the-variants as step
-use Rattle.solve_blocks.specs.Setters.{_▸_, inCounts, oneLu}
+use Rattle.solve_blocks.specs.Setters.{_▸_, inCounts, inNotes, oneLu, setLatest}
 use Rattle.solve_blocks.specs.Events.{Event, Logged, logged, quiet, andThen}
 use Rattle.solve_blocks.specs.Entries.{Three, three}
 use Rattle.solve_blocks.specs.MemorySetters.{setFactors}
@@ -38,7 +38,8 @@ failed-of n r e = pick-all (StepOf n) _ _ _ (λ _. tt) (λ _. e)
 complex-of : (n : ℕ) (r : Run) (f : Factors) → r .shape .n ≡ n → StepOf n (complexTriedOf r f .core .step)
 unfolding complexTriedOf StepOf
 complex-of n r f e =
-    pick-all (λ (l : Logged Tried). StepOf n (l .core .step)) _ _ _ (λ _. failed-of n (r ▸ inCounts oneLu) e) (λ _. e)
+    pick-all (λ (l : Logged Tried). StepOf n (l .core .step)) _ _ _
+    (λ _. failed-of n (r ▸ inCounts oneLu ▸ inNotes (setLatest _)) e) (λ _. e)
 
 tried-of : (n : ℕ) (r : Run) (mass jac : List Float) (f : Factors) → r .shape .n ≡ n
     → StepOf n (triedOf r mass jac f .core .step)
@@ -46,7 +47,7 @@ unfolding triedOf realTriedOf StepOf
 tried-of n r mass jac f e =
     pick-all (λ (l : Logged Tried). StepOf n (l .core .step)) (r .control .«call_decomp») _ _
     (λ _. pick-all (λ (l : Logged Tried). StepOf n (l .core .step)) _ _ _
-    (λ _. failed-of n (r ▸ inCounts oneLu) e) (λ _. complex-of n (r ▸ inCounts oneLu) _ e))
+    (λ _. failed-of n (r ▸ inCounts oneLu ▸ inNotes (setLatest _)) e) (λ _. complex-of n (r ▸ inCounts oneLu) _ e))
     (λ _. e)
 
 step-of : (n : ℕ) (s : Step) → passesOn s ≡ true → StepOf n s → runOf s .shape .n ≡ n
@@ -75,12 +76,14 @@ module _ (c : Changes) (rules : RuleSame c) where
 
   complex-same : (r : Run) (f : Factors) → complexTriedOf (runBy c r) f ≡ onCore (onTried c) (complexTriedOf r f)
   unfolding complexTriedOf
-  complex-same r f = pick-maps (onCore (onTried c)) _ (tried-failed (r ▸ inCounts oneLu) _ _) refl
+  complex-same r f =
+      pick-maps (onCore (onTried c)) _ (tried-failed (r ▸ inCounts oneLu ▸ inNotes (setLatest _)) _ _) refl
 
   real-same : (r : Run) (f : Factors) → realTriedOf (runBy c r) f ≡ onCore (onTried c) (realTriedOf r f)
   unfolding realTriedOf
   real-same r f =
-      pick-maps (onCore (onTried c)) _ (tried-failed (r ▸ inCounts oneLu) _ _) (complex-same (r ▸ inCounts oneLu) _)
+      pick-maps (onCore (onTried c)) _ (tried-failed (r ▸ inCounts oneLu ▸ inNotes (setLatest _)) _ _)
+      (complex-same (r ▸ inCounts oneLu) _)
 
   on-same : (s : Step) → passesOn (onStep c s) ≡ passesOn s
   on-same (step.Asked a) = refl

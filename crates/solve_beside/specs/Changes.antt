@@ -52,6 +52,7 @@ runBy c r =
       control = r .control;
       numbers = r .numbers;
       stage = r .stage;
+      notes = r .notes;
     }
 
 abbrev pub memoryBy : Changes → Memory → Memory

@@ -44,7 +44,7 @@ use Rattle.solve_blocks.specs.Setters.{_▸_, inCounts, inNumbers, oneLu
 use Rattle.solve_blocks.specs.Events.{Event, slow, error-solve, failed, accepted}
 use Rattle.solve_blocks.specs.Events.{not-aimed, Logged, quiet, andThen}
 use Rattle.solve_blocks.specs.Entries.{Three}
-use Rattle.solve_blocks.specs.Matrices.{failedOf, isErr, Tried, tried, complexTriedOf}
+use Rattle.solve_blocks.specs.Matrices.{failedOf, Tried, tried, complexTriedOf}
 use Rattle.solve_blocks.specs.Matrices.{realTriedOf, triedOf, passesOn, runOf, passAt, passesOf}
 use Rattle.solve_blocks.specs.Attempt.{askStageOf, Begun, beganOf, attemptOf}
 use Rattle.solve_blocks.specs.Newton.{RoundDone, concludedOf, slowRound, slowedOf, predictedOf}
@@ -132,19 +132,19 @@ module _ {p : Reply} {mass jac : List Float} {P : List Event → Position → Ty
         Leads es t triedAt)
     unfolding complexTriedOf
     complex-leads none e1 ip1 =
-        let answers = ap isErr (complex-answers r mass jac f low long) in
+        let answers = complex-answers r mass jac f low long in
         pick-all (λ (l : Logged Tried). Leads es l triedAt) _ _ _
-        (λ e. failure-leads (c .complex-stopped f _ long none (error-column _ (sym answers ∙ e) .0) h))
-        (λ e. c .decomposed f long none (no-error _ (sym answers ∙ e)) h)
+        (λ e. failure-leads (c .complex-stopped f _ long none (error-column _ _ answers e .0) h))
+        (λ e. c .decomposed f long none (no-error _ _ answers e) h)
 
     real-leads : (let b = built r mass jac f in
         Leads es (realTriedOf r (factors (b .one) (b .two) (b .three) (f .ip1) (f .ip2))) triedAt)
     unfolding realTriedOf
     real-leads =
-        let answers = ap isErr (real-answers r mass jac f low long) in
+        let answers = real-answers r mass jac f low long in
         pick-all (λ (l : Logged Tried). Leads es l triedAt) _ _ _
-        (λ e. failure-leads (c .real-stopped f _ long (error-column _ (sym answers ∙ e) .0) h))
-        (λ e. complex-leads (no-error _ (sym answers ∙ e)) _ _)
+        (λ e. failure-leads (c .real-stopped f _ long (error-column _ _ answers e .0) h))
+        (λ e. complex-leads (no-error _ _ answers e) _ _)
 
     tried-leads : Leads es (triedOf r mass jac f) triedAt
     unfolding triedOf

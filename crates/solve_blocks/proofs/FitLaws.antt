@@ -19,10 +19,11 @@ use Rattle.words.specs.Grid.{Square}
 use Rattle.words.proofs.Branch.{pick-all}
 use Rattle.words.proofs.Loops.{loop-none, loop-more, Ran}
 use Rattle.state.specs.declared.run.Run.{Run}
+use Rattle.state.specs.declared.run.Singular.{Singular}
 use Rattle.state.specs.Memory.{Factors}
 use Rattle.solve_blocks.specs.declared.step.Step.{Step}
 use Rattle.solve_blocks.specs.declared.step.Step.the-variants as step
-use Rattle.solve_blocks.specs.Setters.{inCounts, oneLu}
+use Rattle.solve_blocks.specs.Setters.{_▸_, inCounts, inNotes, oneLu, setLatest}
 use Rattle.solve_blocks.specs.Events.{Logged}
 use Rattle.solve_blocks.specs.Matrices.{failedOf, Tried, tried, complexTriedOf}
 use Rattle.solve_blocks.specs.Matrices.{realTriedOf, triedOf, passesOn, runOf, passesOf}
@@ -43,6 +44,10 @@ module _ {k n : ℕ} {r : Run} where
   failed-fit fit =
       pick-all (StepFit k n) (ltb 5 (r .control .«singular_count» + 1)) _ _ (λ _. tt) (λ e. omega (arith, ltb-false))
 
+module _ {k n : ℕ} (r : Run) {at : Singular} where
+  pub noted-fit : Fit k n r → Fit k n (inNotes (setLatest at) r)
+  noted-fit fit = omega arith
+
 -- ---- a step that passes on
 
 no-pass : {A : Type 0} → false ≡ true → A
@@ -60,16 +65,17 @@ pass-fit k n (step.Attempt r) fit e = no-pass e
 module _ (k n : ℕ) where
   complex-fit : {r : Run} (f : Factors) → Fit (k + 1) n r → StepFit k n (complexTriedOf r f .core .step)
   unfolding complexTriedOf StepFit
-  complex-fit f fit =
+  complex-fit {r} f fit =
       pick-all (λ (l : Logged Tried). StepFit k n (l .core .step)) _ _ _
-      (λ _. failed-fit (counted-fit fit)) (λ _. counted-fit fit)
+      (λ _. failed-fit (noted-fit (inCounts oneLu r) (counted-fit fit))) (λ _. counted-fit fit)
 
   real-fit : {r : Run} (f : Factors) → Fit (k + 2) n r → StepFit k n (realTriedOf r f .core .step)
   unfolding realTriedOf
   real-fit {r} f fit =
       let none : Fit k n (inCounts oneLu r) = omega arith in
       let one : Fit (k + 1) n (inCounts oneLu r) = omega arith in
-      pick-all (λ (l : Logged Tried). StepFit k n (l .core .step)) _ _ _ (λ _. failed-fit none) (λ _. complex-fit _ one)
+      pick-all (λ (l : Logged Tried). StepFit k n (l .core .step)) _ _ _
+      (λ _. failed-fit (noted-fit (inCounts oneLu r) none)) (λ _. complex-fit _ one)
 
   pub tried-fit : {r : Run} (mass jac : List Float) (f : Factors) → Fit (k + 2) n r
       → StepFit k n (triedOf r mass jac f .core .step)
@@ -155,14 +161,14 @@ complex-more : (i : ℕ) (r : Run) (f : Factors) → i ≤ r .control .«singula
 unfolding complexTriedOf
 complex-more i r f met =
     pick-all (λ (l : Logged Tried). Failures (i + 1) (l .core .step)) _ _ _
-    (λ _. failed-more i (inCounts oneLu r) met) (λ _ e. no-pass e)
+    (λ _. failed-more i (r ▸ inCounts oneLu ▸ inNotes (setLatest _)) met) (λ _ e. no-pass e)
 
 real-more : (i : ℕ) (r : Run) (f : Factors) → i ≤ r .control .«singular_count»
     → Failures (i + 1) (realTriedOf r f .core .step)
 unfolding realTriedOf
 real-more i r f met =
     pick-all (λ (l : Logged Tried). Failures (i + 1) (l .core .step)) _ _ _
-    (λ _. failed-more i (inCounts oneLu r) met)
+    (λ _. failed-more i (r ▸ inCounts oneLu ▸ inNotes (setLatest _)) met)
     (λ _. complex-more i (inCounts oneLu r) _ met)
 
 module _ (mass jac : List Float) where

@@ -20,13 +20,14 @@ use Rattle.matrix.specs.Complex.{parts}
 use Rattle.matrix.specs.Lu.{luDecompOf}
 use Rattle.matrix.specs.LuComplex.{luDecompComplexOf}
 use Rattle.state.specs.declared.run.Run.{Run}
+use Rattle.state.specs.declared.run.Singular.the-variants as singular
 use Rattle.state.specs.Memory.{Factors, factors}
 use Rattle.solve_blocks.specs.declared.step.Step.{Step}
 use Rattle.solve_blocks.specs.declared.step.Step.the-variants as step
 use Rattle.solve_blocks.specs.Setters.{inCounts, oneLu}
 use Rattle.solve_blocks.specs.Events.{Logged, quiet}
 use Rattle.solve_blocks.specs.Entries.{Three, three}
-use Rattle.solve_blocks.specs.Matrices.{failedOf, isErr, Tried, tried, builtOf, complexTriedOf}
+use Rattle.solve_blocks.specs.Matrices.{isErr, columnOf, stopping, Tried, tried, builtOf, complexTriedOf}
 use Rattle.solve_blocks.specs.Matrices.{realTriedOf, triedOf, passesOn, runOf, passAt, passesOf}
 
 -- ---- the decompositions
@@ -35,7 +36,7 @@ module _ (r : Run) (f : Factors) (answer : Decomposed) (ip : List ℕ) {s : Run}
     (b : Bool) (heard : b ≡ isErr answer) where
   module _ (re im : List Float) (worked : decomposition answer (parts re im) ip
       ≡ luDecompComplexOf (r .shape .n) (parts (f .e2r) (f .e2i)) (f .ip2)) where
-    pub complex-failed : {t : Step} → b ≡ true → t ≡ failedOf s
+    pub complex-failed : {t : Step} → b ≡ true → t ≡ stopping (singular.Complex (columnOf answer)) s
         → tried t (factors (f .e1) re im (f .ip1) ip) ≡ complexTriedOf r f .core
     unfolding complexTriedOf pick
     complex-failed e u = rw (u, counted, ← worked, ← heard, e)
@@ -45,7 +46,7 @@ module _ (r : Run) (f : Factors) (answer : Decomposed) (ip : List ℕ) {s : Run}
     complex-done e = rw (counted, ← worked, ← heard, e)
 
   module _ (a : List Float) (worked : decomposition answer a ip ≡ luDecompOf (r .shape .n) (f .e1) (f .ip1)) where
-    pub real-failed : {t : Step} → b ≡ true → t ≡ failedOf s
+    pub real-failed : {t : Step} → b ≡ true → t ≡ stopping (singular.Real (columnOf answer)) s
         → tried t (factors a (f .e2r) (f .e2i) ip (f .ip2)) ≡ realTriedOf r f .core
     unfolding realTriedOf pick
     real-failed e u = rw (u, counted, ← worked, ← heard, e)

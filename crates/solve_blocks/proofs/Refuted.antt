@@ -190,6 +190,7 @@ alone =
       control = r .control;
       numbers = r .numbers;
       stage = r .stage;
+      notes = r .notes;
     }
 
 abbrev unit : List Float

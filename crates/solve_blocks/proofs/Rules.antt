@@ -15,6 +15,7 @@ use Rattle.state.specs.declared.settings.Number.{Number}
 use Rattle.state.specs.declared.settings.Rule.the-variants as rule
 use Rattle.state.specs.declared.settings.Source.the-variants as source
 use Rattle.state.specs.declared.run.Run.{Run}
+use Rattle.state.specs.declared.run.Singular.the-variants as singular
 use Rattle.state.specs.declared.run.Stage.{Stage}
 use Rattle.state.specs.declared.run.Stage.the-variants as stage
 use Rattle.state.specs.declared.run.Status.the-variants as status
@@ -24,8 +25,8 @@ use Rattle.state.specs.declared.talk.Reply.the-variants as reply
 use Rattle.state.specs.declared.talk.Request.the-variants as request
 use Rattle.state.specs.Memory.{Factors}
 use Rattle.solve_blocks.specs.declared.step.Call.{Call}
-use Rattle.solve_blocks.specs.Setters.{_▸_, inCounts, inControl, inNumbers, atStage, oneJac}
-use Rattle.solve_blocks.specs.Setters.{oneLu, oneTotal, oneRejected, setLast}
+use Rattle.solve_blocks.specs.Setters.{_▸_, inCounts, inControl, inNumbers, inNotes, atStage, oneJac}
+use Rattle.solve_blocks.specs.Setters.{oneLu, oneTotal, oneRejected, setLast, setLatest}
 use Rattle.solve_blocks.specs.Setters.{setReject, setCallJac, setCallDecomp, setSingular, setNewt}
 use Rattle.solve_blocks.specs.Setters.{setXph, setH, setHnew, setHhfac, setHAcc}
 use Rattle.solve_blocks.specs.Setters.{setErrAcc, setFaccon, setTheta, setDynold, setThqold, setXout}
@@ -163,10 +164,12 @@ pub record Closed (p : Reply) (mass jac : List Float) (P : List Event → Positi
       → r .control .«call_decomp» ≡ false → P es (matrices r) → P es (attempt r)
   pub real-stopped : {es : List Event} {r : Run} (f : Factors) (k : ℕ) → FactorsLong (r .shape .n) f
       → e1Stop r mass jac f ≡ column k → P es (matrices r)
-      → P (es ++ (real-singular (r .numbers .h) k ∷ [])) (failing (r ▸ inCounts oneLu))
+      → P (es ++ (real-singular (r .numbers .h) k ∷ []))
+      (failing (r ▸ inCounts oneLu ▸ inNotes (setLatest (singular.Real k))))
   pub complex-stopped : {es : List Event} {r : Run} (f : Factors) (k : ℕ) → FactorsLong (r .shape .n) f
       → e1Stop r mass jac f ≡ nowhere → e2Stop r mass jac f ≡ column k → P es (matrices r)
-      → P (es ++ (complex-singular (r .numbers .h) k ∷ [])) (failing (r ▸ inCounts oneLu ▸ inCounts oneLu))
+      → P (es ++ (complex-singular (r .numbers .h) k ∷ []))
+      (failing (r ▸ inCounts oneLu ▸ inCounts oneLu ▸ inNotes (setLatest (singular.Complex k))))
   pub decomposed : {es : List Event} {r : Run} (f : Factors) → FactorsLong (r .shape .n) f
       → e1Stop r mass jac f ≡ nowhere → e2Stop r mass jac f ≡ nowhere → P es (matrices r)
       → P (es ++ (factored (r .numbers .h) ∷ [])) (attempt (r ▸ inCounts oneLu ▸ inCounts oneLu))

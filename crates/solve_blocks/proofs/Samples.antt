@@ -25,6 +25,7 @@ use Rattle.state.specs.declared.run.Stage.the-variants as stage
 use Rattle.state.specs.declared.run.Tolerances.the-variants.{Lists}
 use Rattle.state.specs.Memory.{Newton, newton}
 use Rattle.state.specs.Settings.{defaultsOf}
+use Rattle.opening.specs.Opening.{firstNotes}
 use Rattle.solve_blocks.specs.declared.step.Step.{Step}
 use Rattle.solve_blocks.specs.declared.step.Step.the-variants as step
 use Rattle.solve_blocks.specs.declared.step.Round.{Round}
@@ -92,6 +93,7 @@ runBy tolerance end direction =
       control = control false false false true true 0 4;
       numbers = numbers;
       stage = stage.Newton3;
+      notes = firstNotes;
     }
 
 abbrev pub drawn : Run

@@ -1,17 +1,18 @@
 -- What a pass through the matrices meets: an error exactly where the elimination of a matrix that it built stops at a
 -- column, which is a 17 of that try.
---     error-column, no-error          an answered stop is an error exactly at a column, which the event names; its
+--     error-column, no-error          an answered stop is an error exactly at a column, which the answer tells; its
 --                                     number is 17
 --     real-answers, complex-answers   what a try of a pass answers: no refusal, so an error is `Singular`
 --     pass-total                      total is as it was: a pass begins no attempt
 use Prim.Native.Nat.{ℕ, _*_, _≤_}
-use mathlib.Core.Path.{_≡_, refl, sym, ap, _∙_}
+use mathlib.Core.Path.{_≡_, refl, sym, ap, _∙_, subst}
 use mathlib.Core.Bool.{true, false, true≢false}
 use mathlib.Core.List.{List, [], _∷_}
 use lib.Ieee.{Float}
 use borrow.Author.Tests.{le-leb, eq-eqb}
 use Rattle.words.specs.Loop.{pick}
 use Rattle.words.proofs.Branch.{pick-all}
+use Rattle.matrix.specs.declared.answers.Decomposed.{Decomposed}
 use Rattle.matrix.specs.Answers.{Stop, nowhere, column, stopAnswer, decomposedNumber}
 use Rattle.matrix.specs.Complex.{Parts, parts}
 use Rattle.matrix.specs.Elimination.{worked, answered}
@@ -20,7 +21,7 @@ use Rattle.matrix.specs.LuComplex.{complexKind, luDecompComplexOf}
 use Rattle.state.specs.declared.run.Run.{Run}
 use Rattle.state.specs.Memory.{Factors}
 use Rattle.solve_blocks.specs.declared.step.Step.{Step}
-use Rattle.solve_blocks.specs.Setters.{_▸_, inCounts, oneLu}
+use Rattle.solve_blocks.specs.Setters.{_▸_, inCounts, inNotes, oneLu, setLatest}
 use Rattle.solve_blocks.specs.Entries.{Three, three}
 use Rattle.solve_blocks.specs.Events.{Logged}
 use Rattle.solve_blocks.specs.Matrices.{failedOf, isErr, columnOf, builtOf, Tried}
@@ -29,14 +30,23 @@ use Rattle.solve_blocks.specs.Needs.{FactorsLong}
 use Rattle.solve_blocks.proofs.Decompositions.{Long, set-long}
 use Rattle.solve_blocks.proofs.Passes.{Each, built-kept}
 
-pub error-column : (s : Stop) → isErr (stopAnswer s) ≡ true
-    → (s ≡ column (columnOf s)) × (decomposedNumber (stopAnswer s) ≡ 17)
-error-column nowhere e = absurd (true≢false (sym e))
-error-column (column k) e = (refl, refl)
+stop-column : (s : Stop) → isErr (stopAnswer s) ≡ true
+    → (s ≡ column (columnOf (stopAnswer s))) × (decomposedNumber (stopAnswer s) ≡ 17)
+stop-column nowhere e = absurd (true≢false (sym e))
+stop-column (column k) e = (refl, refl)
 
-pub no-error : (s : Stop) → isErr (stopAnswer s) ≡ false → s ≡ nowhere
-no-error nowhere e = refl
-no-error (column k) e = absurd (true≢false e)
+stop-nowhere : (s : Stop) → isErr (stopAnswer s) ≡ false → s ≡ nowhere
+stop-nowhere nowhere e = refl
+stop-nowhere (column k) e = absurd (true≢false e)
+
+module _ (d : Decomposed) (s : Stop) (answers : d ≡ stopAnswer s) where
+  pub error-column : isErr d ≡ true → (s ≡ column (columnOf d)) × (decomposedNumber d ≡ 17)
+  error-column e =
+      subst (λ (d : Decomposed). (s ≡ column (columnOf d)) × (decomposedNumber d ≡ 17)) (sym answers)
+      (stop-column s (sym (ap isErr answers) ∙ e))
+
+  pub no-error : isErr d ≡ false → s ≡ nowhere
+  no-error e = stop-nowhere s (sym (ap isErr answers) ∙ e)
 
 -- ---- a try: an order and lengths that fit are not refused
 
@@ -94,6 +104,7 @@ module _ (r : Run) where
   unfolding triedOf realTriedOf complexTriedOf
   pass-total mass jac f =
       pick-all Total _ _ _
-      (λ _. pick-all Total _ _ _ (λ _. failed-total (r ▸ inCounts oneLu))
-      (λ _. pick-all Total _ _ _ (λ _. failed-total (r ▸ inCounts oneLu ▸ inCounts oneLu)) (λ _. refl)))
+      (λ _. pick-all Total _ _ _ (λ _. failed-total (r ▸ inCounts oneLu ▸ inNotes (setLatest _)))
+      (λ _. pick-all Total _ _ _
+      (λ _. failed-total (r ▸ inCounts oneLu ▸ inCounts oneLu ▸ inNotes (setLatest _))) (λ _. refl)))
       (λ _. refl)

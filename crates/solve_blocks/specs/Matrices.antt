@@ -11,15 +11,15 @@ use Rattle.words.specs.Grid.{put}
 use Rattle.scalar.specs.Coefficients.{U1, ALPH, BETA}
 use Rattle.matrix.specs.declared.answers.Decomposed.{Decomposed}
 use Rattle.matrix.specs.declared.answers.Decomposed.the-variants as decomposed
-use Rattle.matrix.specs.Answers.{Stop, nowhere, column}
 use Rattle.matrix.specs.Complex.{parts}
-use Rattle.matrix.specs.Elimination.{worked}
-use Rattle.matrix.specs.Lu.{real, luDecompOf}
-use Rattle.matrix.specs.LuComplex.{complexKind, luDecompComplexOf}
+use Rattle.matrix.specs.Lu.{luDecompOf}
+use Rattle.matrix.specs.LuComplex.{luDecompComplexOf}
 use Rattle.state.specs.declared.settings.Mass.{Mass}
 use Rattle.state.specs.declared.settings.Rule.{Rule}
 use Rattle.state.specs.declared.run.Control.{Control}
 use Rattle.state.specs.declared.run.Run.{Run}
+use Rattle.state.specs.declared.run.Singular.{Singular}
+use Rattle.state.specs.declared.run.Singular.the-variants as singular
 use Rattle.state.specs.declared.run.Status.{Status}
 use Rattle.state.specs.declared.run.Status.the-variants.{SingularMatrix}
 use Rattle.state.specs.declared.run.Stage.{Stage}
@@ -32,8 +32,9 @@ use Rattle.state.specs.Memory.{Factors, factors}
 use Rattle.solve_blocks.specs.declared.step.Call.{Call}
 use Rattle.solve_blocks.specs.declared.step.Step.{Step}
 use Rattle.solve_blocks.specs.declared.step.Step.the-variants as step
-use Rattle.solve_blocks.specs.Setters.{_▸_, inCounts, inControl, inNumbers, atStage, oneOde, oneLu}
+use Rattle.solve_blocks.specs.Setters.{_▸_, inCounts, inControl, inNumbers, inNotes, atStage, oneOde, oneLu}
 use Rattle.solve_blocks.specs.Setters.{setSingular, setReject, setLast, setCallJac, setCallDecomp, setH, setHhfac}
+use Rattle.solve_blocks.specs.Setters.{setLatest}
 use Rattle.solve_blocks.specs.Events.{real-singular, complex-singular, factored, Logged, logged, quiet, andThen}
 use Rattle.solve_blocks.specs.Entries.{massAt, jacAt, Three, three}
 
@@ -97,11 +98,18 @@ abbrev pub isErr : Decomposed → Bool
 isErr decomposed.Done = false
 isErr decomposed.RefusedOrder = true
 isErr decomposed.RefusedLength = true
-isErr decomposed.Singular = true
+isErr (decomposed.Singular k) = true
 
-abbrev pub columnOf : Stop → ℕ
-columnOf nowhere = 0
-columnOf (column k) = k
+-- the column without a pivot; a pass refuses no order and no length
+abbrev pub columnOf : Decomposed → ℕ
+columnOf decomposed.Done = 0
+columnOf decomposed.RefusedOrder = 0
+columnOf decomposed.RefusedLength = 0
+columnOf (decomposed.Singular k) = k
+
+-- a decomposition that failed is kept as the run's latest (02, [3]), whatever was accepted before it
+abbrev pub stopping : Singular → Run → Step
+stopping at r = failedOf (r ▸ inNotes (setLatest at))
 
 pub record Tried : Type 0 where
   pub step : Step
@@ -116,9 +124,9 @@ complexTriedOf r f =
     let d = luDecompComplexOf (r .shape .n) (parts (f .e2r) (f .e2i)) (f .ip2) in
     let g = factors (f .e1) (d .a .re) (d .a .im) (f .ip1) (d .ip) in
     let s = r ▸ inCounts oneLu in
-    let w = worked complexKind (r .shape .n) (parts (f .e2r) (f .e2i)) (f .ip2) in
+    let k = columnOf (d .answer) in
     pick (isErr (d .answer))
-    (logged (tried (failedOf s) g) (complex-singular (r .numbers .h) (columnOf (w .stop)) ∷ []))
+    (logged (tried (stopping (singular.Complex k) s) g) (complex-singular (r .numbers .h) k ∷ []))
     (logged (tried (step.Attempt s) g) (factored (r .numbers .h) ∷ []))
 
 -- E1 [radau.rs:390-392]
@@ -127,9 +135,9 @@ realTriedOf r f =
     let d = luDecompOf (r .shape .n) (f .e1) (f .ip1) in
     let g = factors (d .a) (f .e2r) (f .e2i) (d .ip) (f .ip2) in
     let s = r ▸ inCounts oneLu in
-    let w = worked real (r .shape .n) (f .e1) (f .ip1) in
+    let k = columnOf (d .answer) in
     pick (isErr (d .answer))
-    (logged (tried (failedOf s) g) (real-singular (r .numbers .h) (columnOf (w .stop)) ∷ []))
+    (logged (tried (stopping (singular.Real k) s) g) (real-singular (r .numbers .h) k ∷ []))
     (complexTriedOf s g)
 
 -- one pass through the matrices, where they are wanted [radau.rs:376]

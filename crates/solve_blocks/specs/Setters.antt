@@ -7,6 +7,8 @@ use Rattle.state.specs.declared.run.Counts.{Counts}
 use Rattle.state.specs.declared.run.Control.{Control}
 use Rattle.state.specs.declared.run.Numbers.{Numbers}
 use Rattle.state.specs.declared.run.Stage.{Stage}
+use Rattle.state.specs.declared.run.Singular.{Singular}
+use Rattle.state.specs.declared.run.Notes.{Notes}
 use Rattle.state.specs.declared.run.Run.{Run}
 
 infixl 10 _▸_
@@ -25,6 +27,7 @@ inCounts f r =
       control = r .control;
       numbers = r .numbers;
       stage = r .stage;
+      notes = r .notes;
     }
 
 abbrev pub inControl : (Control → Control) → Run → Run
@@ -37,6 +40,7 @@ inControl f r =
       control = f (r .control);
       numbers = r .numbers;
       stage = r .stage;
+      notes = r .notes;
     }
 
 abbrev pub inNumbers : (Numbers → Numbers) → Run → Run
@@ -49,6 +53,7 @@ inNumbers f r =
       control = r .control;
       numbers = f (r .numbers);
       stage = r .stage;
+      notes = r .notes;
     }
 
 abbrev pub atStage : Stage → Run → Run
@@ -61,6 +66,21 @@ atStage s r =
       control = r .control;
       numbers = r .numbers;
       stage = s;
+      notes = r .notes;
+    }
+
+-- what is kept for the result alone
+abbrev pub inNotes : (Notes → Notes) → Run → Run
+inNotes f r =
+    record {
+      settings = r .settings;
+      shape = r .shape;
+      fixed = r .fixed;
+      counts = r .counts;
+      control = r .control;
+      numbers = r .numbers;
+      stage = r .stage;
+      notes = f (r .notes);
     }
 
 -- ---- counts, one more of each
@@ -396,3 +416,8 @@ setXout v n =
       thqold = n .thqold;
       xout = v;
     }
+
+-- ---- notes
+
+abbrev pub setLatest : Singular → Notes → Notes
+setLatest v n = record { singular = v }

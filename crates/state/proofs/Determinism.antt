@@ -7,8 +7,13 @@ use Rattle.words.specs.Contract.{Settles}
 use Rattle.words.proofs.OneOutcome.{_▹_, one-part, one-result}
 use Rattle.state.proofs.numbers.status_number as status-number
 use Rattle.state.proofs.numbers.refusal_number as refusal-number
+use Rattle.state.proofs.numbers.singular_kind as singular-kind
+use Rattle.state.proofs.numbers.singular_column as singular-column
+use Rattle.state.proofs.numbers.blame_kind as blame-kind
+use Rattle.state.proofs.numbers.blame_column as blame-column
 use Rattle.state.proofs.run.Run.result as result
 use Rattle.state.proofs.run.Run.held_step as held-step
+use Rattle.state.proofs.run.blamed as blamed
 use Rattle.state.proofs.settings.Settings.new as new
 use Rattle.state.proofs.stray.stray_pivot as stray-pivot
 use Rattle.state.proofs.parts.zero as zero
@@ -22,8 +27,26 @@ pub refusal-number-once
     : Settles refusal-number.Kinds.ps refusal-number.Kinds.r refusal-number.Reads.Asked refusal-number.Reads.Post
 refusal-number-once κs a = (tt, λ o p. one-result (o .1))
 
+pub singular-kind-once
+    : Settles singular-kind.Kinds.ps singular-kind.Kinds.r singular-kind.Reads.Asked singular-kind.Reads.Post
+singular-kind-once κs a = (tt, λ o p. one-result (o .1))
+
+pub singular-column-once
+    : Settles singular-column.Kinds.ps singular-column.Kinds.r singular-column.Reads.Asked singular-column.Reads.Post
+singular-column-once κs a = (tt, λ o p. one-result (o .1))
+
+pub blame-kind-once : Settles blame-kind.Kinds.ps blame-kind.Kinds.r blame-kind.Reads.Asked blame-kind.Reads.Post
+blame-kind-once κs a = (tt, λ o p. one-result (o .1))
+
+pub blame-column-once
+    : Settles blame-column.Kinds.ps blame-column.Kinds.r blame-column.Reads.Asked blame-column.Reads.Post
+blame-column-once κs a = (tt, λ o p. one-result (o .1))
+
 pub result-once : Settles result.Kinds.ps result.Kinds.r result.Reads.Asked result.Reads.Post
 result-once κs a = (tt, λ o p. one-result (o .1))
+
+pub blamed-once : Settles blamed.Kinds.ps blamed.Kinds.r blamed.Reads.Asked blamed.Reads.Post
+blamed-once κs a = (tt, λ o p. one-result (o .1))
 
 pub held-step-once : Settles held-step.Kinds.ps held-step.Kinds.r held-step.Reads.Asked held-step.Reads.Post
 held-step-once κs a = (tt, λ o p. one-result (o .1))

@@ -1,7 +1,12 @@
--- Document 01's numbers: of each refusal ('Numbers that refuse') and of each status ('Statuses').
+-- Document 01's numbers: of each refusal ('Numbers that refuse') and of each status ('Statuses'); and of a singular
+-- decomposition (02, [3]) which matrix it was of, and the column.
 use Prim.Native.Nat.{ℕ}
+use Rattle.state.specs.declared.run.Singular.{Singular}
+use Rattle.state.specs.declared.run.Singular.the-variants as singular
 use Rattle.state.specs.declared.run.Status.{Status}
 use Rattle.state.specs.declared.run.Status.the-variants as status
+use Rattle.state.specs.declared.talk.Blame.{Blame}
+use Rattle.state.specs.declared.talk.Blame.the-variants as blame
 use Rattle.state.specs.declared.talk.Refusal.{Refusal}
 use Rattle.state.specs.declared.talk.Refusal.the-variants as refusal
 
@@ -29,3 +34,23 @@ statusNumber status.UserInterrupt = 1
 statusNumber status.NeedLargerNMax = 2
 statusNumber status.StepSizeTooSmall = 3
 statusNumber status.SingularMatrix = 5
+
+-- 0 none, 1 the real matrix, 2 the complex one
+abbrev pub singularKind : Singular → ℕ
+singularKind singular.None = 0
+singularKind (singular.Real k) = 1
+singularKind (singular.Complex k) = 2
+
+abbrev pub singularColumn : Singular → ℕ
+singularColumn singular.None = 0
+singularColumn (singular.Real k) = k
+singularColumn (singular.Complex k) = k
+
+-- 0 also where nothing is told
+abbrev pub blameKind : Blame → ℕ
+blameKind blame.Untold = 0
+blameKind (blame.Latest s) = singularKind s
+
+abbrev pub blameColumn : Blame → ℕ
+blameColumn blame.Untold = 0
+blameColumn (blame.Latest s) = singularColumn s

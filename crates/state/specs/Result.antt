@@ -1,11 +1,24 @@
--- The result, which only an ended run gives: h, the point reached, the status and the six counts.
+-- The result, which only an ended run gives: h, the point reached, the status, the six counts and the blame.
+use Rattle.state.specs.declared.run.Notes.{Notes}
 use Rattle.state.specs.declared.run.Run.{Run}
 use Rattle.state.specs.declared.run.Stage.{Stage}
 use Rattle.state.specs.declared.run.Stage.the-variants as stage
+use Rattle.state.specs.declared.run.Status.{Status}
+use Rattle.state.specs.declared.run.Status.the-variants as status
+use Rattle.state.specs.declared.talk.Blame.{Blame}
+use Rattle.state.specs.declared.talk.Blame.the-variants as blame
 use Rattle.state.specs.declared.talk.Result.{Result}
 use Rattle.state.specs.declared.talk.Result.the-variants as result
 
--- the Rust's result, with the point beside it [radau.rs:798]
+-- only a status 5 tells of the latest singular decomposition (02, [3])
+abbrev pub blameOf : Status → Notes → Blame
+blameOf status.Success n = blame.Untold
+blameOf status.UserInterrupt n = blame.Untold
+blameOf status.NeedLargerNMax n = blame.Untold
+blameOf status.StepSizeTooSmall n = blame.Untold
+blameOf status.SingularMatrix n = blame.Latest (n .singular)
+
+-- the Rust's result, with the point and the blame beside it [radau.rs:798]
 unfoldable pub resultAt : Run → Stage → Result
 resultAt r stage.FirstDerivative = result.NotEnded
 resultAt r stage.FirstReport = result.NotEnded
@@ -20,7 +33,13 @@ resultAt r stage.Accepted = result.NotEnded
 resultAt r stage.Report = result.NotEnded
 resultAt r stage.DerivativeAgain = result.NotEnded
 resultAt r (stage.Ended s) =
-    result.Ended (record { h = r .numbers .h; x = r .numbers .x; status = s; counts = r .counts })
+    result.Ended (record {
+      h = r .numbers .h;
+      x = r .numbers .x;
+      status = s;
+      counts = r .counts;
+      blame = blameOf s (r .notes);
+    })
 
 abbrev pub resultOf : Run → Result
 resultOf r = resultAt r (r .stage)

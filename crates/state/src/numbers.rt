@@ -1,7 +1,10 @@
-// Document 01's numbers of a status and of a refusal.
+// Document 01's numbers of a status and of a refusal, and 02's of a singular decomposition.
 ghost use mathlib.Core.Path.{_≡_};
 ghost use Rattle.state.specs.Numbers.{refusalNumber, statusNumber};
+ghost use Rattle.state.specs.Numbers.{singularKind, singularColumn, blameKind, blameColumn};
+use crate::run::Singular;
 use crate::run::Status;
+use crate::talk::Blame;
 use crate::talk::Refusal;
 
 pub fn status_number(status: Status) -> u64
@@ -13,6 +16,47 @@ pub fn status_number(status: Status) -> u64
         Status::NeedLargerNMax => 2,
         Status::StepSizeTooSmall => 3,
         Status::SingularMatrix => 5,
+    }
+}
+
+// Which matrix was singular: 0 none, 1 the real one, 2 the complex one.
+pub fn singular_kind(singular: Singular) -> usize
+    ensures { λ r. ⌜ r ≡ singularKind singular ⌝ }
+{
+    match singular {
+        Singular::None => 0,
+        Singular::Real(_) => 1,
+        Singular::Complex(_) => 2,
+    }
+}
+
+// Its column, and 0 where none was.
+pub fn singular_column(singular: Singular) -> usize
+    ensures { λ r. ⌜ r ≡ singularColumn singular ⌝ }
+{
+    match singular {
+        Singular::None => 0,
+        Singular::Real(k) => k,
+        Singular::Complex(k) => k,
+    }
+}
+
+// The same of what a result tells, and 0 where it tells nothing.
+pub fn blame_kind(blame: Blame) -> usize
+    ensures { λ r. ⌜ r ≡ blameKind blame ⌝ }
+{
+    match blame {
+        Blame::Untold => 0,
+        Blame::Latest(singular) => singular_kind(singular),
+    }
+}
+
+pub fn blame_column(blame: Blame) -> usize
+    ensures { λ r. ⌜ r ≡ blameColumn blame ⌝ }
+{
+    match blame {
+        Blame::Untold => 0,
+        Blame::Latest(singular) => singular_column(singular),
     }
 }
 

@@ -1,10 +1,11 @@
 // The state of a run. It goes in by value and comes back by value; vectors, matrices and pivots lie in lent memory.
 use crate::settings::Number;
 use crate::settings::Settings;
+use crate::talk::Blame;
 use crate::talk::IntegrationResult;
 use crate::talk::Result;
 ghost use mathlib.Core.Path.{_≡_};
-ghost use Rattle.state.specs.Result.{resultOf};
+ghost use Rattle.state.specs.Result.{blameOf, resultOf};
 
 // How a run ended (status.rs); the Rust's other two statuses never come.
 pub enum Status {
@@ -101,6 +102,22 @@ pub struct Numbers {
     pub xout: Number,
 }
 
+// A decomposition that found no pivot: of which matrix, and in which column, counted from 0.
+pub enum Singular {
+    // There was none.
+    None,
+    // E1.
+    Real(usize),
+    // E2.
+    Complex(usize),
+}
+
+// What a run keeps for its result alone: no decision reads it, and any value is fit.
+pub struct Notes {
+    // The latest of the whole run, whatever was accepted since.
+    pub singular: Singular,
+}
+
 pub struct Run {
     // As given: refusal 13 tests them again.
     pub settings: Settings,
@@ -110,17 +127,33 @@ pub struct Run {
     pub control: Control,
     pub numbers: Numbers,
     pub stage: Stage,
+    pub notes: Notes,
+}
+
+// What a result with this status tells of the latest singular decomposition.
+pub fn blamed(status: Status, notes: Notes) -> Blame
+    ensures { λ r. ⌜ r ≡ blameOf status notes ⌝ }
+{
+    let singular = notes.singular;
+    match status {
+        Status::Success => Blame::Untold,
+        Status::UserInterrupt => Blame::Untold,
+        Status::NeedLargerNMax => Blame::Untold,
+        Status::StepSizeTooSmall => Blame::Untold,
+        Status::SingularMatrix => Blame::Latest(singular),
+    }
 }
 
 impl Run {
-    // h, the point reached, the status and the counts of an ended run; of any other run nothing, so that no broken-off
-    // run passes for a result.
+    // h, the point reached, the status, the counts and the blame of an ended run; of any other run nothing, so that no
+    // broken-off run passes for a result.
     pub fn result(self) -> Result
         ensures { λ r. ⌜ r ≡ resultOf self ⌝ }
     {
         let stage = self.stage;
         let numbers = self.numbers;
         let counts = self.counts;
+        let notes = self.notes;
         match stage {
             Stage::FirstDerivative => Result::NotEnded,
             Stage::FirstReport => Result::NotEnded,
@@ -139,6 +172,7 @@ impl Run {
                 x: numbers.x,
                 status,
                 counts,
+                blame: blamed(status, notes),
             }),
         }
     }

@@ -1,6 +1,7 @@
 // What a run and its host say to each other.
 use crate::run::Counts;
 use crate::run::Run;
+use crate::run::Singular;
 use crate::run::Status;
 
 pub enum Request {
@@ -95,12 +96,21 @@ pub enum Answer {
     Refused(Run, Refusal),
 }
 
-// What `solve` returns (methods/mod.rs, IntegrationResult), with the point reached.
+// What a result tells of a singular decomposition: only one with the status 5 does.
+pub enum Blame {
+    // The status is another.
+    Untold,
+    // The latest of the run, or that there was none.
+    Latest(Singular),
+}
+
+// What `solve` returns (methods/mod.rs, IntegrationResult), with the point reached and the blame.
 pub struct IntegrationResult {
     pub h: f64,
     pub x: f64,
     pub status: Status,
     pub counts: Counts,
+    pub blame: Blame,
 }
 
 pub enum Result {

@@ -5,7 +5,7 @@ use Rattle.radau_core.proofs.pack.run_at.Tie as tie
 
 returns : tie.Need-returns
 returns c =
-    let at-counts-at = c .before .before .before in
+    let at-counts-at = c .before .before .before .before in
     let at-fixed-at = at-counts-at .before in
     let at-shape-at = at-fixed-at .before in
     let at-settings-at = at-shape-at .before in
@@ -14,13 +14,14 @@ returns c =
       at-shape-at .shape-at .ensures,
       at-fixed-at .fixed-at .ensures,
       at-counts-at .counts-at .ensures,
-      c .before .before .control-at .ensures,
-      c .before .numbers-at .ensures,
-      c .stage-at .ensures,
+      c .before .before .before .control-at .ensures,
+      c .before .before .numbers-at .ensures,
+      c .before .stage-at .ensures,
+      c .notes-at .ensures,
     )
 
 pub run-at-spec : {M : Type 1} → statement M
 run-at-spec =
     tie.close
     (tie.spec (λ c κs. search needs) (λ c κs. search needs) (λ c κs. search needs) (λ c κs. search needs)
-    (λ c κs. search needs) (λ c κs. search needs) (λ c κs. search needs) returns)
+    (λ c κs. search needs) (λ c κs. search needs) (λ c κs. search needs) (λ c κs. search needs) returns)

@@ -6,7 +6,7 @@ use Rattle.radau_core.proofs.pack.words_of.Tie as tie
 
 returns : tie.Need-returns
 returns c =
-    let at-whole-tag2 = c .before .before .before in
+    let at-whole-tag2 = c .before .before .before .before .before in
     let at-whole-word = at-whole-tag2 .before in
     let at-whole-tag = at-whole-word .before in
     let at-number-tag5 = at-whole-tag .before in
@@ -27,7 +27,7 @@ returns c =
     let at-flag-word = at-flag-word2 .before in
     let at-stage-part = at-flag-word .before in
     let at-stage-tag = at-stage-part .before in
-    let start = at-stage-tag .before .before .before .before .before in
+    let start = at-stage-tag .before .before .before .before .before .before in
     let r = start .args .run in
     λ i. at-stage-tag .stage-tag .ensures i
     ∷ at-stage-part .stage-part .ensures i
@@ -64,9 +64,11 @@ returns c =
     ∷ at-whole-tag .whole-tag .ensures i
     ∷ at-whole-word .whole-word .ensures i
     ∷ at-whole-tag2 .whole-tag2 .ensures i
-    ∷ c .before .before .whole-word2 .ensures i
-    ∷ c .before .whole-tag3 .ensures i
-    ∷ c .whole-word3 .ensures i
+    ∷ c .before .before .before .before .whole-word2 .ensures i
+    ∷ c .before .before .before .whole-tag3 .ensures i
+    ∷ c .before .before .whole-word3 .ensures i
+    ∷ c .before .singular-kind .ensures i
+    ∷ c .singular-column .ensures i
     ∷ []
 
 pub words-of-spec : {M : Type 1} → statement M
@@ -77,4 +79,4 @@ words-of-spec =
     (λ c κs. search needs) (λ c κs. search needs) (λ c κs. search needs) (λ c κs. search needs) (λ c κs. search needs)
     (λ c κs. search needs) (λ c κs. search needs) (λ c κs. search needs) (λ c κs. search needs) (λ c κs. search needs)
     (λ c κs. search needs) (λ c κs. search needs) (λ c κs. search needs) (λ c κs. search needs) (λ c κs. search needs)
-    returns)
+    (λ c κs. search needs) (λ c κs. search needs) returns)

@@ -10,9 +10,9 @@ use Rattle.solve_blocks.proofs.FitLaws.{counted-fit}
 use Rattle.radau_core.proofs.passes.real_tried.Statement.{statement}
 use Rattle.radau_core.proofs.passes.real_tried.Tie as tie
 
-failed-requires : tie.Need-failed-requires
-failed-requires c κs =
-    let at-counted = c .before .before .before .before in
+stopping-requires : tie.Need-stopping-requires
+stopping-requires c κs =
+    let at-counted = c .before .before .before .before .before in
     let start = at-counted .before .before .before .before .before .before .before .before .before .before .before
     .before .before .before .before .before in (
       at-counted .counted .ensures .0,
@@ -32,14 +32,14 @@ complex-tried-requires c κs =
 
 returns : tie.Need-returns
 returns c =
-    let at-if1 = c .before .before .before in
+    let at-if1 = c .before .before .before .before in
     let at-is-err = at-if1 .before in
     let at-counted = at-is-err .before in
     let at-lu-decomp = at-counted .before .before .before .before .before .before .before in (
-      c .failed .ensures .0,
+      c .stopping .ensures .0,
       real-failed _ (factors _ _ _ _ _) (at-lu-decomp .lu-decomp .result) _ (at-counted .counted .ensures .1)
           (at-is-err .is-err .result) (at-is-err .is-err .ensures) _ (at-lu-decomp .lu-decomp .ensures) (at-if1 .if1
-          .taken) (c .failed .ensures .1),
+          .taken) (rw (c .before .column-of .ensures) at (c .stopping .ensures .1)),
     )
 
 returns-2 : tie.Need-returns-2
@@ -59,6 +59,7 @@ returns-2 c =
 pub real-tried-spec : {M : Type 1} → statement M
 real-tried-spec =
     tie.close
-    (tie.spec (λ c. search needs) (λ c κs. search needs) (λ c κs. search needs) (λ c κs. search needs) failed-requires
+    (tie.spec (λ c. search needs) (λ c κs. search needs) (λ c κs. search needs) (λ c κs. search needs)
+    (λ c κs. search needs) stopping-requires
     (λ c. search needs) (λ c. search needs) returns complex-tried-requires (λ c. search needs) (λ c. search needs)
     (λ c. search needs) (λ c. search needs) (λ c. search needs) returns-2)

@@ -54,14 +54,14 @@ returns-12 c = rw (c .enum-told12 .given .1)
 
 returns-13 : tie.Need-returns-13
 unfolding resultAt
-returns-13 c = rw (c .before .stage .given .1)
+returns-13 c = rw (c .blamed .ensures, c .before .before .stage .given .1)
 
 pub result-spec : {M : Type 1} → statement M
 result-spec =
     tie.close
     (tie.spec (λ c. search needs) (λ c. search needs) (λ c. search needs) (λ c. search needs) (λ c. search needs)
     (λ c. search needs) (λ c. search needs) (λ c. search needs) (λ c. search needs) (λ c. search needs)
-    (λ c. search needs) (λ c. search needs) (λ c. search needs)
+    (λ c. search needs) (λ c. search needs) (λ c. search needs) (λ c κs. search needs)
     returns
     returns-2
     returns-3
