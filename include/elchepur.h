@@ -70,7 +70,7 @@ enum {
 
 enum {
     ELCHEPUR_MOST = 32,           /* the most amounts of a run, and the largest order of a matrix */
-    ELCHEPUR_STATE_WORDS = 40,    /* whole numbers of a state */
+    ELCHEPUR_STATE_WORDS = 41,    /* whole numbers of a state */
     ELCHEPUR_STATE_DOUBLES = 29,  /* doubles of a state */
     ELCHEPUR_NUMBERS = 17,        /* settings that are whole numbers */
     ELCHEPUR_FLOATS = 8,          /* settings that are doubles */
@@ -200,7 +200,7 @@ enum {
     ELCHEPUR_WORD_SINGULAR_COUNT = 13,
     ELCHEPUR_WORD_NEWT_ITER = 14,
     ELCHEPUR_WORD_MARKED = 15,  /* 0: no mark stands; else XOUT is one */
-    ELCHEPUR_WORD_N = 16,  /* from here on the words but the last two stay as the opening left them */
+    ELCHEPUR_WORD_N = 16,  /* from here on the words but the last three stay as the opening left them */
     ELCHEPUR_WORD_NIND1 = 17,
     ELCHEPUR_WORD_NIND2 = 18,
     ELCHEPUR_WORD_NIND3 = 19,
@@ -222,8 +222,9 @@ enum {
     ELCHEPUR_WORD_GIVEN_NIND2 = 35,
     ELCHEPUR_WORD_HAS_NIND3 = 36,
     ELCHEPUR_WORD_GIVEN_NIND3 = 37,
-    ELCHEPUR_WORD_SINGULAR = 38,  /* the matrix that was singular latest; a number above 2 stands for 0, none */
-    ELCHEPUR_WORD_COLUMN = 39  /* its column without a pivot; not looked at where there was none */
+    ELCHEPUR_WORD_MADE_HERE = 38,  /* 0: the Jacobian at hand was made at another point; else at the present one */
+    ELCHEPUR_WORD_SINGULAR = 39,  /* the matrix that was singular latest; a number above 2 stands for 0, none */
+    ELCHEPUR_WORD_COLUMN = 40  /* its column without a pivot; not looked at where there was none */
 };
 
 /* Places in the `doubles` of a state. */

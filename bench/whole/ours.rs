@@ -19,7 +19,7 @@ const RULE: usize = 6;
 const UROUND: usize = 0;
 
 pub struct Run {
-    words: [usize; 40],
+    words: [usize; 41],
     doubles: [f64; 29],
     pub told: [u64; 3],
     at: [f64; 2],
@@ -54,7 +54,7 @@ impl Run {
             .map(|_: Vec<f64>| vec![0.0; n]);
         let [mass, jac, e1, e2r, e2i] = [const { Vec::new() }; 5].map(|_: Vec<f64>| vec![0.0; nn]);
         let mut r = Run {
-            words: [0; 40],
+            words: [0; 41],
             doubles: [0.0; 29],
             told: [0; 3],
             at: [0.0; 2],

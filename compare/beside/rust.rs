@@ -59,7 +59,7 @@ impl SolOut for Reports {
     }
 }
 
-// The `solve` of a module: radau_rust has the Rust's text, radau_book has it with document 01's two changes.
+// The `solve` of a module: radau_rust has the Rust's text, radau_book has it with the book rule's changes.
 macro_rules! solved {
     ($module:ident, $opening:expr) => {{
         let (o, s) = ($opening, &$opening.settings);

@@ -221,7 +221,7 @@ void Session::judge_advanced(const Lent &before) {
     Words words = lent[STATE_WORDS], doubles = lent[STATE_DOUBLES];
     const Words was = before[STATE_WORDS], had = before[STATE_DOUBLES];
     insist(is_plain(words, doubles), "an advance left numbers that it does not write");
-    for (size_t k = ELCHEPUR_WORD_N; k < ELCHEPUR_WORD_SINGULAR; k++) insist(words[k] == plain_word(was, k),
+    for (size_t k = ELCHEPUR_WORD_N; k < ELCHEPUR_WORD_MADE_HERE; k++) insist(words[k] == plain_word(was, k),
         "an advance changed a word that is fixed for the run");
     judge_notes(was);
     for (size_t k = ELCHEPUR_DOUBLE_NEWTON_TOL; k < ELCHEPUR_STATE_DOUBLES; k++)
@@ -353,7 +353,7 @@ void Session::forge_word() {
 void Session::draw_state() {
     Words words = lent[STATE_WORDS], doubles = lent[STATE_DOUBLES];
     for (size_t k = 0; k < ELCHEPUR_STATE_WORDS; k++) {
-        if (k >= ELCHEPUR_WORD_N && k < ELCHEPUR_WORD_SINGULAR) continue;
+        if (k >= ELCHEPUR_WORD_N && k < ELCHEPUR_WORD_MADE_HERE) continue;
         uint64_t word = rubbish.word();
         switch (KINDS[k]) {
         case 'w': case 'c': words[k] = word % 6; break;

@@ -7,7 +7,7 @@
 
 // Of each word what it holds: w a number, b a choice, t whether something is given, h a number that is looked at where
 // the word before it says so, S the stage, c its column or status, k the kind of a singular matrix, d its column.
-const char KINDS[] = "Sc" "wwwwww" "bbbbb" "ww" "t" "wwww" "b" "ww" "bbbbb" "tttt" "ththth" "kd";
+const char KINDS[] = "Sc" "wwwwww" "bbbbb" "ww" "t" "wwww" "b" "ww" "bbbbb" "tttt" "ththth" "b" "kd";
 static_assert(sizeof KINDS == ELCHEPUR_STATE_WORDS + 1, "every word has its kind");
 
 // Of each double the word that says whether it is looked at, where there is one.

@@ -31,16 +31,6 @@ WINDOW = ("D23", "a step is not kept at the ends of the window", [
     ("THETA.LT.THET.AND.QT.GE.QUOT1.AND.QT.LE.QUOT2) GOTO 30",
      "THETA.LT.THET.AND.QT.GT.QUOT1.AND.QT.LT.QUOT2) GOTO 30"),
 ])
-# CALJAC now says that no Jacobian is called for.
-AFTER_FAILURE = ("D21", "after a failed attempt an old Jacobian is kept and a fresh one made again", [
-    ("      FACCON=1.D0\n      CFAC=", "      CALJAC=.FALSE.\n      FACCON=1.D0\n      CFAC="),
-    ("      CALJAC=.TRUE.\n      CALHES=.TRUE.\n", "      CALHES=.TRUE.\n"),
-    ("         CALJAC=.FALSE.\n", ""),
-    ("            IF (THETA.LT.THET.AND.QT.GT.QUOT1.AND.QT.LT.QUOT2) GOTO 30\n",
-     "            IF (THETA.LT.THET.AND.QT.GT.QUOT1.AND.QT.LT.QUOT2) THEN\n               CALJAC=.TRUE.\n              "
-     " GOTO 30\n            END IF\n"),
-    ("         IF (THETA.LT.THET) GOTO 20\n", "         CALJAC=THETA.LT.THET\n         IF (CALJAC) GOTO 20\n"),
-])
 FAILURES = ("D24, D25", "the sixth failure of any kind since the last acceptance ends the run", [
     ("      IF (IER.NE.0) THEN\n          NSING=NSING+1\n          IF (NSING.GE.5) GOTO 176\n      END IF\n",
      "      NSING=NSING+1\n      IF (NSING.GT.5) GOTO 176\n"),
@@ -75,7 +65,7 @@ POWERS = ("O3, O4", "document 01's powers for the C library's", [
     ("(ERR**2/ERRACC)**0.25D0/SAFE", "OURQUA(ERR**2/ERRACC)/SAFE"),
 ])
 # Counts first, then what a run does, then bits.
-ALL = [COUNTS, LAST_DERIVATIVE, SLOW_COUNTED, REUSE, WINDOW, AFTER_FAILURE, FAILURES, JUST_ONE, CONSTANTS, NORM, POWERS]
+ALL = [COUNTS, LAST_DERIVATIVE, SLOW_COUNTED, REUSE, WINDOW, FAILURES, JUST_ONE, CONSTANTS, NORM, POWERS]
 
 
 def changed(text, departure):

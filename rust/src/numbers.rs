@@ -1,7 +1,7 @@
 //! Numbers of include/elchepur.h, each under its name there without `ELCHEPUR_`. tests/header.rs holds them to it.
 
 pub const MOST: usize = 32;
-pub const STATE_WORDS: usize = 40;
+pub const STATE_WORDS: usize = 41;
 pub const STATE_DOUBLES: usize = 29;
 pub const NUMBERS: usize = 17;
 pub const FLOATS: usize = 8;

@@ -11,8 +11,8 @@ use crate::numbers::*;
 pub enum Rule {
     /// As ivp does it, bit for bit.
     Rust,
-    /// As the published RADAU5 does it in two places where ivp departs from it: a single tolerance is converted once,
-    /// and a slow Newton iteration ends the attempt.
+    /// As the published RADAU5 does it in three places where ivp departs from it: a single tolerance is converted once,
+    /// a slow Newton iteration ends the attempt, and after a failed attempt a Jacobian of another point is made again.
     Book,
 }
 

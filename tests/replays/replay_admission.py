@@ -64,7 +64,7 @@ STATUSES = (0, 1, 2, 3, 5)
 REPLIES = {"filled": "filled", "continue": "report", "interrupt": "report", "modified": "report", "mark": "report"}
 
 # What else a state holds that is on or off.
-FLAGS = ("first", "last", "reject", "call_jac", "call_decomp", "xout")
+FLAGS = ("first", "last", "reject", "call_jac", "call_decomp", "xout", "made_here")
 
 # The program has this much room for a part and for a list of pivots, and reads no more cases than this.
 MOST_ENTRIES, MOST_PIVOTS = 1090, 34
@@ -87,7 +87,7 @@ class State(Opening):
         self.reply, self.reply_float = "filled", 0.5
         # For each list: one place, what stands there, and what stands elsewhere.
         self.pivots = ((0xFFFF, 0, max(n - 1, 0) % 64), (0xFFFF, 0, 0))
-        self.first = self.last = self.reject = self.call_jac = self.call_decomp = self.xout = False
+        self.first = self.last = self.reject = self.call_jac = self.call_decomp = self.xout = self.made_here = False
         self.filling = 0.25
 
     def at(self, stage, **changes):

@@ -17,9 +17,9 @@ four decimal digits, a space, the bytes of the answer in four, and LF. The file 
 with the last. An answer is what `decay` prints, LF after each line.
 
 How the answers are made. Those of runs are the Rust's: its text is compiled as tests/replays/runs.py does it, with
-powers directed to document 01's routine and, for rule 1, 01's two changes; the derivative is 01's sentence, written in
-tests/replays/runs.rs, and the first of each run is held against the same sentence written here; the settings are the
-Rust's defaults, the mass is Identity, the tolerances are scalars, the Jacobian is by differences.
+powers directed to document 01's routine and, for rule 1, the book rule's changes; the derivative is 01's sentence,
+written in tests/replays/runs.rs, and the first of each run is held against the same sentence written here; the settings
+are the Rust's defaults, the mass is Identity, the tolerances are scalars, the Jacobian is by differences.
 
 Those of refusals come from `refusal` below, an independent reader: it was written from document 01 ('Sheet and
 program', 'Numbers that refuse') and the readings of it that follow, and makes no use of tools/sheet.py; on every

@@ -386,6 +386,31 @@ def runs_of_noise():
     return found
 
 
+def runs_of_jacobians():
+    """The book rule's question after a failed attempt (02, [1]): a Jacobian of another point, or one of this, for each
+    kind of failure. Two rounds to the first acceptance leave a small rate behind, and with it the Jacobian."""
+    found = []
+    # A matrix is singular at one step's length: at the first, or at the second, which is eight times as long. Between
+    # them the point stays, is put where it stands, or is moved.
+    real = Run("linear", [1.0], 4.0, xend=4.0, rtol=1e6, atol=1e6, newton_tol=1e-12, host=True, book=True, max_steps=5)
+    both = Run("rotation", [1.0, 0.5], 1.0, xend=4.0, rtol=1e6, atol=1e6, newton_tol=1e-12, host=True, book=True,
+               max_steps=5)
+    for run, step in ((real, U1 / 4.0), (both, 1.0)):
+        found.append(run.copy(first_step=step))
+        for told in (CONTINUE, modified(0.0, 1.0), modified(0.25, 2.0)):
+            found.append(run.copy(first_step=step / 8.0, reports=[CONTINUE, told]))
+    # The host moves the amounts, so that the Jacobian in hand is wrong, or the step too long.
+    cubic = Run("cubic", [1.0], 1.0, first_step=0.01, newton_tol=1e-6, book=True, max_steps=6)
+    for host in (True, False):
+        for factor in (1.0, 2.0, 4.0, 10.0):
+            found.append(cubic.copy(host=host, reports=[CONTINUE, modified(0.0, factor)]))
+            found.append(cubic.copy(host=host, reports=[CONTINUE] * 2 + [modified(0.5, factor)], newton_tol=None))
+    # A linear system's Jacobian stays right; the step is too long for the amounts that the host writes.
+    fall = Run("linear", [1e-3], -4.0, xend=4.0, first_step=0.1, rtol=1e-3, atol=1e-3, newton_tol=1e-12, host=True,
+               book=True, max_steps=6)
+    return found + [fall.copy(reports=[CONTINUE, modified(0.0, 1e6)])]
+
+
 # Each notices a slip in the Rust's text that no other stored run notices (tests/repository/slips.py). They were found
 # by drawing openings and hosts, and by moving one number to where the Rust goes another way.
 NOTICING = [
@@ -737,7 +762,7 @@ NOTICING = [
 def every_run():
     found = [run for run, _ in FIGURES]
     for make in (runs_of_reports, runs_of_systems, runs_of_settings, runs_of_masses, runs_of_newton, runs_of_limits,
-                 runs_of_singulars, runs_of_noise):
+                 runs_of_singulars, runs_of_noise, runs_of_jacobians):
         found += make()
     return found + NOTICING
 

@@ -16,7 +16,7 @@ operands, each count and each jump (tests/repository/slip_text.py). A slip is no
 slip answers otherwise than is stored. The lists:
 
   runs      crates/replay_run/stdin: every request, all 22 parts of memory, the result. Slips of radau.rs as it is are
-            seen by runs of the Rust rule alone, those of radau.rs with 01's two changes (`book`) by runs of the book
+            seen by runs of the Rust rule alone, those of radau.rs with the book rule's changes (`book`) by runs of that
             rule alone; those of `jac` and of the matrix routines by both
   sheets    crates/replay_sheet/stdin: what is printed of a run's end
   matrix    crates/replay_matrix/stdin: the matrix routines, `interpolate` and `bounds`
@@ -218,7 +218,7 @@ def drawer(texts):
     program = ROOT / "compare" / "beside" / "program.rs"
     extra, main, solver = f"mod interface;\n{SWITCH}", "program::run_all();", texts.solver_texts()
     root = rust_solve.make_crate(TARGET / "text", folder, program, extra, main, solver)
-    return compiled(root, "beside", port.linked(port.build()[0], ["export"]))
+    return compiled(root, "beside", port.linked(port.build()[0], interface.CRATES))
 
 
 # --- Who notices ---------------------------------------------------------------------------------
@@ -289,7 +289,7 @@ def scalars_notice(slip):
 LISTS = ("runs", "sheets", "matrix", "openings", "scalars")
 NAMES = {
     "rust": "radau.rs",
-    "book": "radau.rs with 01's two changes",
+    "book": "radau.rs with the book rule's changes",
     "ivp": "ivp.rs, `jac`",
     "lu": "matrix/lu.rs",
     "linear": "matrix/linear.rs",

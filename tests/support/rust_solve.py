@@ -9,7 +9,7 @@ radau.rs and ivp.rs are copied with these changes, each of which must find its w
     machine, and 01 says which power is meant;
   - `EDITS`, `IVP_EDITS`: before each call of the host all parts of memory are handed to the program, and each branch
     is counted;
-  - `BOOK_EDITS`: for the book rule, and only there, document 01's two changes.
+  - `BOOK_EDITS`: for the book rule, and only there, document 01's two changes and request 1 of document 02.
 solout.rs and solve/event.rs are not among the Rust's files here: tests/support/solout.rs and the crate's root have
 the three types that are named.
 
@@ -269,15 +269,43 @@ EDITS = [
     before("        Ok(IntegrationResult::new(h, status, evals, steps))", snap(0), END.format(status="status")),
 ]
 
-# Document 01's two changes.
+def wish(kind, old=True):
+    """Document 02's request 1, after a failed attempt: a Jacobian of another point is made again, one of this is kept.
+    `old`: whether one of another point can be in hand there."""
+    again = hit_if(noted("moved"), f"book: {kind} at a modified point, Jacobian made again",
+                   f"book: {kind}, Jacobian made again") if old else ""
+    return f"call_jac = !made_here;\nif made_here {{ {hit(f'book: {kind}, Jacobian kept')} }} else {{ {again} }}"
+
+
+# Document 01's two changes, and 02's request 1.
 BOOK_EDITS = [
     ("        for i in 0..n {\n            let quot = atol[i] / rtol[i];",
      "        let turns = if matches!(rtol, Tolerance::Scalar(_)) { 1 } else { n };\n        for i in 0..turns {\n     "
      "       let quot = atol[i] / rtol[i];"),
     ("                            last = false;\n                            break 'newton;",
      "                            last = false;\n                            reject = true;\n                          "
-     "  call_decomp = true;\n"
+     "  call_decomp = true;\n" + wish("slow")
      + hit("book: slow verdict ends the attempt") + "\n                            continue 'main;"),
+    # The flag: set where a Jacobian is made, cleared at an acceptance and at a modified point.
+    after("        let mut call_decomp = true;", "let mut made_here = false;"),
+    after("                evals.jac += 1;", "made_here = true;"),
+    after("                first = false;", "made_here = false;", note("moved", "false")),
+    after("\n                ControlFlag::ModifiedSolution => {", "made_here = false;"),
+    after("\n                        ControlFlag::ModifiedSolution => {", "made_here = false;", note("moved", "true")),
+    # The failed attempts.
+    before("                    continue 'main;\n                }\n\n                // LU decomp of complex matrix",
+           wish("real matrix singular")),
+    before("                    continue 'main;\n                }\n            }\n", wish("complex matrix singular")),
+    # With a tolerance above 0 and three rounds or more the last but one is near or slow; with fewer there is no rate,
+    # and with a tolerance below 0 none is near: so a Jacobian is made at each point where rounds are used up.
+    ("                    call_decomp = true;\n                    continue 'main;\n",
+     "                    call_decomp = true;\n" + wish("rounds used up", False)
+     + "\n                    continue 'main;\n"),
+    ("                        call_decomp = true;\n                        continue 'main;\n",
+     "                        call_decomp = true;\n" + wish("rate too large")
+     + "\n                        continue 'main;\n"),
+    after("                // --- Step rejected ---", wish("rejected"),
+          hit_if("first", "book: rejected before the first acceptance, Jacobian kept")),
 ]
 
 DIFFERENCES = "crate::program::differences({place}, &y_perturbed, &f_perturbed, &f_origin, j);"
@@ -311,7 +339,7 @@ def edited(name, text, edits):
 
 # Those of truths that later branches are counted with.
 def names_noted():
-    texts = [new for _, new in EDITS]
+    texts = [new for edits in (EDITS, BOOK_EDITS) for _, new in edits]
     return sorted({name for text in texts for name in re.findall(r'program::note\("([^"]+)"', text)})
 
 

@@ -24,6 +24,7 @@ use Rattle.account.specs.Demand.{tells, Demand3}
 use Rattle.account.proofs.Matches.{Matches, ended-matches}
 use Rattle.account.proofs.Journals.{sound, ends-proof, counts-told-proof, limits-proof, success-exactly-proof}
 use Rattle.account.proofs.Journals.{events-true-proof, latest-kept-proof, ledger-proof}
+use Rattle.account.proofs.Fresh.{fresh-proof}
 use Rattle.account.proofs.Played.{played-of}
 
 record Status-of (q : Request) : Type 0 where
@@ -70,6 +71,8 @@ demand-3-proof o start starts h fair =
       total = b .total;
       ode = b .ode;
       jac = b .jac;
+      judged = b .book;
+      fresh = λ book. fresh-proof o book j w .few;
       success = (
         λ is. success-exactly-proof o j w .0 (s .is ∙ ap request.Ended is) .1,
         λ landed. let same : request.Ended (s .status) ≡ request.Ended Success =

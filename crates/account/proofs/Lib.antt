@@ -10,12 +10,14 @@ pub mod SuccessLands
 pub mod EventsTrue
 pub mod LatestLaws
 pub mod Ledgers
+pub mod FreshKept
 pub mod Admits
 pub mod FirstPoint
 pub mod Advance
 pub mod Sound
 pub mod Tally
 pub mod Journals
+pub mod Fresh
 pub mod Played
 pub mod Demand
 pub mod Computed

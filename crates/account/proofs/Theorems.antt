@@ -5,6 +5,7 @@ use Prim.Native.Nat.{_+_}
 use mathlib.Core.Path.{_≡_}
 use mathlib.Core.Bool.{true, false, _||_}
 use mathlib.Core.Logic.{_↔_}
+use Rattle.state.specs.declared.settings.Rule.the-variants as rule
 use Rattle.state.specs.declared.run.Status.{Status}
 use Rattle.state.specs.declared.run.Status.the-variants.{Success, NeedLargerNMax, StepSizeTooSmall}
 use Rattle.state.specs.declared.talk.Request.the-variants as request
@@ -17,12 +18,14 @@ use Rattle.account.specs.Reading.{standingAt, countsOf}
 use Rattle.account.specs.Truth.{EventsTrue}
 use Rattle.account.specs.Latest.{LatestKept}
 use Rattle.account.specs.Account.{Strategy, FairHost, EndsWithin, Over, Limits, Ends, Lands, Ledger}
+use Rattle.account.specs.Points.{Fresh}
 use Rattle.account.specs.Demand.{most, Demand3}
 use Rattle.account.proofs.Flow.{endsWith}
 use Rattle.account.proofs.Journals.{ends-proof, over-proof, counts-told-proof, attempts-told-proof}
 use Rattle.account.proofs.Journals.{reports-told-proof, limits-proof, statuses-proof, success-exactly-proof}
 use Rattle.account.proofs.Journals.{not-yet-proof, success-lands-proof, events-true-proof, ledger-proof}
 use Rattle.account.proofs.Journals.{latest-kept-proof}
+use Rattle.account.proofs.Fresh.{fresh-proof}
 use Rattle.account.proofs.Demand.{demand-3-proof}
 use Rattle.account.proofs.Exists.{sample, end, success-journal, success-reached}
 
@@ -82,6 +85,11 @@ ledger = ledger-proof
 pub limits : (o : Opening) (j : Journal) → JournalOf o j
     → Limits (o .settings) (j .point .run .counts) (j .point .request)
 limits = limits-proof
+
+-- Under the book rule no Jacobian is asked twice at one point, no stage of an attempt after a failed one is asked with
+-- a Jacobian of another point, and there is at most one Jacobian more than accepted points (02, [1]).
+pub fresh : (o : Opening) → o .settings .rule ≡ rule.Book → (j : Journal) → JournalOf o j → Fresh j
+fresh = fresh-proof
 
 -- ---- 4. how it ended
 

@@ -1,11 +1,14 @@
--- Demand 3 of 00 in one record, for an accepted opening o, the journal `start` that it begins, and a host h: 'The run
--- ends. Its counts equal those of the requests and events in its history. Accepted is at most M, total at most M+1, ode
--- at most 2+3(K+1)M, Jacobians at most 6(M+1). It says Success exactly when an attempt aimed at the end point is
--- accepted and its report isn't interrupted.' And of 01: 'A run under demand 3's premises never meets 13.'
+-- Demand 3 of 00 in one record, for an accepted opening o, the journal `start` that it begins, and a host h: 'The
+-- run ends. Its counts equal those of the requests and events in its history. Accepted is at most M, total at
+-- most M+1, ode at most 2+3(K+1)M, Jacobians at most 6(M+1). It says Success exactly when an attempt aimed at the
+-- end point is accepted and its report isn't interrupted.' Of 01: 'A run under demand 3's premises never meets
+-- 13.' And of 02, [1]: 'Demand 3's bounds are proved again for the book rule, where accepted plus rejected must
+-- now come out at no more than M.'
 use Prim.Native.Nat.{ℕ, _+_, _*_, _≤_, _<_}
 use mathlib.Core.Path.{_≡_}
 use mathlib.Core.Bool.{true}
 use mathlib.Core.Logic.{_↔_}
+use Rattle.state.specs.declared.settings.Rule.the-variants as rule
 use Rattle.state.specs.declared.run.Counts.{Counts}
 use Rattle.state.specs.declared.run.Run.{Run}
 use Rattle.state.specs.declared.run.Singular.{Singular}
@@ -56,5 +59,9 @@ pub record Demand3 (o : Opening) (start : Journal) (h : Strategy) : Type 0 where
   pub total : countsOf end .total ≤ o .settings .«max_steps» + 1
   pub ode : countsOf end .ode ≤ 2 + 3 * (o .settings .«newton_maxiter» + 1) * o .settings .«max_steps»
   pub jac : countsOf end .jac ≤ 6 * (o .settings .«max_steps» + 1)
+  -- under the book rule every attempt is judged once at most, and no point has two Jacobians
+  pub judged : o .settings .rule ≡ rule.Book
+      → countsOf end .accepted + countsOf end .rejected ≤ o .settings .«max_steps»
+  pub fresh : o .settings .rule ≡ rule.Book → countsOf end .jac ≤ countsOf end .accepted + 1
   -- an attempt aimed at the end point was accepted, its report not interrupted
   pub success : (status ≡ Success) ↔ (standingAt (end .turns) .landed ≡ true)

@@ -4,4 +4,5 @@ pub mod Reading
 pub mod Truth
 pub mod Latest
 pub mod Account
+pub mod Points
 pub mod Demand

@@ -1,20 +1,22 @@
 -- Places where a port goes astray, each as a claim about the definitions that the wrong reading would break. They are
 -- computed, so an edit of a definition that took the wrong reading is refused here. Those about floats alone stand in
 -- crates/solve_blocks/proofs/Refuted.antt.
-use mathlib.Core.Path.{_≡_, refl}
-use mathlib.Core.Bool.{Bool, true, false}
+use mathlib.Core.Path.{_≡_, refl, ap}
+use mathlib.Core.Bool.{Bool, true, false, not}
 use lib.Ieee.{Float, nan, le, ofBits}
 use Rattle.words.specs.Constants.{«0·0»}
 use Rattle.words.specs.Loop.{pick}
 use Rattle.state.specs.declared.settings.Number.the-variants as number
+use Rattle.state.specs.declared.settings.Rule.{Rule}
 use Rattle.state.specs.declared.settings.Rule.the-variants as rule
 use Rattle.state.specs.declared.run.Run.{Run}
 use Rattle.state.specs.declared.run.Stage.the-variants as stage
 use Rattle.state.specs.declared.run.Status.the-variants.{SingularMatrix}
 use Rattle.solve_blocks.specs.declared.step.Step.{Step}
 use Rattle.solve_blocks.specs.declared.step.Step.the-variants as step
+use Rattle.solve_blocks.specs.declared.step.Round.{Round}
 use Rattle.solve_blocks.specs.declared.step.Round.the-variants as round
-use Rattle.solve_blocks.specs.Setters.{_▸_, inControl, setSingular, setLast, setReject, setCallDecomp}
+use Rattle.solve_blocks.specs.Setters.{_▸_, inControl, setSingular, setLast, setReject, setCallJac, setCallDecomp}
 use Rattle.solve_blocks.specs.Matrices.{endedOf, wishedOf, missedOf, failedOf}
 use Rattle.solve_blocks.specs.Newton.{slowRound}
 use Rattle.solve_blocks.specs.Report.{isDue}
@@ -49,23 +51,29 @@ sixth-ends : failedOf (sample ▸ inControl (setSingular 5))
 unfolding failedOf pick
 sixth-ends = refl
 
--- a failure leaves the wish for a Jacobian as it was, and an aim doesn't survive it (radau.rs:398-402)
-wish-kept : (r : Run) → missedOf r .control .«call_jac» ≡ r .control .«call_jac»
+-- under the Rust rule a failure leaves the wish for a Jacobian as it was, and an aim doesn't survive it
+-- (radau.rs:398-402)
+wish-kept : (r : Run) → r .settings .rule ≡ rule.Rust → missedOf r .control .«call_jac» ≡ r .control .«call_jac»
 unfolding wishedOf
-wish-kept r = refl
+wish-kept r e = ap (λ (q : Rule). wishedOf q (r .control)) e
 
 aim-lost : (r : Run) → missedOf r .control .last ≡ false
 aim-lost r = refl
 
--- a slow verdict goes on to the error test under the Rust rule without the reject mark, and ends the attempt under the
--- book rule with it (radau.rs:581-582; 01, 'The book rule')
+-- a slow verdict goes on to the error test under the Rust rule without the reject mark, and ends the
+-- attempt under the book rule with it, and with a Jacobian wanted unless it was made here
+-- (radau.rs:581-582; 01, 'The book rule'; 02, [1])
 slow-rust : (r : Run) → slowRound rule.Rust r ≡ round.Estimate (r ▸ inControl (setLast false))
 unfolding slowRound
 slow-rust r = refl
 
-slow-book : (r : Run)
-    → slowRound rule.Book r
-    ≡ round.Over
-    (step.Main (r ▸ inControl (setReject true) ▸ inControl (setLast false) ▸ inControl (setCallDecomp true)))
+abbrev slowTo : Run → Bool → Round
+slowTo r wish =
+    round.Over (step.Main
+    (r ▸ inControl (setReject true) ▸ inControl (setLast false) ▸ inControl (setCallDecomp true)
+    ▸ inControl (setCallJac wish)))
+
+slow-book : (r : Run) → r .settings .rule ≡ rule.Book
+    → slowRound rule.Book r ≡ slowTo r (not (r .control .«made_here»))
 unfolding slowRound wishedOf
-slow-book r = refl
+slow-book r e = ap (λ (q : Rule). slowTo r (wishedOf q (r .control))) e

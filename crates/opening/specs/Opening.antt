@@ -79,7 +79,7 @@ abbrev pub firstCounts : Counts
 firstCounts = record { ode = 1; jac = 0; lu = 0; total = 0; accepted = 0; rejected = 0 }
 
 -- the flags [radau.rs:323-326], with what was set before them (radau.rs:293, 299-300); rounds are counted anew in
--- each attempt (radau.rs:482)
+-- each attempt (radau.rs:482), and no Jacobian is made yet
 abbrev pub firstControl : Control
 firstControl = record {
   first = true;
@@ -89,6 +89,7 @@ firstControl = record {
   «call_decomp» = true;
   «singular_count» = 0;
   «newt_iter» = 0;
+  «made_here» = false;
 }
 
 -- what the Rust leaves unset is +0

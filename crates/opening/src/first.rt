@@ -128,6 +128,7 @@ fn control() -> Control
         call_decomp: true,
         singular_count: 0,
         newt_iter: 0,
+        made_here: false,
     }
 }
 

@@ -74,6 +74,7 @@ run-held r =
       flag-held (c .reject),
       flag-held (c .«call_jac»),
       flag-held (c .«call_decomp»),
+      flag-held (c .«made_here»),
       number-back (r .numbers .xout),
       tolerances-back (r .fixed .tolerances),
       flag-held (s .predictive),

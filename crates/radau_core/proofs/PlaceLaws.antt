@@ -50,8 +50,8 @@ from {A} z l i (suc k) h =
     (ap (λ (j : ℕ). drop j l) (sym (add-one i)) ∙ from z l (i + 1) k (omega arith))
 
 module _ {w : List ℕ} {d : List Float} (sized : Sized w d) where
-  pub words-at : w ≡ entries 0 w 0 40
-  words-at = from 0 w 0 40 (omega (arith, sized .words))
+  pub words-at : w ≡ entries 0 w 0 41
+  words-at = from 0 w 0 41 (omega (arith, sized .words))
 
   pub doubles-at : d ≡ entries nan d 0 29
   doubles-at = from nan d 0 29 (omega (arith, sized .doubles))

@@ -61,6 +61,7 @@ controlAt w = record {
   «call_decomp» = flagOf (w # 12);
   «singular_count» = w # 13;
   «newt_iter» = w # 14;
+  «made_here» = flagOf (w # 38);
 }
 
 abbrev pub numbersAt : List ℕ → List Float → Numbers
@@ -120,7 +121,7 @@ abbrev pub stageAt : List ℕ → Stage
 stageAt w = stageOf (w # 0) (w # 1)
 
 abbrev pub notesAt : List ℕ → Notes
-notesAt w = record { singular = singularOf (w # 38) (w # 39) }
+notesAt w = record { singular = singularOf (w # 39) (w # 40) }
 
 abbrev pub runAt : List ℕ → List Float → Run
 runAt w d = record {
@@ -135,7 +136,7 @@ runAt w d = record {
 }
 
 pub record Sized (w : List ℕ) (d : List Float) : Type 0 where
-  pub words : length w ≡ 40
+  pub words : length w ≡ 41
   pub doubles : length d ≡ 29
 
 -- ---- where `solve` stands
@@ -200,6 +201,7 @@ wordsOf r =
     ∷ orNone (r .settings .nind2)
     ∷ wholeTag (r .settings .nind3)
     ∷ orNone (r .settings .nind3)
+    ∷ flagWord (r .control .«made_here»)
     ∷ singularKind (r .notes .singular)
     ∷ singularColumn (r .notes .singular)
     ∷ []

@@ -11,6 +11,7 @@ use crate::places::H_ACC;
 use crate::places::HHFAC;
 use crate::places::HNEW;
 use crate::places::HOLD;
+use crate::places::MADE_HERE;
 use crate::places::NEWT_ITER;
 use crate::places::NEWTON_MAXITER;
 use crate::places::PREDICTIVE;
@@ -98,6 +99,7 @@ fn accepted_point(words: &mut [usize; WORDS], doubles: &mut [f64; DOUBLES])
 {
     words[ACCEPTED] = words[ACCEPTED] + 1;
     words[FIRST] = 0;
+    words[MADE_HERE] = 0;
     doubles[XOLD] = doubles[X];
     doubles[HOLD] = doubles[H];
     doubles[X] = doubles[XPH];

@@ -3,6 +3,7 @@ use crate::entries::store;
 use crate::kept::source_mode;
 use crate::places::DOUBLES;
 use crate::places::JAC;
+use crate::places::MADE_HERE;
 use crate::places::N;
 use crate::places::SOURCE;
 use crate::places::WORDS;
@@ -25,8 +26,7 @@ ghost use lib.Ieee.{Float};
 ghost use Rattle.words.specs.Loop.{loop};
 ghost use Rattle.words.specs.Grid.{Square};
 ghost use Rattle.state.specs.Memory.{differences};
-ghost use Rattle.solve_blocks.specs.Setters.{inCounts, oneJac};
-ghost use Rattle.solve_blocks.specs.Jacobian.{asking, askJacobianOf, perturbation};
+ghost use Rattle.solve_blocks.specs.Jacobian.{asking, askedHere, askJacobianOf, perturbation};
 ghost use Rattle.solve_blocks.specs.Jacobian.{columned, askColumnOf, columnAt, columnOf};
 ghost use Rattle.radau_core.specs.Places.{runAt, Sized, callAt, stepAt, countsAt, shapeAt};
 
@@ -42,15 +42,16 @@ fn copy(from: &[f64], to: &mut [f64])
     }
 }
 
-// A Jacobian is counted with its first request.
+// A Jacobian is counted with its first request, and is one of the present point from there on.
 fn wanted(words: &mut [usize; WORDS], doubles: &mut [f64; DOUBLES])
     requires { ⌜ Sized (now words) (now doubles) ⌝ }
     requires { ⌜ countsAt (now words) .jac + 1 < 2 ^ 64 ⌝ }
     ensures { λ _. ⌜ Sized (now (words .exit)) (now (doubles .exit)) ⌝ }
     ensures { λ _. ⌜ runAt (now (words .exit)) (now (doubles .exit))
-        ≡ inCounts oneJac (runAt (now (words .entry)) (now (doubles .entry))) ⌝ }
+        ≡ askedHere (runAt (now (words .entry)) (now (doubles .entry))) ⌝ }
 {
     words[JAC] = words[JAC] + 1;
+    words[MADE_HERE] = 1;
 }
 
 pub fn ask_jacobian(

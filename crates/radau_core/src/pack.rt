@@ -38,6 +38,7 @@ use crate::places::HOLD;
 use crate::places::JAC;
 use crate::places::LAST;
 use crate::places::LU;
+use crate::places::MADE_HERE;
 use crate::places::MARKED;
 use crate::places::MASS;
 use crate::places::MAX_STEPS;
@@ -250,6 +251,7 @@ pub fn words_of(run: Run) -> [usize; WORDS]
         whole_word(nind2),
         whole_tag(nind3),
         whole_word(nind3),
+        flag_word(c.made_here),
         singular_kind(singular),
         singular_column(singular),
     ]
@@ -343,6 +345,7 @@ fn control_at(words: &[usize; WORDS]) -> Control
         call_decomp: words[CALL_DECOMP] != 0,
         singular_count: words[SINGULAR_COUNT],
         newt_iter: words[NEWT_ITER],
+        made_here: words[MADE_HERE] != 0,
     }
 }
 

@@ -1,5 +1,6 @@
 // The decompositions of a pass, and what a failure leads to (radau.rs:390-419).
 use crate::kept::mass_mode;
+use crate::kept::rule_mode;
 use crate::matrices::built;
 use crate::notes::noted;
 use crate::places::CALL_DECOMP;
@@ -9,9 +10,11 @@ use crate::places::H;
 use crate::places::HHFAC;
 use crate::places::LAST;
 use crate::places::LU;
+use crate::places::MADE_HERE;
 use crate::places::MASS;
 use crate::places::N;
 use crate::places::REJECT;
+use crate::places::RULE;
 use crate::places::SINGULAR_COUNT;
 use crate::places::WORDS;
 use crate::stage::ended;
@@ -21,6 +24,7 @@ use matrix::lu_decomp;
 use matrix::lu_decomp_complex;
 use state::run::Singular;
 use state::run::Status;
+use state::settings::Rule;
 ghost use mathlib.Core.Path.{_≡_};
 ghost use Prim.Native.Nat.{ℕ, _+_, _≤_, _<_, _^_};
 ghost use mathlib.Core.List.{List};
@@ -29,10 +33,22 @@ ghost use lib.Ieee.{Float};
 ghost use Rattle.words.specs.Grid.{Square};
 ghost use Rattle.state.specs.Memory.{factors};
 ghost use Rattle.solve_blocks.specs.Setters.{inCounts, oneLu};
-ghost use Rattle.solve_blocks.specs.Matrices.{missedOf, failedOf, isErr, columnOf, stopping, tried, complexTriedOf};
-ghost use Rattle.solve_blocks.specs.Matrices.{realTriedOf, triedOf, passesOn, passesOf};
+ghost use Rattle.solve_blocks.specs.Matrices.{wishedOf, missedOf, failedOf, isErr, columnOf, stopping, tried};
+ghost use Rattle.solve_blocks.specs.Matrices.{complexTriedOf, realTriedOf, triedOf, passesOn, passesOf};
 ghost use Rattle.solve_blocks.specs.Needs.{Fit, StepFit, FactorsLong};
-ghost use Rattle.radau_core.specs.Places.{runAt, Sized, stepAt, shapeAt};
+ghost use Rattle.radau_core.specs.Places.{runAt, Sized, stepAt, shapeAt, controlAt, settingsAt};
+
+// Whether a Jacobian is wanted past a failure: by the Rust rule as before it, by the book's unless it was made here.
+fn wished(words: &[usize; WORDS]) -> bool
+    ensures { λ r. ⌜ ((d : List Float)
+        → r ≡ wishedOf (settingsAt (now (words .entry)) d .rule) (controlAt (now (words .entry)))) ⌝ }
+{
+    let rule = rule_mode(words[RULE]);
+    match rule {
+        Rule::Rust => words[CALL_JAC] != 0,
+        Rule::Book => words[MADE_HERE] == 0,
+    }
+}
 
 // After any attempt that is not accepted.
 pub fn missed(words: &mut [usize; WORDS], doubles: &mut [f64; DOUBLES])
@@ -41,9 +57,11 @@ pub fn missed(words: &mut [usize; WORDS], doubles: &mut [f64; DOUBLES])
     ensures { λ _. ⌜ runAt (now (words .exit)) (now (doubles .exit))
         ≡ missedOf (runAt (now (words .entry)) (now (doubles .entry))) ⌝ }
 {
+    let wish = wished(words);
     words[REJECT] = 1;
     words[LAST] = 0;
     words[CALL_DECOMP] = 1;
+    words[CALL_JAC] = wish as usize;
 }
 
 // A failure: the sixth since the last acceptance ends the run, another halves the step.

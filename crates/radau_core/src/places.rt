@@ -1,6 +1,6 @@
-// The places of a run: 40 whole numbers in one array and 29 doubles in another, each at a place with a name, changed
+// The places of a run: 41 whole numbers in one array and 29 doubles in another, each at a place with a name, changed
 // where they stand. specs/Places.antt says which run two such arrays hold.
-pub const WORDS: usize = 40;
+pub const WORDS: usize = 41;
 
 pub const DOUBLES: usize = 29;
 
@@ -86,11 +86,14 @@ pub const HAS_NIND3: usize = 36;
 
 pub const GIVEN_NIND3: usize = 37;
 
+// ---- one more that an advance changes: the Jacobian in hand was made at the present point
+pub const MADE_HERE: usize = 38;
+
 // ---- the notes, which no decision reads: the matrix of the latest singular decomposition (0 there was none, 1 E1,
 // 2 E2), and its column
-pub const SINGULAR: usize = 38;
+pub const SINGULAR: usize = 39;
 
-pub const COLUMN: usize = 39;
+pub const COLUMN: usize = 40;
 
 // ---- doubles that an advance changes
 pub const X: usize = 0;

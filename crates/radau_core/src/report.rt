@@ -10,6 +10,7 @@ use crate::places::HMAX;
 use crate::places::HMIN;
 use crate::places::HNEW;
 use crate::places::LAST;
+use crate::places::MADE_HERE;
 use crate::places::MARKED;
 use crate::places::POSNEG;
 use crate::places::REJECT;
@@ -101,6 +102,7 @@ pub fn reported(
         Reply::Interrupt => Heard::Asked(ended(words, doubles, Status::UserInterrupt)),
         Reply::Modified(x) => {
             doubles[X] = x;
+            words[MADE_HERE] = 0;
             Heard::Asked(ask_derivative(words, doubles, again, Place::YToF0))
         }
         Reply::Mark(xo) => {

@@ -86,6 +86,8 @@ const CALL_DECOMP: u64 = 131_072;
 
 const XOUT_GIVEN: u64 = 262_144;
 
+const MADE_HERE: u64 = 524_288;
+
 pub struct Case {
     pub words: [u64; WORDS],
     pub reading: Reading,
@@ -212,6 +214,7 @@ impl Case {
             call_decomp: choice(&words, CALL_DECOMP),
             singular_count: words[SINGULAR_COUNT] as usize,
             newt_iter: words[NEWT_ITER] as usize,
+            made_here: choice(&words, MADE_HERE),
         }
     }
 

@@ -273,6 +273,7 @@ fn met_control(found: Found, control: Control) -> Found {
         .truth(control.call_decomp, true)
         .compared(control.singular_count as u64, 0)
         .compared(control.newt_iter as u64, 0)
+        .truth(control.made_here, false)
 }
 
 // Points and steps; what the Rust sets later is +0.

@@ -2,8 +2,8 @@
 -- where they change, NaNs, and Identity's zeros. What is expected stands in FromRust, made by the Rust's own lines, but
 -- for `nan-accepted` and the claims about Identity, whose entries are read as 1.0 and 0.0 (matrix/index.rs:17-25).
 use Prim.Native.Nat.{ℕ}
-use mathlib.Core.Path.{_≡_, refl}
-use mathlib.Core.Bool.{Bool, true, false}
+use mathlib.Core.Path.{_≡_, refl, sym, _∙_}
+use mathlib.Core.Bool.{Bool, true, false, true≢false}
 use mathlib.Core.List.{List, [], _∷_}
 use lib.Dec.{eqb}
 use lib.Ieee.{Float, nan, inf, add, sub, mul, div, neg, le, lt, isNan, ofInt, ofBits, toBits}
@@ -19,6 +19,9 @@ use Rattle.scalar.specs.Root.{keeps, halvedRoot, rootOfForm, rootOf}
 use Rattle.scalar.specs.SquareRoot.{squareOf}
 use Rattle.scalar.specs.SquareRootComputed.{border, reaches, nearestRoot, sqrtOf}
 use Rattle.state.specs.declared.settings.Mass.the-variants.{Identity}
+use Rattle.state.specs.declared.settings.Rule.{Rule}
+use Rattle.state.specs.declared.settings.Rule.the-variants as rule
+use Rattle.state.specs.declared.run.Control.{Control}
 use Rattle.state.specs.declared.run.Run.{Run}
 use Rattle.state.specs.declared.run.Stage.{Stage}
 use Rattle.state.specs.declared.run.Stage.the-variants as stage
@@ -32,17 +35,18 @@ use Rattle.solve_blocks.specs.declared.step.Step.{Step}
 use Rattle.solve_blocks.specs.declared.step.Step.the-variants as step
 use Rattle.solve_blocks.specs.Setters.{_▸_, inControl, inNumbers, setFirst}
 use Rattle.solve_blocks.specs.Setters.{setX, setH, setHnew, setTheta, setFaccon}
-use Rattle.solve_blocks.specs.Setters.{setNewt, setThqold, setDynold}
+use Rattle.solve_blocks.specs.Setters.{setNewt, setHere, setThqold, setDynold}
 use Rattle.solve_blocks.specs.Entries.{massAt, jacAt, combined, Three, three}
-use Rattle.solve_blocks.specs.Matrices.{buildAt, failedOf}
+use Rattle.solve_blocks.specs.Matrices.{buildAt, failedOf, wishedOf}
+use Rattle.solve_blocks.specs.Jacobian.{askedHere}
 use Rattle.solve_blocks.specs.Attempt.{askStageOf, beganOf, attemptOf}
 use Rattle.solve_blocks.specs.Newton.{sums, massSumAt, massSums, rateOf}
 use Rattle.solve_blocks.specs.Newton.{pacedOf, predictedOf, slowedOf, slowRound}
 use Rattle.solve_blocks.specs.Newton.{concludedOf, judgedRound}
 use Rattle.solve_blocks.specs.Estimate.{defectAt, defectOf, rowAt, rowSum, sideAt, sidesOf, solvedFirst}
 use Rattle.solve_blocks.specs.Estimate.{errorAt, errorOf}
-use Rattle.solve_blocks.specs.Judge.{judgedOf, testedOf, estimateOf}
-use Rattle.solve_blocks.specs.Report.{hnewOf, grownOf, renewedOf, arrivedOf}
+use Rattle.solve_blocks.specs.Judge.{acceptedPoint, judgedOf, testedOf, estimateOf}
+use Rattle.solve_blocks.specs.Report.{askModified, hnewOf, grownOf, renewedOf, arrivedOf}
 use Rattle.solve_blocks.proofs.FromRust as rust
 use Rattle.solve_blocks.proofs.Samples.{one, drawn, runBy, z, bitsOf, flag, roundTold, stepTold}
 
@@ -170,6 +174,30 @@ grow-edge = refl
 keep-edge : (2 ∷ stepTold (arrivedOf (growing (double 0x3ff1_9999_9999_999a)) .core)) ≡ rust.kept
 unfolding arrivedOf hnewOf renewedOf grownOf clampOf absOf pick le lt add sub mul div ofBits toBits
 keep-edge = refl
+
+-- ---- the Jacobian past a failure (02, [1])
+
+-- two wrong programs: one that goes by the rule and the wish alone, as before [1], can't tell a Jacobian of this point
+-- from an old one; and one asks again after every failure, also where the Jacobian was made here
+pub not-by-wish : (w : Rule → Bool → Bool) → ((q : Rule) (c : Control) → w q (c .«call_jac») ≡ wishedOf q c) → ⊥
+unfolding wishedOf
+not-by-wish w meets =
+    true≢false (sym (meets rule.Book (drawn .control ▸ setHere false))
+    ∙ meets rule.Book (drawn .control ▸ setHere true))
+
+pub not-every-time : ((c : Control) → wishedOf rule.Book c ≡ true) → ⊥
+unfolding wishedOf
+not-every-time always = true≢false (sym (always (drawn .control ▸ setHere true)))
+
+-- a Jacobian that is asked for is one of this point; an accepted point is another, and so is a modified one
+here-asked : (r : Run) → askedHere r .control .«made_here» ≡ true
+here-asked r = refl
+
+here-accepted : (r : Run) → acceptedPoint r .control .«made_here» ≡ false
+here-accepted r = refl
+
+here-modified : (again : Stage) (x : Float) (r : Run) → askModified again x r .run .control .«made_here» ≡ false
+here-modified again x r = refl
 
 -- ---- a NaN error
 

@@ -25,7 +25,7 @@ use Rattle.state.specs.declared.talk.Reply.the-variants as reply
 use Rattle.state.specs.declared.talk.Request.the-variants as request
 use Rattle.state.specs.Memory.{Factors}
 use Rattle.solve_blocks.specs.declared.step.Call.{Call}
-use Rattle.solve_blocks.specs.Setters.{_▸_, inCounts, inControl, inNumbers, inNotes, atStage, oneJac}
+use Rattle.solve_blocks.specs.Setters.{_▸_, inCounts, inControl, inNumbers, inNotes, atStage}
 use Rattle.solve_blocks.specs.Setters.{oneLu, oneTotal, oneRejected, setLast, setLatest}
 use Rattle.solve_blocks.specs.Setters.{setReject, setCallJac, setCallDecomp, setSingular, setNewt}
 use Rattle.solve_blocks.specs.Setters.{setXph, setH, setHnew, setHhfac, setHAcc}
@@ -35,6 +35,7 @@ use Rattle.solve_blocks.specs.Events.{factored, over-limit, too-small, b
 use Rattle.solve_blocks.specs.Events.{rounds-used, diverged, slow, error-solve}
 use Rattle.solve_blocks.specs.Events.{failed, accepted, aimed, not-aimed}
 use Rattle.solve_blocks.specs.Matrices.{call, askDerivative, endedOf, missedOf}
+use Rattle.solve_blocks.specs.Jacobian.{askedHere}
 use Rattle.solve_blocks.specs.Judge.{acceptedPoint, askAccepted, askRefinement}
 use Rattle.solve_blocks.specs.Report.{askModified, isInterrupt}
 use Rattle.solve_blocks.specs.Needs.{FactorsLong}
@@ -143,11 +144,11 @@ pub record Closed (p : Reply) (mass jac : List Float) (P : List Event → Positi
   pub host-asked : {es : List Event} {r : Run} → r .control .«call_jac» ≡ true
       → r .settings .source ≡ source.Host → P es (main r)
       → P es
-      (asked (call (r ▸ inCounts oneJac ▸ atStage stage.Jacobian) (request.Jacobian (r .numbers .x)) place.Nowhere))
+      (asked (call (r ▸ askedHere ▸ atStage stage.Jacobian) (request.Jacobian (r .numbers .x)) place.Nowhere))
   pub origin-asked : {es : List Event} {r : Run} → r .control .«call_jac» ≡ true
       → r .settings .source ≡ source.Differences → P es (main r)
       → P es (asked
-      (call (r ▸ inCounts oneJac ▸ atStage (stage.Column 0)) (request.Derivative (r .numbers .x)) place.YToFOrigin))
+      (call (r ▸ askedHere ▸ atStage (stage.Column 0)) (request.Derivative (r .numbers .x)) place.YToFOrigin))
   pub jacobian-kept : {es : List Event} {r : Run} → r .control .«call_jac» ≡ false → P es (main r) → P es (matrices r)
   pub host-filled : {es : List Event} {r : Run} → P es (replied stage.Jacobian r) → P es (matrices r)
   pub origin-filled : {es : List Event} {r : Run} → P es (replied (stage.Column 0) r)

@@ -90,7 +90,7 @@ runBy tolerance end direction =
             hmin = rust.hmin;
           };
       counts = counts 0 0 0 0 1 0;
-      control = control false false false true true 0 4;
+      control = control false false false true true 0 4 false;
       numbers = numbers;
       stage = stage.Newton3;
       notes = firstNotes;

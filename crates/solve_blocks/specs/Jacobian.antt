@@ -1,6 +1,7 @@
 -- The Jacobian: asked of the host, or made by differences of derivatives, one request for each column and one at the
 -- point itself (radau.rs:370-374; ivp.rs:67-107).
 use Prim.Native.Nat.{ℕ, suc, zero, _+_}
+use mathlib.Core.Bool.{true}
 use mathlib.Core.List.{List}
 use lib.Dec.{ltb}
 use lib.ListN.{set}
@@ -20,7 +21,7 @@ use Rattle.state.specs.Memory.{Differences, differences, zeros}
 use Rattle.solve_blocks.specs.declared.step.Call.{Call}
 use Rattle.solve_blocks.specs.declared.step.Step.{Step}
 use Rattle.solve_blocks.specs.declared.step.Step.the-variants as step
-use Rattle.solve_blocks.specs.Setters.{_▸_, inCounts, atStage, oneJac}
+use Rattle.solve_blocks.specs.Setters.{_▸_, inCounts, inControl, atStage, oneJac, setHere}
 use Rattle.solve_blocks.specs.Matrices.{call}
 
 pub record Asking : Type 0 where
@@ -30,12 +31,16 @@ pub record Asking : Type 0 where
 abbrev pub asking : Call → Differences → Asking
 asking c d = record { call = c; differences = d }
 
+-- a Jacobian is counted with its first request, and is one of the present point from there on
+abbrev pub askedHere : Run → Run
+askedHere r = r ▸ inCounts oneJac ▸ inControl (setHere true)
+
 -- a copy of y, and zeros, are made anew for each Jacobian [ivp.rs:73-80]
 unfoldable pub askJacobianBy : Source → Run → List Float → Differences → Asking
 askJacobianBy source.Host r y d =
-    asking (call (r ▸ inCounts oneJac ▸ atStage stage.Jacobian) (request.Jacobian (r .numbers .x)) Nowhere) d
+    asking (call (r ▸ askedHere ▸ atStage stage.Jacobian) (request.Jacobian (r .numbers .x)) Nowhere) d
 askJacobianBy source.Differences r y d =
-    asking (call (r ▸ inCounts oneJac ▸ atStage (stage.Column 0)) (request.Derivative (r .numbers .x)) YToFOrigin)
+    asking (call (r ▸ askedHere ▸ atStage (stage.Column 0)) (request.Derivative (r .numbers .x)) YToFOrigin)
     (differences y (zeros (r .shape .n)) (zeros (r .shape .n)))
 
 abbrev pub askJacobianOf : Run → List Float → Differences → Asking

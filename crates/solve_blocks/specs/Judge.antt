@@ -20,7 +20,7 @@ use Rattle.solve_blocks.specs.declared.step.Call.{Call}
 use Rattle.solve_blocks.specs.declared.step.Step.{Step}
 use Rattle.solve_blocks.specs.declared.step.Step.the-variants as step
 use Rattle.solve_blocks.specs.Setters.{_▸_, inCounts, inControl, inNumbers}
-use Rattle.solve_blocks.specs.Setters.{oneLu, oneAccepted, oneRejected, setFirst, setX, setXold}
+use Rattle.solve_blocks.specs.Setters.{oneLu, oneAccepted, oneRejected, setFirst, setHere, setX, setXold}
 use Rattle.solve_blocks.specs.Setters.{setH, setHold, setHnew, setHhfac, setHAcc, setErrAcc}
 use Rattle.solve_blocks.specs.Events.{error-solve, failed, accepted, Logged, logged, quiet, noted}
 use Rattle.solve_blocks.specs.Entries.{asFloat, Three, three}
@@ -97,6 +97,8 @@ acceptedPoint r =
     -- [radau.rs:677-679]
     r ▸ inCounts oneAccepted
     ▸ inControl (setFirst false)
+    -- the Jacobian in hand is now one of another point
+    ▸ inControl (setHere false)
     -- [radau.rs:694-697]
     ▸ inNumbers (setXold (r .numbers .x))
     ▸ inNumbers (setHold (r .numbers .h))

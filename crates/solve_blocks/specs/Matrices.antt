@@ -16,6 +16,7 @@ use Rattle.matrix.specs.Lu.{luDecompOf}
 use Rattle.matrix.specs.LuComplex.{luDecompComplexOf}
 use Rattle.state.specs.declared.settings.Mass.{Mass}
 use Rattle.state.specs.declared.settings.Rule.{Rule}
+use Rattle.state.specs.declared.settings.Rule.the-variants as rule
 use Rattle.state.specs.declared.run.Control.{Control}
 use Rattle.state.specs.declared.run.Run.{Run}
 use Rattle.state.specs.declared.run.Singular.{Singular}
@@ -52,9 +53,11 @@ askDerivative r s x p = call (r ▸ inCounts oneOde ▸ atStage s) (request.Deri
 abbrev pub endedOf : Status → Run → Call
 endedOf s r = call (r ▸ atStage (stage.Ended s)) (request.Ended s) Nowhere
 
--- whether a Jacobian is wanted past an attempt that failed: the wish stays as it was, whatever the rule
+-- whether a Jacobian is wanted past an attempt that failed: under the Rust rule the wish stays as it was; under the
+-- book rule it is asked for again if it was made at another point than the present one, and kept if made here (02, [1])
 unfoldable pub wishedOf : Rule → Control → Bool
-wishedOf q c = c .«call_jac»
+wishedOf rule.Rust c = c .«call_jac»
+wishedOf rule.Book c = not (c .«made_here»)
 
 -- the matrices are made again, and an aim doesn't survive
 abbrev pub missed : Rule → Control → Control

@@ -23,7 +23,7 @@ use Rattle.solve_blocks.specs.declared.step.Step.{Step}
 use Rattle.solve_blocks.specs.declared.step.Step.the-variants as step
 use Rattle.solve_blocks.specs.Setters.{_▸_, inControl, inNumbers, atStage}
 use Rattle.solve_blocks.specs.Setters.{setLast, setReject, setCallJac, setCallDecomp}
-use Rattle.solve_blocks.specs.Setters.{setSingular, setX, setH, setHnew, setHhfac, setXout}
+use Rattle.solve_blocks.specs.Setters.{setSingular, setHere, setX, setH, setHnew, setHhfac, setXout}
 use Rattle.solve_blocks.specs.Events.{aimed, not-aimed, Logged, logged, quiet}
 use Rattle.solve_blocks.specs.Attempt.{thet}
 use Rattle.solve_blocks.specs.Matrices.{call, askDerivative, endedOf}
@@ -50,9 +50,10 @@ askReport r =
 
 -- ---- and answered
 
--- the host has put the run at x, and the derivative there is asked [radau.rs:349-353] [again radau.rs:734-738]
+-- the host has put the run at x, which counts as another point whatever its numbers, and the derivative there is
+-- asked [radau.rs:349-353] [again radau.rs:734-738]
 abbrev pub askModified : Stage → Float → Run → Call
-askModified again x r = askDerivative (r ▸ inNumbers (setX x)) again x YToF0
+askModified again x r = askDerivative (r ▸ inNumbers (setX x) ▸ inControl (setHere false)) again x YToF0
 
 -- `again` is the stage of the derivative that a modified point asks for [radau.rs:340-348] [alike radau.rs:729-733]
 unfoldable pub reportedOf : Stage → Reply → Run → Heard

@@ -116,8 +116,8 @@ oneRejected c = counts (c .ode) (c .jac) (c .lu) (c .total) (c .accepted) (c .re
 
 -- ---- flags and counters
 
-abbrev pub control : Bool → Bool → Bool → Bool → Bool → ℕ → ℕ → Control
-control first last reject jac decomp singular newt =
+abbrev pub control : Bool → Bool → Bool → Bool → Bool → ℕ → ℕ → Bool → Control
+control first last reject jac decomp singular newt here =
     record {
       first = first;
       last = last;
@@ -126,28 +126,44 @@ control first last reject jac decomp singular newt =
       «call_decomp» = decomp;
       «singular_count» = singular;
       «newt_iter» = newt;
+      «made_here» = here;
     }
 
 abbrev pub setFirst : Bool → Control → Control
-setFirst v c = control v (c .last) (c .reject) (c .«call_jac») (c .«call_decomp») (c .«singular_count») (c .«newt_iter»)
+setFirst v c =
+    control v (c .last) (c .reject) (c .«call_jac») (c .«call_decomp»)
+    (c .«singular_count») (c .«newt_iter») (c .«made_here»)
 
 abbrev pub setLast : Bool → Control → Control
-setLast v c = control (c .first) v (c .reject) (c .«call_jac») (c .«call_decomp») (c .«singular_count») (c .«newt_iter»)
+setLast v c =
+    control (c .first) v (c .reject) (c .«call_jac») (c .«call_decomp»)
+    (c .«singular_count») (c .«newt_iter») (c .«made_here»)
 
 abbrev pub setReject : Bool → Control → Control
-setReject v c = control (c .first) (c .last) v (c .«call_jac») (c .«call_decomp») (c .«singular_count») (c .«newt_iter»)
+setReject v c =
+    control (c .first) (c .last) v (c .«call_jac») (c .«call_decomp»)
+    (c .«singular_count») (c .«newt_iter») (c .«made_here»)
 
 abbrev pub setCallJac : Bool → Control → Control
-setCallJac v c = control (c .first) (c .last) (c .reject) v (c .«call_decomp») (c .«singular_count») (c .«newt_iter»)
+setCallJac v c =
+    control (c .first) (c .last) (c .reject) v (c .«call_decomp»)
+    (c .«singular_count») (c .«newt_iter») (c .«made_here»)
 
 abbrev pub setCallDecomp : Bool → Control → Control
-setCallDecomp v c = control (c .first) (c .last) (c .reject) (c .«call_jac») v (c .«singular_count») (c .«newt_iter»)
+setCallDecomp v c =
+    control (c .first) (c .last) (c .reject) (c .«call_jac») v (c .«singular_count») (c .«newt_iter») (c .«made_here»)
 
 abbrev pub setSingular : ℕ → Control → Control
-setSingular v c = control (c .first) (c .last) (c .reject) (c .«call_jac») (c .«call_decomp») v (c .«newt_iter»)
+setSingular v c =
+    control (c .first) (c .last) (c .reject) (c .«call_jac») (c .«call_decomp») v (c .«newt_iter») (c .«made_here»)
 
 abbrev pub setNewt : ℕ → Control → Control
-setNewt v c = control (c .first) (c .last) (c .reject) (c .«call_jac») (c .«call_decomp») (c .«singular_count») v
+setNewt v c =
+    control (c .first) (c .last) (c .reject) (c .«call_jac») (c .«call_decomp») (c .«singular_count») v (c .«made_here»)
+
+abbrev pub setHere : Bool → Control → Control
+setHere v c =
+    control (c .first) (c .last) (c .reject) (c .«call_jac») (c .«call_decomp») (c .«singular_count») (c .«newt_iter») v
 
 -- ---- floats
 

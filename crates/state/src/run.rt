@@ -82,6 +82,8 @@ pub struct Control {
     pub call_decomp: bool,
     pub singular_count: usize,
     pub newt_iter: usize,
+    // The Jacobian in hand was made at the present point.
+    pub made_here: bool,
 }
 
 // The floats of `solve` that live from one request to the next.

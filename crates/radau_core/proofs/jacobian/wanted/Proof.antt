@@ -12,4 +12,4 @@ returns c = (resized (c .before .pre .0) (simp length-set) refl, rw (words-at (c
 pub wanted-spec : {M : Type 1} → statement M
 wanted-spec =
     tie.close
-    (tie.spec (λ c. search needs) (λ c. search needs) (λ c. search needs) returns)
+    (tie.spec (λ c. search needs) (λ c. search needs) (λ c. search needs) (λ c. search needs) returns)

@@ -6,7 +6,8 @@ use Rattle.radau_core.proofs.pack.words_of.Tie as tie
 
 returns : tie.Need-returns
 returns c =
-    let at-whole-tag2 = c .before .before .before .before .before in
+    let at-whole-word2 = c .before .before .before .before .before in
+    let at-whole-tag2 = at-whole-word2 .before in
     let at-whole-word = at-whole-tag2 .before in
     let at-whole-tag = at-whole-word .before in
     let at-number-tag5 = at-whole-tag .before in
@@ -64,9 +65,10 @@ returns c =
     ∷ at-whole-tag .whole-tag .ensures i
     ∷ at-whole-word .whole-word .ensures i
     ∷ at-whole-tag2 .whole-tag2 .ensures i
-    ∷ c .before .before .before .before .whole-word2 .ensures i
-    ∷ c .before .before .before .whole-tag3 .ensures i
-    ∷ c .before .before .whole-word3 .ensures i
+    ∷ at-whole-word2 .whole-word2 .ensures i
+    ∷ c .before .before .before .before .whole-tag3 .ensures i
+    ∷ c .before .before .before .whole-word3 .ensures i
+    ∷ c .before .before .flag-word8 .ensures i
     ∷ c .before .singular-kind .ensures i
     ∷ c .singular-column .ensures i
     ∷ []
@@ -79,4 +81,4 @@ words-of-spec =
     (λ c κs. search needs) (λ c κs. search needs) (λ c κs. search needs) (λ c κs. search needs) (λ c κs. search needs)
     (λ c κs. search needs) (λ c κs. search needs) (λ c κs. search needs) (λ c κs. search needs) (λ c κs. search needs)
     (λ c κs. search needs) (λ c κs. search needs) (λ c κs. search needs) (λ c κs. search needs) (λ c κs. search needs)
-    (λ c κs. search needs) (λ c κs. search needs) returns)
+    (λ c κs. search needs) (λ c κs. search needs) (λ c κs. search needs) returns)

@@ -12,7 +12,7 @@ use Rattle.radau_core.proofs.report.reported.Tie as tie
 ask-derivative-requires : tie.Need-ask-derivative-requires
 ask-derivative-requires c κs =
     let start = c .before .before .before .before .before in
-    (resized (start .pre .0) refl (simp length-set), start .pre .1)
+    (resized (start .pre .0) (simp length-set) (simp length-set), rw (words-at (start .pre .0)) (start .pre .1))
 
 returns : tie.Need-returns
 unfolding reportedOf
@@ -34,7 +34,12 @@ returns-4 c =
     let at-reply = c .before .before .before .before in
     let start = at-reply .before .before in (
       c .ask-derivative .ensures .0,
-      rw (at-reply .reply .given .1, c .ask-derivative .ensures .1, doubles-at (start .pre .0)),
+      rw (
+        at-reply .reply .given .1,
+        c .ask-derivative .ensures .1,
+        words-at (start .pre .0),
+        doubles-at (start .pre .0),
+      ),
     )
 
 returns-5 : tie.Need-returns-5
@@ -49,5 +54,6 @@ pub reported-spec : {M : Type 1} → statement M
 reported-spec =
     tie.close
     (tie.spec (λ c. search needs) (λ c. search needs) (λ c. search needs) (λ c κs. search needs) (λ c. search needs)
-    (λ c. search needs) ask-derivative-requires (λ c. search needs) (λ c. search needs) (λ c. search needs) returns
+    (λ c. search needs) (λ c. search needs) ask-derivative-requires
+    (λ c. search needs) (λ c. search needs) (λ c. search needs) returns
     returns-2 returns-3 returns-4 returns-5)
