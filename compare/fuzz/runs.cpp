@@ -89,7 +89,8 @@ class Session {
     uint64_t call_advance(uint64_t reply, double value);
     void advance(uint64_t reply, double value);
     void judge_notes(const Words &was);
-    void judge_advanced(const Lent &before);
+    void judge_here(const Words &was, uint64_t reply);
+    void judge_advanced(const Lent &before, uint64_t reply);
     void judge_request();
     void repeat(const Lent &before, uint64_t reply, double value);
 
@@ -216,14 +217,24 @@ void Session::judge_notes(const Words &was) {
     insist(stay || (made && column < words[ELCHEPUR_WORD_N]), "an advance noted a matrix that it did not decompose");
 }
 
+// A Jacobian that is asked is one of this point; an acceptance and 'modified' leave it behind (02, [1]).
+void Session::judge_here(const Words &was, uint64_t reply) {
+    Words words = lent[STATE_WORDS];
+    bool asked = words[ELCHEPUR_WORD_JAC] > was[ELCHEPUR_WORD_JAC];
+    bool left = words[ELCHEPUR_WORD_ACCEPTED] > was[ELCHEPUR_WORD_ACCEPTED] || reply == ELCHEPUR_REPLY_MODIFIED;
+    uint64_t here = asked ? 1 : left ? 0 : plain_word(was, ELCHEPUR_WORD_MADE_HERE);
+    insist(words[ELCHEPUR_WORD_MADE_HERE] == here, "an advance mistook where the Jacobian was made");
+}
+
 // What is fixed stays, counts don't fall, and what was lent to be read was only read.
-void Session::judge_advanced(const Lent &before) {
+void Session::judge_advanced(const Lent &before, uint64_t reply) {
     Words words = lent[STATE_WORDS], doubles = lent[STATE_DOUBLES];
     const Words was = before[STATE_WORDS], had = before[STATE_DOUBLES];
     insist(is_plain(words, doubles), "an advance left numbers that it does not write");
     for (size_t k = ELCHEPUR_WORD_N; k < ELCHEPUR_WORD_MADE_HERE; k++) insist(words[k] == plain_word(was, k),
         "an advance changed a word that is fixed for the run");
     judge_notes(was);
+    judge_here(was, reply);
     for (size_t k = ELCHEPUR_DOUBLE_NEWTON_TOL; k < ELCHEPUR_STATE_DOUBLES; k++)
         insist(same_number(doubles.number(k), plain_double(was, had, k)),
                "an advance changed a double that is fixed for the run");
@@ -256,7 +267,7 @@ void Session::advance(uint64_t reply, double value) {
         insist(lent == before, "a refused advance wrote something");
         return;
     }
-    judge_advanced(before);
+    judge_advanced(before, reply);
     if (tally.advanced[0] % 8 == 0) repeat(before, reply, value);
 }
 
