@@ -1,6 +1,6 @@
 /* Elchepur: the stiff solver RADAU (Radau IIA, order 5) and its routines, proved in Rattle, for C99 and C++.
- * Behind every function here stands a contract of crates/export, of the last one of crates/export_forecast, that
- * settles its answer and every slice for all inputs.
+ * Behind every function here stands a contract that settles its answer and every slice for all inputs: of
+ * crates/export, of the last ones of crates/export_forecast, export_sheet, export_totals and export_csv.
  *
  * Rules for all functions:
  * - A slice is a pointer and the count of what it points to. A pointer is never null, not even with a count of 0, and
@@ -23,7 +23,7 @@
 extern "C" {
 #endif
 
-/* ---- Numbers that refuse: those of document 01, and two that it does not use ---- */
+/* ---- Numbers that refuse: those of documents 01 and 02, and two that they do not use ---- */
 
 enum {
     ELCHEPUR_DONE = 0,
@@ -49,7 +49,7 @@ enum {
     ELCHEPUR_REFUSED_SHEET_LINE = 20,     /* the sheet, or a list of status lines, is wrong in a line, which is told */
     ELCHEPUR_REFUSED_SHEET_LONG = 21,     /* the sheet has more than 4,096 bytes */
     ELCHEPUR_REFUSED_MODEL = 23,          /* it is no model of document 01 */
-    ELCHEPUR_REFUSED_BUFFER = 24,         /* the sheet is longer than the memory */
+    ELCHEPUR_REFUSED_BUFFER = 24,         /* the sheet or line is longer than the memory */
     ELCHEPUR_REFUSED_POINT = 25,          /* no kept step of the shelf holds the point */
     ELCHEPUR_REFUSED_MANY_LINES = 26,     /* there are more than 65,535 status lines */
     ELCHEPUR_REFUSED_TOTALS = 28,         /* totals are to be joined that no lines can have */
@@ -514,6 +514,23 @@ uint64_t elchepur_put_on_shelf(
 uint64_t elchepur_ask_shelf(
     const size_t shelf[ELCHEPUR_SHELF], double x, double *target, size_t target_count,
     const double *coefficients, size_t coefficients_count, const double *ends, size_t ends_count);
+
+/* ---- Points as CSV (RFC 4180): a header, then a record a point, CRLF after each, no quotes ---- */
+
+enum {
+    ELCHEPUR_CSV_MOST = 826   /* no record has more bytes, and no header */
+};
+
+/* Writes the header `x,y1,..,yn` with its CRLF over the first bytes of `out`, and how many bytes these are to
+ * `written`; no zero byte ends them, and the others stay as they were. Refuses with 1, then 24. */
+uint64_t elchepur_csv_header(size_t n, uint8_t *out, size_t out_count, size_t *written);
+
+/* The same of the record of a point: x and its amounts, whose count is n. A number is in C's hexadecimal form, as %a
+ * has it in most libraries: `0x1.8p+1`, with no zeros at the end of the fraction, a subnormal as `0x0.8p-1022`, zero as
+ * `0x0p+0` or `-0x0p+0`; and `inf`, `-inf`, `nan` for every NaN. strtod reads each back to its bits, but a NaN's.
+ * Refuses with 1, then 24. */
+uint64_t elchepur_csv_record(
+    double x, const double *amounts, size_t amounts_count, uint8_t *out, size_t out_count, size_t *written);
 
 #ifdef __cplusplus
 }

@@ -11,6 +11,7 @@ from ._run import Step
 from ._sheets import Forecast, Sheet, bits_of, double_of, forecast
 from ._shelf import Shelf
 from ._solving import INTERRUPT, Mark, Modified, Result, Solution, solve
+from ._tables import Table, csv_header, csv_record
 
 __all__ = [
     "INTERRUPT",
@@ -28,9 +29,12 @@ __all__ = [
     "ShortenedStep",
     "Solution",
     "Step",
+    "Table",
     "Totals",
     "Unproved",
     "bits_of",
+    "csv_header",
+    "csv_record",
     "double_of",
     "forecast",
     "load",

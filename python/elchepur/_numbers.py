@@ -204,6 +204,7 @@ TOTALS_PRINTED = 4096
 SHELF = 2
 SHELF_STEPS = 48
 SHELF_ENDS = 96
+CSV_MOST = 826
 
 # The header's words for each number that refuses.
 REFUSALS = {
@@ -229,7 +230,7 @@ REFUSALS = {
     20: "the sheet, or a list of status lines, is wrong in a line, which is told",
     21: "the sheet has more than 4,096 bytes",
     23: "it is no model of document 01",
-    24: "the sheet is longer than the memory",
+    24: "the sheet or line is longer than the memory",
     25: "no kept step of the shelf holds the point",
     26: "there are more than 65,535 status lines",
     28: "totals are to be joined that no lines can have",
@@ -384,5 +385,11 @@ FUNCTIONS = {
     "elchepur_ask_shelf": (
         "uint64_t", "const size_t *", "double", "double *", "size_t", "const double *", "size_t", "const double *",
         "size_t",
+    ),
+    "elchepur_csv_header": (
+        "uint64_t", "size_t", "uint8_t *", "size_t", "size_t *",
+    ),
+    "elchepur_csv_record": (
+        "uint64_t", "double", "const double *", "size_t", "uint8_t *", "size_t", "size_t *",
     ),
 }

@@ -4,7 +4,9 @@
 
 use crate::memory::Memory;
 use crate::numbers::SHELF;
-use crate::numbers::{AT, FLOATS, NUMBERS, PRINTED, RESULT_FLOATS, RESULT_NUMBERS, STATE_DOUBLES, STATE_WORDS, TOLD};
+use crate::numbers::{
+    AT, CSV_MOST, FLOATS, NUMBERS, PRINTED, RESULT_FLOATS, RESULT_NUMBERS, STATE_DOUBLES, STATE_WORDS, TOLD,
+};
 use crate::numbers::{NIGHT, TOTALS, TOTALS_PRINTED};
 use crate::numbers::{SHEET_AMOUNTS, SHEET_COUNTS, SHEET_MOST, SHEET_RATES, SHEET_SETTINGS, SHEET_SPECIES};
 
@@ -113,6 +115,12 @@ extern "C" {
     fn elchepur_ask_shelf(
         shelf: &[usize; SHELF], x: f64, target: *mut f64, target_count: usize,
         coefficients: *const f64, coefficients_count: usize, ends: *const f64, ends_count: usize,
+    ) -> u64;
+
+    fn elchepur_csv_header(n: usize, out: *mut u8, out_count: usize, written: &mut usize) -> u64;
+
+    fn elchepur_csv_record(
+        x: f64, amounts: *const f64, amounts_count: usize, out: *mut u8, out_count: usize, written: &mut usize,
     ) -> u64;
 }
 
@@ -363,4 +371,23 @@ pub(crate) fn ask_shelf(
         )
     };
     answered(number, ())
+}
+
+/// The header of a table.
+pub(crate) fn csv_header(n: usize) -> Result<Vec<u8>, u64> {
+    let (mut out, mut written) = (vec![0; CSV_MOST], 0);
+    // SAFETY: the pointer goes with the length of its vector, and the number is lent by itself.
+    let number = unsafe { elchepur_csv_header(n, out.as_mut_ptr(), out.len(), &mut written) };
+    out.truncate(written);
+    answered(number, out)
+}
+
+/// The record of a point.
+pub(crate) fn csv_record(x: f64, amounts: &[f64]) -> Result<Vec<u8>, u64> {
+    let (mut out, mut written) = (vec![0; CSV_MOST], 0);
+    // SAFETY: each pointer goes with the length of its slice; the vector is of this call, so nothing overlaps it.
+    let number =
+        unsafe { elchepur_csv_record(x, amounts.as_ptr(), amounts.len(), out.as_mut_ptr(), out.len(), &mut written) };
+    out.truncate(written);
+    answered(number, out)
 }

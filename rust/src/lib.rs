@@ -54,6 +54,7 @@ mod shelf;
 pub mod solout;
 pub mod status;
 mod system;
+pub mod table;
 mod tolerance;
 
 pub use crate::forecast::{forecast, BrokenOffSheet, Forecast, NoForecast};
@@ -90,4 +91,5 @@ pub mod prelude {
     pub use crate::shelf::{Shelf, Shelved};
     pub use crate::solout::{AtPoints, ControlFlag, NoSolOut, SolOut};
     pub use crate::status::{Singular, Status};
+    pub use crate::table::Table;
 }

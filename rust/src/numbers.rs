@@ -22,6 +22,7 @@ pub const TOTALS_PRINTED: usize = 4096;
 pub const SHELF: usize = 2;
 pub const SHELF_STEPS: usize = 48;
 pub const SHELF_ENDS: usize = 96;
+pub const CSV_MOST: usize = 826;
 
 pub const NUMBER_MAX_STEPS: usize = 0;
 pub const NUMBER_NEWTON_MAXITER: usize = 1;

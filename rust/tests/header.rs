@@ -106,7 +106,7 @@ fn declared() -> BTreeMap<String, String> {
 #[test]
 fn every_declaration_is_the_headers() {
     let (wanted, declared) = (wanted(), declared());
-    assert_eq!(declared.len(), 18);
+    assert_eq!(declared.len(), 20);
     for (name, function) in &declared {
         assert_eq!(Some(function), wanted.get(name), "{name}");
     }

@@ -338,6 +338,46 @@ static void shelves(void) {
     same("short ends", elchepur_put_on_shelf(shelf, cont, 4, 0.0, 1.0, room, 192, ends, 95), ELCHEPUR_REFUSED_PART);
 }
 
+// --- Points as CSV -------------------------------------------------------------------------------
+
+// A line of so many bytes fits a buffer that has them, its CRLF counted, and leaves what stands behind it.
+static void line(const char *words, const char *wanted, double x, const double *amounts, size_t n, int is_header) {
+    uint8_t out[64];
+    size_t length = strlen(wanted), written = 9;
+    memset(out, 7, sizeof out);
+    for (size_t room = 0; room < length; room++) {
+        same(words, is_header ? elchepur_csv_header(n, out, room, &written)
+                              : elchepur_csv_record(x, amounts, n, out, room, &written), ELCHEPUR_REFUSED_BUFFER);
+        same("the length of a line that doesn't fit", written, 9);
+        for (size_t k = 0; k < sizeof out; k++) same("a byte of a line that doesn't fit", out[k], 7);
+    }
+    same(words, is_header ? elchepur_csv_header(n, out, length, &written)
+                          : elchepur_csv_record(x, amounts, n, out, length, &written), 0);
+    same("the length of a line", written, length);
+    same("the bytes of a line", (uint64_t)memcmp(out, wanted, length), 0);
+    for (size_t k = length; k < sizeof out; k++) same("a byte behind a line", out[k], 7);
+}
+
+static void tables(void) {
+    double many[33] = {0}, two[] = {-0.0, 3.0}, ends[] = {1.0 / elchepur_abs(0.0), double_of(1)};
+    double nan = double_of(UINT64_C(0xfff8000000000001));
+    uint8_t out[ELCHEPUR_CSV_MOST];
+    size_t written = 9;
+    line("a header", "x,y1,y2,y3\r\n", 0.0, NULL, 3, 1);
+    line("a record", "0x1.999999999999ap-4,-0x0p+0,0x1.8p+1\r\n", 0.1, two, 2, 0);
+    line("a record of ends", "nan,inf,0x0.0000000000001p-1022\r\n", nan, ends, 2, 0);
+    same("a header of no amounts", elchepur_csv_header(0, out, 0, &written), ELCHEPUR_REFUSED_ORDER);
+    same("a header of 33 amounts", elchepur_csv_header(33, out, 0, &written), ELCHEPUR_REFUSED_ORDER);
+    same("a record of no amounts", elchepur_csv_record(1.0, many, 0, out, 0, &written), ELCHEPUR_REFUSED_ORDER);
+    same("a record of 33 amounts", elchepur_csv_record(1.0, many, 33, out, 0, &written), ELCHEPUR_REFUSED_ORDER);
+    same("the length that a refusal leaves", written, 9);
+    same("a header of 32 amounts", elchepur_csv_header(32, out, sizeof out, &written), 0);
+    same("its length", written, 122);
+    for (size_t k = 0; k < 32; k++) many[k] = double_of(UINT64_C(0x801fffffffffffff));
+    same("the longest record", elchepur_csv_record(many[0], many, 32, out, sizeof out, &written), 0);
+    same("its length", written, ELCHEPUR_CSV_MOST);
+}
+
 int main(void) {
     scalars();
     matrices();
@@ -348,6 +388,7 @@ int main(void) {
     nights();
     depots();
     shelves();
+    tables();
     printf("%d answers of single calls, %d wrong\n", seen, wrong);
     return wrong != 0;
 }

@@ -3,7 +3,7 @@
 their archive, and runs through both.
 
     tests/c/c_program.py check [FOLDER]  hold the header to the sources, and run the programs in C: on the archive,
-                                       where both are proved and were not edited since; else on their very sources,
+                                       where they are proved and were not edited since; else on their very sources,
                                        the contracts taken out, compiled by rustc
     tests/c/c_program.py run [FOLDER]    the same on the archive; what is not proved yet is proved first
 
@@ -15,7 +15,7 @@ Exit status: 0 nothing differs; 1 something differs, or the archive lacks the ki
 use; 4 nothing was compared: no program in C could be built, or the runs with a Jacobian of the host's own had no Rust
 beside them.
 
-The header: each function that the two mark `extern "C"` must be declared with the types that Rattle gives its
+The header: each function that they mark `extern "C"` must be declared with the types that Rattle gives its
 parameters, and no other function; each place in the table of coefficients must have the name that stands there. The
 archive must define the same functions and no others.
 
@@ -23,6 +23,8 @@ The programs:
   - tests/c/c_calls.c calls each function with a few values whose answers document 01 gives;
   - tests/c/c_replay.c replays the stored runs of the Rust's own `solve` (crates/replay_run/stdin), every request and
     all 22 parts compared, hosts that make the Jacobian, masses, marks and modified points among them;
+  - tests/c/c_csv.c makes the table of crates/replay_csv/stdin, which is to be the stored one; then records of a
+    million drawn patterns, whose numbers strtod reads back and %a prints alike;
   - tests/c/c_sheets.c hands every sheet of crates/replay_sheet/stdin over, those that are refused too, prints what is
     printed of it, and has it read into arrays and written out of them;
   - tests/c/c_program.c is a host of its own: it runs every sheet of crates/replay_sheet/stdin, with the answers
@@ -52,7 +54,7 @@ HOST_HEADER = ROOT / "include" / "elchepur_host.h"
 TARGET = ROOT / "target" / "c"
 ARCHIVE = TARGET / "libelchepur.a"
 STAMPS = ROOT / "target" / "stamp"  # where rt notes what it proved
-PROGRAMS = ("c_calls", "c_replay", "c_program", "c_sheets", "c_hosted", "c_endings")
+PROGRAMS = ("c_calls", "c_replay", "c_program", "c_sheets", "c_csv", "c_hosted", "c_endings")
 # No product and sum may become one operation: the Rust's host has two.
 FLAGS = ["-std=c99", "-O2", "-ffp-contract=off", "-Wall", "-Wextra", "-pedantic", "-Werror"]
 
@@ -141,7 +143,7 @@ def check_header():
     places = {name: place for name, place in header_text()[1].items() if name.startswith("ELCHEPUR_COEFFICIENT_")}
     insist(names == places, "the header names the table of coefficients otherwise")
     check_state()
-    print(f"the header declares the {len(declared)} functions of the crates {' and '.join(exported.CRATES)}, and "
+    print(f"the header declares the {len(declared)} functions of the crates {', '.join(exported.CRATES)}, and "
           f"{len(places)} coefficients by their places")
 
 
@@ -283,11 +285,21 @@ def run_sheets(sheets, wanted, way):
     insist(got == wanted, f"the sheets, {way}: {first_other(wanted, got)}")
 
 
+def run_table():
+    """The stored table, and a million drawn numbers beside this machine's C library."""
+    stored = ROOT / "crates" / "replay_csv"
+    done = subprocess.run([TARGET / "c_csv"], stdin=(stored / "stdin").open(), capture_output=True)
+    insist(done.returncode == 0, f"c_csv failed:\n{done.stderr.decode()}")
+    insist(done.stdout == (stored / "stdout").read_bytes(), "c_csv makes another table")
+    print(done.stderr.decode(), end="")
+
+
 def run_programs(folder):
     print(said([TARGET / "c_calls"]), end="")
     print(said([TARGET / "c_replay"], stdin=(ROOT / "crates" / "replay_run" / "stdin").open()), end="")
     print(said([TARGET / "c_hosted"], stdin=(ROOT / "crates" / "replay_run" / "stdin").open()), end="")
     print(said([TARGET / "c_endings"]), end="")
+    run_table()
     records = replay_sheet.records_of(replay_sheet.STORED.read_bytes())
     got = said([TARGET / "c_sheets"], stdin=replay_sheet.STORED.open("rb"))
     wanted = "".join(answer for _, answer in records)

@@ -3,18 +3,24 @@
 tests/python/python_module.py runs it. Where a number is expected, document 01 has it; what a run is compared with is
 another run, or the solution of its equations."""
 
+import csv
 import dataclasses
+import io
 import itertools
 import math
 import os
+import random
 import re
+import struct
 import subprocess
 import sys
 import warnings
 
 import pathlib
 sys.path[:0] = [str(each) for each in pathlib.Path(__file__).resolve().parents[1].iterdir() if each.is_dir()]
+import replay_csv
 import rust_text
+from draw import pattern_of
 
 ROOT = rust_text.ROOT
 FOLDER = ROOT / "python"
@@ -366,6 +372,49 @@ def check_library(module, path):
     del os.environ["ELCHEPUR_ALLOW_UNPROVED"]
 
 
+def check_tables(module):
+    """Points as CSV: the bytes, the refusals, and a run's table read back by Python's csv and float.fromhex."""
+    insist(module.csv_header(3) == b"x,y1,y2,y3\r\n", "a header")
+    wanted = b"0x1.8p+1,-0x0p+0,0x0.0000000000001p-1022,inf,nan\r\n"
+    insist(module.csv_record(3, [-0.0, 5e-324, math.inf, -math.nan]) == wanted, "a record")
+    for call, *words in ((module.csv_header, 0), (module.csv_header, 33), (module.csv_record, 1.0, [])):
+        insist(raised(module.Refused, call, *words).number == 1, f"{words} is refused with another number")
+    told, file = [], io.BytesIO()
+    table = module.Table(file)
+
+    def report(xold, x, y, step):
+        told.append([x, *y])
+        return table(xold, x, y, step)
+
+    module.solve(pair, (0.0, 1.0), [1.0, 2.0], report=report)
+    header, *rows = csv.reader(io.StringIO(file.getvalue().decode(), newline=""), strict=True)
+    insist(header == ["x", "y1", "y2"], "the header of a run's table")
+    insist([[float.fromhex(field) for field in row] for row in rows] == told, "a run's table")
+
+
+# Which bits of a drawn pattern are kept, and which are set: any, a subnormal number's, those without a fraction or with
+# a short one, those of an infinity or a NaN.
+CLASSES = [((1 << 64) - 1, 0), (0x800FFFFFFFFFFFFF, 0), (0xFFF0000000000000, 0), (0xFFFF000000000000, 0)]
+CLASSES += [((1 << 64) - 1, 0x7FF0000000000000)]
+RECORDS, NUMBERS = 30_304, 33  # a million numbers
+
+
+def check_texts(module):
+    """A million patterns of every class have the texts of Python's float.hex, which float.fromhex reads back."""
+    draw = random.Random(9)
+    for turn in range(RECORDS):
+        kept, put = CLASSES[turn % len(CLASSES)]
+        words = [draw.getrandbits(64) & kept | put for _ in range(NUMBERS)]
+        x, *y = struct.unpack(f"<{NUMBERS}d", struct.pack(f"<{NUMBERS}Q", *words))
+        record = module.csv_record(x, y).decode()
+        if record != ",".join(map(replay_csv.text_of, (x, *y))) + "\r\n":
+            insist(False, f"the record of {[f'{word:016x}' for word in words]} is {record}")
+        back = [pattern_of(float.fromhex(text)) for text in record.rstrip("\r\n").split(",")]
+        if back != list(map(pattern_of, (x, *y))):
+            insist(False, f"{record} reads back otherwise")
+    insist(True, "the texts of a million numbers")
+
+
 def check_readme(path):
     """The program of the README prints what stands there, in a process of its own."""
     text = (FOLDER / "README.md").read_text()
@@ -389,6 +438,8 @@ def check(module, path):
     check_rounding(module)
     check_shortened(module)
     check_shelf(module)
+    check_tables(module)
+    check_texts(module)
     check_readme(path)
     sheet = ROOT / "cylinders" / "nitric_oxide.sheet"
     found = [module.forecast(given) for given in (sheet, sheet.read_text(), sheet.read_bytes())]

@@ -6,9 +6,10 @@
 Readable form to sheet to readable form to sheet gives the same bytes for 2,000 models that are drawn, with floats of
 any pattern, and for every special float at every place; decimals have the fewest digits that will do. Of each sheet
 of cylinders/ the readable form stands beside it. What is no readable form is refused at its line, with what to write
-instead. What `decay` prints of every stored sheet is written in words and decimals that read back to the same bits,
-and ends with the same status. On sheets with bytes changed at random, tools/sheet.py and the reader of
-tests/replays/replay_sheet.py, which was written apart from it, refuse the same line.
+instead. tools/table draws a table under the names of a readable form. What `decay` prints of every stored sheet is
+written in words and decimals that read back to the same bits, and ends with the same status. On sheets with bytes
+changed at random, tools/sheet.py and the reader of tests/replays/replay_sheet.py, which was written apart from it,
+refuse the same line.
 
 Exit status: 0 all is so; 1 something is not, and the first is shown; 2 wrong use."""
 
@@ -23,6 +24,7 @@ from replay_sheet import BASES, CYLINDERS, EXAMPLE, STORED, insist, number_of, r
 from replay_sheet import sheet, try_tool
 
 TOOL = rust_text.ROOT / "tools" / "sheet.py"
+TABLE = rust_text.ROOT / "tools" / "table"
 
 MODELS, CHANGED = 2000, 20_000
 
@@ -285,6 +287,19 @@ def try_command():
     insist(code == 1 and made == b"" and told.startswith("line 2"), f"a float that is none is told as {told}")
 
 
+def try_table():
+    """tools/table draws a point for each number of a table, under the names of a model, and nothing of another."""
+    model, first = str(CYLINDERS / "robertson.txt"), "x,y1,y2,y3\r\n0x0p+0,0x1p+0,0x0p+0,0x0p+0\r\n"
+    tables = ((first + "0x1p+2,0x1.8p-1,0x1p-16,nan\r\n", 0, 5), (first.replace(",y3", ""), 1, 0), ("", 1, 0),
+              (first.replace("0x1p+0", "1/2"), 1, 0))
+    for table, wanted, dots in tables:
+        gave = subprocess.run([str(TABLE), model], input=table.encode(), capture_output=True)
+        insist(gave.returncode == wanted, f"of {table!r} the picture ends with {gave.returncode}: {gave.stderr}")
+        insist(gave.stdout.count(b"<circle ") == dots, f"the picture of {table!r} has another number of dots")
+        insist(bool(dots) == all(f">{name}<".encode() in gave.stdout for name in "ABC"), "a picture without names")
+        insist(not dots or b"1 numbers are not finite" in gave.stdout, "a NaN is not told")
+
+
 def main():
     command.nothing(__doc__, sys.argv[1:])
     draw = Draw(7)
@@ -301,6 +316,7 @@ def main():
     cylinders = try_cylinders()
     try_changed(draw)
     try_command()
+    try_table()
     print(f"{MODELS} models, {len(STRANGE)} special floats and {cylinders} cylinders go from sheet to readable form "
           f"and back; two readers agree on {CHANGED} changed sheets")
 

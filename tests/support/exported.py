@@ -1,5 +1,5 @@
-"""The functions that the crates `export`, `export_forecast`, `export_sheet`, `export_totals` and `export_shelf` mark
-`extern "C"`, as their sources declare them."""
+"""The functions that the crates `export`, `export_forecast`, `export_sheet`, `export_totals`, `export_shelf` and
+`export_csv` mark `extern "C"`, as their sources declare them."""
 
 import re
 import sys
@@ -9,7 +9,7 @@ sys.path[:0] = [str(each) for each in pathlib.Path(__file__).resolve().parents[1
 import rust_text
 
 # The crates that offer functions to C.
-CRATES = ("export", "export_forecast", "export_sheet", "export_totals", "export_shelf")
+CRATES = ("export", "export_forecast", "export_sheet", "export_totals", "export_shelf", "export_csv")
 MARKED = re.compile(r'#\[no_mangle\]\npub extern "C" fn (\w+)\(([^)]*)\)(?: -> (\w+))?\n')
 TYPE = re.compile(r"(&mut |&|)(\[)?(\w+)(?:; (\d+))?\]?")
 # The places of a state, and how many there are of each sort.

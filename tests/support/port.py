@@ -42,6 +42,8 @@ CRATES = {
     "model_run": ["words", "scalar", "matrix", "state", "opening", "solve_blocks", "model", "radau_core"],
     "forecast": ["words", "bits", "state", "sheet", "forecast_text", "model_run"],
     "export_forecast": ["words", "sheet", "forecast_text", "forecast"],
+    "csv": ["words", "bits", "state", "sheet", "forecast_text"],
+    "export_csv": ["words", "csv"],
 }
 
 

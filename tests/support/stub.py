@@ -1,6 +1,6 @@
 """A tree like this repository's in which no proof is made: its tools as they are, a kit whose `rt` says what it is told
-to, and programs `decay`, `totals` and `joined` that print what they are told to. So what the tools do with an answer is
-tried in milliseconds, and no tool needs a way around the proof for its tests."""
+to, and programs `decay`, `totals`, `joined` and `points` that print what they are told to. So what the tools do with an
+answer is tried in milliseconds, and no tool needs a way around the proof for its tests."""
 
 import os
 import pathlib
@@ -28,6 +28,8 @@ cat "{tree}/answer"
 exit "$(cat "{tree}/ends")"
 """
 ARCHIVE = '#!/bin/sh\nprintf "rattle logic=stub" >"$1"\n'
+# What is installed.
+PROGRAMS = ("decay", "totals", "joined", "points")
 # On a processor other than x86-64 a program runs under the kit's emulator, behind a loader and the folder of libraries.
 EMULATOR = '#!/bin/sh\nshift 3\nexec "$@"\n'
 
@@ -45,7 +47,7 @@ class Tree:
         self.script("kit/bin/rt", RT)
         self.script("kit/docs/START-HERE.md", "")
         self.script(f"kit/on/{platform.machine()}/toolchain/bin/qemu-x86_64", EMULATOR)
-        for name in ("decay", "totals", "joined"):
+        for name in PROGRAMS:
             self.script(f"target/bin/{name}", PROGRAM)
         self.script("tools/archive", ARCHIVE)
         self.says("status 0 ")

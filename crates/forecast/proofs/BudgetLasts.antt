@@ -77,7 +77,7 @@ module _ (reactions : ℕ) (rates : List Float) (species : List ℕ) (o : Openin
         let here = talkBy offered (always host) k (talk start []) .point in
         host-fair reactions rates species (here .run) (here .request) (here .place) (here .memory) on
 
-    enough : mostOf o ≤ budget
+    pub enough : mostOf o ≤ budget
     enough =
         let none = opens o (journal start []) starts .none in
         requests-few (o .settings .source) (o .n) (o .settings .«max_steps») (o .settings .«newton_maxiter»)

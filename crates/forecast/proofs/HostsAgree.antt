@@ -142,7 +142,7 @@ module _ (m : sheet.Model) (valid : Valid m) (r : Run) (q : Request) (p : Place)
       (starts (length (m .reactions)) (ratesFor m) (speciesFor m) (openingFor m) r q p memory opens) k
       (λ i h. fair-code i (omega arith))
 
-  same-at : (k : ℕ) → k < end
+  pub same-at : (k : ℕ) → k < end
       → (let here = pointAt (codeHost m) start k in doneAt (codeHost m) here ≡ doneAt (modelHost m) here)
   same-at k l =
       let here = pointAt (codeHost m) start k in

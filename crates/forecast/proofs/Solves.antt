@@ -54,13 +54,13 @@ module _ (m : sheet.Model) (valid : Valid m) where
   abbrev n : ℕ
   n = length (m .amounts)
 
-  abbrev left : List Float
+  abbrev pub left : List Float
   left = map double (amountsLeft (accepted m) (noughts 32))
 
-  room : roomOf n ≡ n
+  pub room : roomOf n ≡ n
   room = pick-yes _ _ (le-leb n 32 (valid .few))
 
-  opening-same : openingOf (taskFrom (headingOf m) left) ≡ openingFor m
+  pub opening-same : openingOf (taskFrom (headingOf m) left) ≡ openingFor m
   unfolding headingOf amountsLeft
   opening-same =
       ap (λ (k : ℕ). with (lentOf k (take k left))) room

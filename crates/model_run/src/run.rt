@@ -128,6 +128,14 @@ fn opened(task: Task, n: usize, n4: usize, nn: usize) -> Opened
     )
 }
 
+// Opens the run of a task.
+pub fn start(task: Task) -> Opened
+    ensures { λ r. ⌜ r ≡ openOf (openingOf task) .answer ⌝ }
+{
+    let n = room(task.n);
+    opened(task, n, 4 * n, n * n)
+}
+
 // The run that was opened, from its first request to its end.
 fn ran(
     task: Task,

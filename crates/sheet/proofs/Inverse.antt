@@ -88,13 +88,13 @@ unfolding digits
 length-digits b zero v = refl
 length-digits b (suc k) v = ap suc (length-digits b k (v % power b k))
 
-digits-high : (b k v : ℕ) → Every (λ x. 48 ≤ x) (digits b k v)
+pub digits-high : (b k v : ℕ) → Every (λ x. 48 ≤ x) (digits b k v)
 unfolding digits
 digits-high b zero v = tt
 digits-high b (suc k) v = (byte-high (v / power b k), digits-high b k (v % power b k))
 
 module _ (b : ℕ) (some : 0 < b) (few : b ≤ 16) where
-  spelled-digits : (k v acc : ℕ) → v < power b k → spelledOf b acc (digits b k v) ≡ Value (acc * power b k + v)
+  pub spelled-digits : (k v acc : ℕ) → v < power b k → spelledOf b acc (digits b k v) ≡ Value (acc * power b k + v)
   unfolding spelledOf digits power
   spelled-digits zero v acc h = ap Value (let e : acc ≡ acc * 1 + v = omega arith in e)
   spelled-digits (suc k) v acc h =

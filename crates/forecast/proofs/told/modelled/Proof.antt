@@ -22,17 +22,11 @@ module _ (h : Heading) (amounts rates species : List ℕ) {floats speeds : List 
       ∙ ap (λ (x : Task). runOf x speeds species) (is ∙ ap (taskFrom h) f)
       ∙ ap (λ (x : List Float). runOf (taskFrom h (map double amounts)) x species) s
 
-slice-aggregate-doubles : tie.Need-slice-aggregate-doubles
-slice-aggregate-doubles c = search needs
+rates-from-requires : tie.Need-rates-from-requires
+rates-from-requires c κs = search needs
 
-doubles-requires : tie.Need-doubles-requires
-doubles-requires c κs = search needs
-
-slice-aggregate-doubles-2 : tie.Need-slice-aggregate-doubles-2
-slice-aggregate-doubles-2 c = search needs
-
-doubles-requires-2 : tie.Need-doubles-requires-2
-doubles-requires-2 c κs = search needs
+amounts-from-requires : tie.Need-amounts-from-requires
+amounts-from-requires c κs = search needs
 
 task-from-requires : tie.Need-task-from-requires
 task-from-requires c κs = search needs
@@ -49,12 +43,13 @@ told-requires c κs = subst (λ (o : TaskOutcome). Ends (o .finish)) (sym (c .ru
 returns : tie.Need-returns
 returns c =
     let at-task-from = c .before .before .before .before in
-    let at-doubles = at-task-from .before .before .before .before .before .before in
-    let a = at-doubles .before .before .before .args in
+    let at-amounts-from = at-task-from .before in
+    let at-rates-from = at-amounts-from .before in
+    let a = at-rates-from .before .args in
     subst (λ (o : TaskOutcome). Told (a .heading .species) (o .finish) (o .amounts) (c .told .result))
     (outcome-is (a .heading) (a .amounts .now) (a .rates .now) (a .species .now)
-    (at-doubles .doubles .ensures)
-    (at-task-from .before .before .doubles2 .ensures)
+    (at-amounts-from .amounts-from .ensures)
+    (at-rates-from .rates-from .ensures)
     (at-task-from .task-from .ensures)
     (c .before .run .ensures))
     (c .told .ensures)
@@ -63,5 +58,5 @@ pub modelled-spec : {M : Type 1} → statement M
 modelled-spec =
     tie.close
     (tie.spec
-    slice-aggregate-doubles doubles-requires slice-aggregate-doubles-2 doubles-requires-2 task-from-requires
+    rates-from-requires amounts-from-requires task-from-requires
     slice-aggregate-run run-requires told-requires returns)

@@ -1,0 +1,85 @@
+-- `put_digits` meets its contract: with the digits that are left to put, memory is what it is to be.
+use Prim.Native.Nat.{_≤_, _<_}
+use mathlib.Core.Path.{_≡_, refl, _∙_}
+use native.Mathlib.Nat.{mod-lt}
+use native.Mathlib.Omega.{arith}
+use lib.ListN.{length, length-set}
+use lib.Seq.{sets}
+use Rattle.sheet.specs.Digits.{power, digits}
+use Rattle.forecast_text.proofs.DigitLaws.{digit-turn, digits-put}
+use Rattle.csv.proofs.digits.put_digits.Statement.{statement}
+use Rattle.csv.proofs.digits.put_digits.Tie as tie
+
+abbrev Inv-loop : tie.InvT-loop
+Inv-loop out₀ at base width value left₀ rest₀ out left rest =
+    (length out ≡ length out₀)
+    × (left ≤ width)
+    × (rest < power base left)
+    × (sets out at (digits base left rest) ≡ sets out₀ at (digits base width value))
+
+abbrev μ-loop : tie.MeasureT-loop
+μ-loop out₀ at base width value left₀ rest₀ out left rest = left
+
+loop-holds : tie.Need-loop-holds Inv-loop μ-loop
+loop-holds c = (refl, omega arith, c .before .pre .3, refl)
+
+sub-left : tie.Need-sub-left Inv-loop μ-loop
+sub-left c = omega arith
+
+rem-byte : tie.Need-rem-byte Inv-loop μ-loop
+rem-byte c = omega arith
+
+byte-requires : tie.Need-byte-requires Inv-loop μ-loop
+byte-requires c κs =
+    let some : 0 < c .before .before .before .args .base = omega arith in
+    omega (arith, mod-lt (c .before .loop .rest) some)
+
+add-out : tie.Need-add-out Inv-loop μ-loop
+add-out c = omega arith
+
+slice-write-out : tie.Need-slice-write-out Inv-loop μ-loop
+slice-write-out c = omega arith
+
+div-rest : tie.Need-div-rest Inv-loop μ-loop
+div-rest c = omega arith
+
+loop-less : tie.Need-loop-less Inv-loop μ-loop
+loop-less c = omega arith
+
+loop-again : tie.Need-loop-again Inv-loop μ-loop
+loop-again c =
+    let start = c .before .before .before .before in
+    let t = digit-turn (start .args .base) (omega arith) (c .before .before .loop .left)
+    (c .before .before .loop .rest) (start .args .at) (c .before .before .loop .out)
+    (c .before .loop-test .taken) (c .before .before .loop .inv .2) in
+    let inv = c .before .before .loop .inv in
+    (simp length-set (omega arith), omega arith, t .fits, rw (c .byte .ensures) (t .is ∙ inv .3))
+
+add-result : tie.Need-add-result Inv-loop μ-loop
+add-result c = omega arith
+
+same-length : tie.Need-same-length Inv-loop μ-loop
+same-length c = omega arith
+
+returns : tie.Need-returns Inv-loop μ-loop
+returns c =
+    digits-put _ _ _ (c .before .loop .left) (c .before .loop .rest) _ (c .loop-test .left) (c .before .loop .inv .3)
+
+pub put-digits-spec : {M : Type 1} → statement M
+put-digits-spec =
+    tie.close
+    (tie.spec
+    Inv-loop
+    μ-loop
+    loop-holds
+    sub-left
+    rem-byte
+    byte-requires
+    add-out
+    slice-write-out
+    div-rest
+    loop-less
+    loop-again
+    add-result
+    same-length
+    returns)

@@ -1,0 +1,2 @@
+-- What the exported lines tell.
+pub mod Told

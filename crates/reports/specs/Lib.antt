@@ -1,0 +1,5 @@
+-- In order of reading.
+pub mod Beginning
+pub mod Step
+pub mod Line
+pub mod Reports
