@@ -70,14 +70,14 @@ enum {
 
 enum {
     ELCHEPUR_MOST = 32,           /* the most amounts of a run, and the largest order of a matrix */
-    ELCHEPUR_STATE_WORDS = 41,    /* whole numbers of a state */
-    ELCHEPUR_STATE_DOUBLES = 29,  /* doubles of a state */
+    ELCHEPUR_STATE_WORDS = 42,    /* whole numbers of a state */
+    ELCHEPUR_STATE_DOUBLES = 31,  /* doubles of a state */
     ELCHEPUR_NUMBERS = 17,        /* settings that are whole numbers */
     ELCHEPUR_FLOATS = 8,          /* settings that are doubles */
     ELCHEPUR_TOLD = 3,            /* words that tell a request */
     ELCHEPUR_AT = 2,              /* points of a request */
     ELCHEPUR_RESULT_NUMBERS = 9,  /* status, counts and singular matrix of a result */
-    ELCHEPUR_RESULT_FLOATS = 2,   /* doubles of a result */
+    ELCHEPUR_RESULT_FLOATS = 4,   /* doubles of a result */
     ELCHEPUR_COEFFICIENTS = 27    /* entries of the table of coefficients */
 };
 
@@ -179,7 +179,9 @@ enum {
     ELCHEPUR_RESULT_SINGULAR = 7,  /* the matrix that was singular latest, with status 5 alone */
     ELCHEPUR_RESULT_COLUMN = 8,    /* its column without a pivot, from 0 */
     ELCHEPUR_RESULT_H = 0,
-    ELCHEPUR_RESULT_X = 1
+    ELCHEPUR_RESULT_X = 1,
+    ELCHEPUR_RESULT_SMALLEST = 2,  /* |h| over the accepted attempts, NaN passed over; +0 where there is none */
+    ELCHEPUR_RESULT_LARGEST = 3
 };
 
 /* Places in the `words` of a state. */
@@ -224,7 +226,8 @@ enum {
     ELCHEPUR_WORD_GIVEN_NIND3 = 37,
     ELCHEPUR_WORD_MADE_HERE = 38,  /* 0: the Jacobian at hand was made at another point; else at the present one */
     ELCHEPUR_WORD_SINGULAR = 39,  /* the matrix that was singular latest; a number above 2 stands for 0, none */
-    ELCHEPUR_WORD_COLUMN = 40  /* its column without a pivot; not looked at where there was none */
+    ELCHEPUR_WORD_COLUMN = 40,  /* its column without a pivot; not looked at where there was none */
+    ELCHEPUR_WORD_STRIDES = 41  /* 0: SMALLEST and LARGEST are not looked at, there was no stride yet */
 };
 
 /* Places in the `doubles` of a state. */
@@ -243,7 +246,7 @@ enum {
     ELCHEPUR_DOUBLE_DYNOLD = 11,
     ELCHEPUR_DOUBLE_THQOLD = 12,
     ELCHEPUR_DOUBLE_XOUT = 13,  /* the mark */
-    ELCHEPUR_DOUBLE_NEWTON_TOL = 14,  /* from here on the doubles stay as the opening left them */
+    ELCHEPUR_DOUBLE_NEWTON_TOL = 14,  /* from here on the doubles but the last two stay as the opening left them */
     ELCHEPUR_DOUBLE_XEND = 15,
     ELCHEPUR_DOUBLE_POSNEG = 16,
     ELCHEPUR_DOUBLE_HMAX = 17,
@@ -257,7 +260,9 @@ enum {
     ELCHEPUR_DOUBLE_GIVEN_MAX_STEP = 25,  /* the settings that were worked up, as given */
     ELCHEPUR_DOUBLE_GIVEN_MIN_STEP = 26,
     ELCHEPUR_DOUBLE_GIVEN_NEWTON_TOL = 27,
-    ELCHEPUR_DOUBLE_GIVEN_FIRST_STEP = 28
+    ELCHEPUR_DOUBLE_GIVEN_FIRST_STEP = 28,
+    ELCHEPUR_DOUBLE_SMALLEST = 29,  /* the strides so far; one below 0 is unfit */
+    ELCHEPUR_DOUBLE_LARGEST = 30
 };
 
 /* Both arrays of a state. This struct is for the host alone; the macro behind it writes them out as the calls take
@@ -335,7 +340,7 @@ uint64_t elchepur_advance(
     double *f_origin, size_t f_origin_count);
 
 /* Writes how a run ended: its status and counts, with status 5 the matrix that was singular latest and its column, its
- * h and the point reached. Refuses with 29 before the run has ended. */
+ * h, the point reached and the smallest and the largest stride. Refuses with 29 before the run has ended. */
 uint64_t elchepur_result(
     const size_t words[ELCHEPUR_STATE_WORDS], const double doubles[ELCHEPUR_STATE_DOUBLES],
     uint64_t numbers[ELCHEPUR_RESULT_NUMBERS], double floats[ELCHEPUR_RESULT_FLOATS]);
@@ -410,7 +415,7 @@ uint64_t elchepur_coefficient(size_t k, double *value);
 
 enum {
     ELCHEPUR_PRINTED = 1024,      /* bytes of room for what is printed of a sheet */
-    ELCHEPUR_PRINTED_MOST = 735   /* no sheet has more printed of it */
+    ELCHEPUR_PRINTED_MOST = 771   /* no sheet has more printed of it */
 };
 
 /* Writes over the first bytes of `printed` what `decay` prints of a sheet, and answers how many bytes these are; no

@@ -387,17 +387,21 @@ def model_and_names(data):
 
 
 def run_in_words(lines, names):
-    """An answer of a run: its status in words, the counts, the point and the amounts as decimals, or Refused."""
+    """An answer of a run: its status in words, the counts, the point, the amounts and the strides as decimals, or
+    Refused."""
     status, *counts = map(int, STATUS_LINE.fullmatch(lines[0]).groups())
-    point, amounts = (re.fullmatch(rf"{letter}((?: [0-9a-f]{{16}})+)", line) for letter, line in zip("xy", lines[1:]))
-    if not point or not amounts or len(point.group(1).split()) != 1 or f"status {status}" not in MEANINGS:
+    found = [re.fullmatch(rf"{letter}((?: [0-9a-f]{{16}})+)", line) for letter, line in zip("xyh", lines[1:])]
+    if not all(found) or f"status {status}" not in MEANINGS:
         raise Refused(None, None, "this is no answer of `decay`")
-    amounts = amounts.group(1).split()
+    point, amounts, strides = (each.group(1).split() for each in found)
+    if (len(point), len(strides)) != (1, 2):
+        raise Refused(None, None, "this is no answer of `decay`")
     if len(amounts) != len(names) - 1:
         raise Refused(None, None, f"the answer has {len(amounts)} amounts, and the model {len(names) - 1} species")
     told = [f"status {status}", MEANINGS[f"status {status}"]]
     told += [", ".join(f"{name} {count}" for name, count in zip(COUNTS, counts))]
-    told += [f"{name} {written(int(bits, 16))}" for name, bits in zip(["x", *names[1:]], [point.group(1), *amounts])]
+    told += [f"{name} {written(int(bits, 16))}" for name, bits in zip(["x", *names[1:]], [*point, *amounts])]
+    told += ["h " + " ".join(written(int(bits, 16)) for bits in strides)]
     return told, 0 if status == 0 else 1
 
 
@@ -413,7 +417,7 @@ def answer_in_words(text, names):
         number, line = refused.groups()
         why = MEANINGS.get(f"refused {number}", "document 01 has the number")
         return head + [f"refused {number}: {why}" + (f" {line}" if line else "")], 3
-    if rest or len(lines) != 3 or not STATUS_LINE.fullmatch(lines[0]):
+    if rest or len(lines) != 4 or not STATUS_LINE.fullmatch(lines[0]):
         raise Refused(None, None, "this is no answer of `decay` to one sheet")
     told, status = run_in_words(lines, names)
     return head + told, status

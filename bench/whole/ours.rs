@@ -19,8 +19,8 @@ const RULE: usize = 6;
 const UROUND: usize = 0;
 
 pub struct Run {
-    words: [usize; 41],
-    doubles: [f64; 29],
+    words: [usize; 42],
+    doubles: [f64; 31],
     pub told: [u64; 3],
     at: [f64; 2],
     y: Vec<f64>,
@@ -54,8 +54,8 @@ impl Run {
             .map(|_: Vec<f64>| vec![0.0; n]);
         let [mass, jac, e1, e2r, e2i] = [const { Vec::new() }; 5].map(|_: Vec<f64>| vec![0.0; nn]);
         let mut r = Run {
-            words: [0; 41],
-            doubles: [0.0; 29],
+            words: [0; 42],
+            doubles: [0.0; 31],
             told: [0; 3],
             at: [0.0; 2],
             y: M::start(),
@@ -138,7 +138,7 @@ impl Run {
     }
 
     pub fn outcome(self, points: &Points) -> Outcome {
-        let (mut numbers, mut floats) = ([0; 9], [0.0; 2]);
+        let (mut numbers, mut floats) = ([0; 9], [0.0; 4]);
         assert_eq!(elchepur_result(&self.words, &self.doubles, &mut numbers, &mut floats), 0);
         let [status, ode, jac, lu, total, accepted, rejected, ..] = numbers;
         Outcome { status: status as i64, accepted, rejected, total, ode, jac, lu, rounds: 0, y: self.y,

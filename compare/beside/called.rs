@@ -23,6 +23,7 @@ pub fn with<T>(act: impl FnOnce(&mut Side) -> T) -> T {
 
 pub fn begin(side: Side) {
     crate::stopped::forget();
+    crate::strides::forget();
     SIDE.set(Some(side));
 }
 

@@ -62,8 +62,8 @@ impl Ours {
     }
 
     // The status and the counts of a run that has ended, its h and its x, behind document 01's number.
-    pub fn result(&self) -> (u64, [u64; 9], [f64; 2]) {
-        let (mut numbers, mut floats) = ([7; 9], [7.0; 2]);
+    pub fn result(&self) -> (u64, [u64; 9], [f64; 4]) {
+        let (mut numbers, mut floats) = ([7; 9], [7.0; 4]);
         let number = elchepur_result(&self.words, &self.doubles, &mut numbers, &mut floats);
         (number, numbers, floats)
     }

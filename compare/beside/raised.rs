@@ -27,7 +27,7 @@ pub struct Asked {
 #[derive(Default)]
 pub struct Trace {
     asked: Vec<Asked>,
-    result: Option<([u64; 9], [u64; 2])>,
+    result: Option<([u64; 9], [u64; 4])>,
 }
 
 fn sum(memory: &Memory) -> u64 {
@@ -46,7 +46,7 @@ impl Trace {
         self.asked.push(Asked { told: ours.told, at: ours.at.map(bits), memory: sum(&ours.memory) });
     }
 
-    pub fn end(&mut self, numbers: [u64; 9], floats: [f64; 2]) {
+    pub fn end(&mut self, numbers: [u64; 9], floats: [f64; 4]) {
         self.result = Some((numbers, floats.map(bits)));
     }
 

@@ -207,7 +207,8 @@ impl Side {
             || format!("ode, jac, lu, total, accepted, rejected: ours {ours:?}, the Rust's {theirs:?}"));
         insist(numbers[7..] == [matrix, column],
             || format!("singular matrix and column: ours {:?}, the Rust's {:?}", &numbers[7..], [matrix, column]));
-        none(difference("h and x of the result", &floats, &[result.h, x]));
+        let [smallest, largest] = crate::strides::ends();
+        none(difference("h, x and strides of the result", &floats, &[result.h, x, smallest, largest]));
         if let Some(trace) = &mut self.trace {
             trace.end(numbers, floats);
         }

@@ -80,7 +80,8 @@ class Host {
         for (size_t k = 0; k < 7; k++) text += names[k] + std::to_string(counts[places[k]]);
         text += "\nx " + hexadecimal(floats[ELCHEPUR_RESULT_X]) + "\ny";
         for (size_t k = 0; k < model.amounts.size(); k++) text += " " + hexadecimal(lent[Y].number(k));
-        return text + "\n";
+        text += "\nh " + hexadecimal(floats[ELCHEPUR_RESULT_SMALLEST]);
+        return text + " " + hexadecimal(floats[ELCHEPUR_RESULT_LARGEST]) + "\n";
     }
 };
 

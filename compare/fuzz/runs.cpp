@@ -89,6 +89,7 @@ class Session {
     uint64_t call_advance(uint64_t reply, double value);
     void advance(uint64_t reply, double value);
     void judge_notes(const Words &was);
+    void judge_strides(const Lent &before);
     void judge_here(const Words &was, uint64_t reply);
     void judge_advanced(const Lent &before, uint64_t reply);
     void judge_request();
@@ -217,6 +218,23 @@ void Session::judge_notes(const Words &was) {
     insist(stay || (made && column < words[ELCHEPUR_WORD_N]), "an advance noted a matrix that it did not decompose");
 }
 
+// The strides stay but where an attempt was accepted: its h stands yet.
+void Session::judge_strides(const Lent &before) {
+    Words words = lent[STATE_WORDS], doubles = lent[STATE_DOUBLES];
+    const Words was = before[STATE_WORDS], had = before[STATE_DOUBLES];
+    bool given = was[ELCHEPUR_WORD_STRIDES] != 0;
+    double smallest = plain_double(was, had, ELCHEPUR_DOUBLE_SMALLEST);
+    double largest = plain_double(was, had, ELCHEPUR_DOUBLE_LARGEST);
+    double stride = std::fabs(doubles.number(ELCHEPUR_DOUBLE_H));
+    if (words[ELCHEPUR_WORD_ACCEPTED] > was[ELCHEPUR_WORD_ACCEPTED] && !std::isnan(stride)) {
+        smallest = !given || std::isnan(smallest) || stride < smallest ? stride : smallest;
+        largest = !given || std::isnan(largest) || stride > largest ? stride : largest;
+        given = true;
+    }
+    insist(words[ELCHEPUR_WORD_STRIDES] == given && same_number(doubles.number(ELCHEPUR_DOUBLE_SMALLEST), smallest)
+           && same_number(doubles.number(ELCHEPUR_DOUBLE_LARGEST), largest), "an advance left other strides");
+}
+
 // A Jacobian that is asked is one of this point; an acceptance and 'modified' leave it behind (02, [1]).
 void Session::judge_here(const Words &was, uint64_t reply) {
     Words words = lent[STATE_WORDS];
@@ -234,8 +252,9 @@ void Session::judge_advanced(const Lent &before, uint64_t reply) {
     for (size_t k = ELCHEPUR_WORD_N; k < ELCHEPUR_WORD_MADE_HERE; k++) insist(words[k] == plain_word(was, k),
         "an advance changed a word that is fixed for the run");
     judge_notes(was);
+    judge_strides(before);
     judge_here(was, reply);
-    for (size_t k = ELCHEPUR_DOUBLE_NEWTON_TOL; k < ELCHEPUR_STATE_DOUBLES; k++)
+    for (size_t k = ELCHEPUR_DOUBLE_NEWTON_TOL; k < ELCHEPUR_DOUBLE_SMALLEST; k++)
         insist(same_number(doubles.number(k), plain_double(was, had, k)),
                "an advance changed a double that is fixed for the run");
     for (size_t k = ELCHEPUR_WORD_ODE; k <= ELCHEPUR_WORD_REJECTED; k++) insist(words[k] >= was[k], "a count fell");
@@ -374,7 +393,8 @@ void Session::draw_state() {
         default: words[k] = word % 2 * (word / 2);
         }
     }
-    for (size_t k = 0; k < ELCHEPUR_DOUBLE_NEWTON_TOL; k++) {
+    for (size_t k = 0; k < ELCHEPUR_STATE_DOUBLES; k++) {
+        if (k >= ELCHEPUR_DOUBLE_NEWTON_TOL && k < ELCHEPUR_DOUBLE_SMALLEST) continue;
         uint64_t word = rubbish.word();
         doubles.set(k, word % 3 == 0 ? ODD[word / 3 % (ODDS - 1)]
                     : std::ldexp(1.0, static_cast<int>(word % 41) - 20));
@@ -386,7 +406,7 @@ void Session::ask_result() {
     const uint64_t kept = 77;
     const double kept_float = 0.77;
     uint64_t numbers[ELCHEPUR_RESULT_NUMBERS] = {kept, kept, kept, kept, kept, kept, kept, kept, kept};
-    double floats[ELCHEPUR_RESULT_FLOATS] = {kept_float, kept_float};
+    double floats[ELCHEPUR_RESULT_FLOATS] = {kept_float, kept_float, kept_float, kept_float};
     Words words = lent[STATE_WORDS], doubles = lent[STATE_DOUBLES];
     double h = doubles.number(ELCHEPUR_DOUBLE_H), x = doubles.number(ELCHEPUR_DOUBLE_X);
     uint64_t wanted = has_ended(words) ? 0 : 29, number = elchepur_result(LENT_STATE(lent), numbers, floats);
@@ -403,6 +423,10 @@ void Session::ask_result() {
     insist(numbers[ELCHEPUR_RESULT_COLUMN] == column, "a result blames another column");
     insist(same_number(floats[ELCHEPUR_RESULT_H], told ? h : kept_float), "a result has another h");
     insist(same_number(floats[ELCHEPUR_RESULT_X], told ? x : kept_float), "a result has another x");
+    for (size_t k = 0; k < 2; k++)
+        insist(same_number(floats[ELCHEPUR_RESULT_SMALLEST + k],
+                           told ? plain_double(words, doubles, ELCHEPUR_DOUBLE_SMALLEST + k) : kept_float),
+               "a result has other strides");
     insist(same_number(elchepur_held_step(LENT_STATE(lent)), h), "the step held is another");
 }
 

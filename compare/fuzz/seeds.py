@@ -61,7 +61,7 @@ def forged():
     return [
         opening() + gone_on(replies) + bytes([FORGED, 1, word, 1, limit, 1])
         for replies in (1, 2, 5, 9, 14)
-        for word in range(70)
+        for word in range(73)
         for limit in (0, 6)
     ]
 

@@ -7,7 +7,7 @@
 
 // Of each word what it holds: w a number, b a choice, t whether something is given, h a number that is looked at where
 // the word before it says so, S the stage, c its column or status, k the kind of a singular matrix, d its column.
-const char KINDS[] = "Sc" "wwwwww" "bbbbb" "ww" "t" "wwww" "b" "ww" "bbbbb" "tttt" "ththth" "b" "kd";
+const char KINDS[] = "Sc" "wwwwww" "bbbbb" "ww" "t" "wwww" "b" "ww" "bbbbb" "tttt" "ththth" "b" "kd" "t";
 static_assert(sizeof KINDS == ELCHEPUR_STATE_WORDS + 1, "every word has its kind");
 
 // Of each double the word that says whether it is looked at, where there is one.
@@ -23,6 +23,8 @@ const Given GIVEN[] = {
     {ELCHEPUR_DOUBLE_GIVEN_MIN_STEP, ELCHEPUR_WORD_HAS_MIN_STEP, true},
     {ELCHEPUR_DOUBLE_GIVEN_NEWTON_TOL, ELCHEPUR_WORD_HAS_NEWTON_TOL, true},
     {ELCHEPUR_DOUBLE_GIVEN_FIRST_STEP, ELCHEPUR_WORD_HAS_FIRST_STEP, true},
+    {ELCHEPUR_DOUBLE_SMALLEST, ELCHEPUR_WORD_STRIDES, true},
+    {ELCHEPUR_DOUBLE_LARGEST, ELCHEPUR_WORD_STRIDES, true},
 };
 
 enum Stage { FIRST_DERIVATIVE = 0, FIRST_REPORT = 1, COLUMN = 4, REPORT = 10, ENDED = 12 };
@@ -91,6 +93,11 @@ inline bool counts_unfit(const Words &w) {
         || w[ELCHEPUR_WORD_LU] > 13 * m + 12 || w[ELCHEPUR_WORD_ACCEPTED] > m || w[ELCHEPUR_WORD_REJECTED] > 2 * m;
 }
 
+// Document 02, [7]: 'neither is negative'.
+inline bool strides_unfit(const Words &w, const Words &d) {
+    return plain_double(w, d, ELCHEPUR_DOUBLE_SMALLEST) < 0.0 || plain_double(w, d, ELCHEPUR_DOUBLE_LARGEST) < 0.0;
+}
+
 inline bool pivots_unfit(const Words &pivots, size_t n) {
     for (size_t k = 0; k + 1 < n; k++)
         if (pivots[k] >= n) return true;
@@ -108,7 +115,8 @@ inline bool is_unfit(const Lent &lent) {
     return sum != n || (goes_on && w[ELCHEPUR_WORD_TOTAL] > w[ELCHEPUR_WORD_MAX_STEPS])
         || w[ELCHEPUR_WORD_NEWT_ITER] > w[ELCHEPUR_WORD_NEWTON_MAXITER]
         || (stage_of(w) == COLUMN && w[ELCHEPUR_WORD_PART] > n) || (goes_on && w[ELCHEPUR_WORD_SINGULAR_COUNT] > 5)
-        || pivots_unfit(lent[IP1], n) || pivots_unfit(lent[IP2], n) || counts_unfit(w);
+        || pivots_unfit(lent[IP1], n) || pivots_unfit(lent[IP2], n) || counts_unfit(w)
+        || strides_unfit(w, lent[STATE_DOUBLES]);
 }
 
 // Advancing tests 13, 14, 15.

@@ -31,6 +31,8 @@ class Forecast:
     nfev: int | None = None  # derivatives, without those that Jacobians took
     njev: int | None = None
     nlu: int | None = None
+    smallest: float | None = None  # |h| over the accepted steps; both are 0.0 where there is none
+    largest: float | None = None
 
 
 def double_of(word):
@@ -52,6 +54,7 @@ def read(printed):
     counts = {name: told[word] for word, name in COUNTS.items()}
     message = ending_words(status, x, None, counts["accepted"], counts["rejected"])
     amounts = tuple(map(double_of, words["y"]))
+    counts |= dict(zip(("smallest", "largest"), map(double_of, words["h"])))
     return Forecast(printed, status == numbers.STATUS_SUCCESS, message, status, x=x, y=amounts, **counts)
 
 

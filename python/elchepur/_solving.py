@@ -50,6 +50,8 @@ class Result:
     h: float | None = None  # the step that the run held there
     singular: str | None = None  # with status 5: "real" or "complex", the matrix that was singular latest, or "none"
     column: int | None = None  # its column without a pivot, from 0; None where there is none
+    smallest: float | None = None  # |h| over the accepted steps, NaN passed over; both are 0.0 where there is none
+    largest: float | None = None
     sol: object = None  # a Solution, where dense_output asked for one
 
 
@@ -292,6 +294,8 @@ def result_of(run, seen):
         h=floats[numbers.RESULT_H],
         singular=singular,
         column=column,
+        smallest=floats[numbers.RESULT_SMALLEST],
+        largest=floats[numbers.RESULT_LARGEST],
         sol=seen.sol,
     )
 

@@ -1,6 +1,6 @@
 //! All that [`solve`](crate::methods::RADAU::solve) gives in place of a result.
 
-use crate::outcome::{Evals, Steps};
+use crate::outcome::{Evals, Steps, Strides};
 pub use crate::refused::{Refused, RefusedOpening};
 use crate::status::{Singular, Status};
 use std::fmt;
@@ -78,6 +78,8 @@ pub struct Interrupted {
     pub evals: Evals,
     /// The steps.
     pub steps: Steps,
+    /// How small and how large the accepted ones were.
+    pub strides: Strides,
 }
 
 impl std::error::Error for Interrupted {}
@@ -125,11 +127,13 @@ impl fmt::Display for Interrupted {
 #[derive(Clone, Debug, PartialEq)]
 pub struct BrokenOff {
     pub(crate) status: Status,
-    pub(crate) reached: Reached,
+    // Apart, so that an error stays small.
+    pub(crate) reached: Box<Reached>,
     pub(crate) xend: f64,
     pub(crate) h: f64,
     pub(crate) evals: Evals,
     pub(crate) steps: Steps,
+    pub(crate) strides: Strides,
     pub(crate) singular: Option<Singular>,
     pub(crate) has_zero_mass: bool,
 }
@@ -178,6 +182,11 @@ impl BrokenOff {
     /// The steps.
     pub fn steps(&self) -> Steps {
         self.steps
+    }
+
+    /// How small and how large the accepted ones were.
+    pub fn strides(&self) -> Strides {
+        self.strides
     }
 }
 

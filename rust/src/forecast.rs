@@ -2,7 +2,7 @@
 
 use crate::c;
 use crate::error::Reached;
-use crate::outcome::{Evals, Steps};
+use crate::outcome::{Evals, Steps, Strides};
 use crate::printed;
 use crate::refused::Refused;
 use crate::status::Status;
@@ -45,7 +45,8 @@ pub fn forecast(sheet: &[u8]) -> Result<Forecast, NoForecast> {
 ///
 /// ```compile_fail
 /// # use elchepur::prelude::*;
-/// let invented = Forecast { x: 730.0, y: vec![9.5], evals: Evals::default(), steps: Steps::default() };
+/// let (evals, steps, strides) = (Evals::default(), Steps::default(), Strides::default());
+/// let invented = Forecast { x: 730.0, y: vec![9.5], evals, steps, strides };
 /// ```
 #[derive(Clone, Debug, PartialEq)]
 #[non_exhaustive]
@@ -58,6 +59,8 @@ pub struct Forecast {
     pub evals: Evals,
     /// The steps.
     pub steps: Steps,
+    /// How small and how large the accepted ones were.
+    pub strides: Strides,
 }
 
 /// Why a sheet has no forecast.
@@ -111,6 +114,7 @@ pub struct BrokenOffSheet {
     pub(crate) reached: Reached,
     pub(crate) evals: Evals,
     pub(crate) steps: Steps,
+    pub(crate) strides: Strides,
 }
 
 impl BrokenOffSheet {
@@ -132,6 +136,11 @@ impl BrokenOffSheet {
     /// The steps.
     pub fn steps(&self) -> Steps {
         self.steps
+    }
+
+    /// How small and how large the accepted ones were.
+    pub fn strides(&self) -> Strides {
+        self.strides
     }
 }
 

@@ -73,7 +73,7 @@ pub mod ivp {
 
 /// The solver and what goes with it, where ivp has them.
 pub mod methods {
-    pub use crate::outcome::{Evals, IntegrationResult, Steps};
+    pub use crate::outcome::{Evals, IntegrationResult, Steps, Strides};
     pub use crate::settings::{RADAUBuilder, Rule, RADAU};
     pub use crate::tolerance::Tolerance;
 }
@@ -85,7 +85,7 @@ pub mod prelude {
     pub use crate::forecast::{forecast, BrokenOffSheet, Forecast, NoForecast};
     pub use crate::ivp::FirstOrderSystem;
     pub use crate::matrix::{Matrix, MatrixStorage};
-    pub use crate::methods::{Evals, IntegrationResult, RADAUBuilder, Rule, Steps, Tolerance, RADAU};
+    pub use crate::methods::{Evals, IntegrationResult, RADAUBuilder, Rule, Steps, Strides, Tolerance, RADAU};
     pub use crate::night::{Night, NoTotals, Totals};
     pub use crate::sheet::{NoSheet, Reaction, Sheet};
     pub use crate::shelf::{Shelf, Shelved};

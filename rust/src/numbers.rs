@@ -1,14 +1,14 @@
 //! Numbers of include/elchepur.h, each under its name there without `ELCHEPUR_`. tests/header.rs holds them to it.
 
 pub const MOST: usize = 32;
-pub const STATE_WORDS: usize = 41;
-pub const STATE_DOUBLES: usize = 29;
+pub const STATE_WORDS: usize = 42;
+pub const STATE_DOUBLES: usize = 31;
 pub const NUMBERS: usize = 17;
 pub const FLOATS: usize = 8;
 pub const TOLD: usize = 3;
 pub const AT: usize = 2;
 pub const RESULT_NUMBERS: usize = 9;
-pub const RESULT_FLOATS: usize = 2;
+pub const RESULT_FLOATS: usize = 4;
 pub const PRINTED: usize = 1024;
 pub const SHEET_SETTINGS: usize = 6;
 pub const SHEET_COUNTS: usize = 2;
@@ -95,6 +95,8 @@ pub const RESULT_SINGULAR: usize = 7;
 pub const RESULT_COLUMN: usize = 8;
 pub const RESULT_H: usize = 0;
 pub const RESULT_X: usize = 1;
+pub const RESULT_SMALLEST: usize = 2;
+pub const RESULT_LARGEST: usize = 3;
 
 pub const REFUSED_ORDER: u64 = 1;
 pub const REFUSED_PART: u64 = 2;

@@ -7,8 +7,8 @@
 ///
 /// ```compile_fail
 /// # use elchepur::prelude::*;
-/// let (evals, steps) = (Evals::default(), Steps::default());
-/// let invented = IntegrationResult { x: 730.0, y: vec![9.5], h: 1.0, evals, steps };
+/// let (evals, steps, strides) = (Evals::default(), Steps::default(), Strides::default());
+/// let invented = IntegrationResult { x: 730.0, y: vec![9.5], h: 1.0, evals, steps, strides };
 /// ```
 ///
 /// Its parts can be taken from it:
@@ -16,7 +16,7 @@
 /// ```
 /// # use elchepur::prelude::*;
 /// fn left(run: IntegrationResult) -> f64 {
-///     let IntegrationResult { x: _, y, h: _, evals: _, steps: _, .. } = run;
+///     let IntegrationResult { x: _, y, h: _, evals: _, steps: _, strides: _, .. } = run;
 ///     y[0]
 /// }
 /// ```
@@ -33,6 +33,8 @@ pub struct IntegrationResult {
     pub evals: Evals,
     /// The steps.
     pub steps: Steps,
+    /// How small and how large the accepted ones were.
+    pub strides: Strides,
 }
 
 /// How often what was evaluated. That each is the number of what happened is a theorem about the solver behind this
@@ -56,4 +58,14 @@ pub struct Steps {
     pub accepted: usize,
     /// Slow verdicts, and error tests failed after the first acceptance.
     pub rejected: usize,
+}
+
+/// |h| over the accepted attempts of a run, each with the h held when it was accepted; a NaN is passed over. Both are 0
+/// where there was none. That they are those of what happened is a theorem too.
+#[derive(Clone, Copy, Debug, Default, PartialEq)]
+pub struct Strides {
+    /// The smallest.
+    pub smallest: f64,
+    /// The largest.
+    pub largest: f64,
 }

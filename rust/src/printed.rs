@@ -3,7 +3,7 @@
 use crate::error::Reached;
 use crate::forecast::{BrokenOffSheet, Forecast, NoForecast};
 use crate::numbers::{MOST, STATUS_SUCCESS};
-use crate::outcome::{Evals, Steps};
+use crate::outcome::{Evals, Steps, Strides};
 use crate::refused::Refused;
 use crate::status::Status;
 
@@ -31,25 +31,28 @@ fn refused(text: &str) -> Option<NoForecast> {
     (again == text).then_some(refusal)
 }
 
-/// The text of a run: its status with the six counts, the point reached, and the amounts there.
+/// The text of a run: its status with the six counts, the point reached, the amounts there, and the two strides.
 fn ended(text: &str) -> Option<Result<Forecast, NoForecast>> {
     let mut lines = text.lines();
     let counts: Vec<u64> = lines.next()?.split(' ').skip(1).step_by(2).map_while(|word| word.parse().ok()).collect();
     let [status, accepted, rejected, total, ode, jac, lu] = counts[..] else { return None };
     let [x] = floats(lines.next()?)[..] else { return None };
     let y = floats(lines.next()?);
+    let [smallest, largest] = floats(lines.next()?)[..] else { return None };
     let told: Vec<String> = COUNTS.iter().zip(&counts).map(|(word, count)| format!("{word} {count}")).collect();
-    let again = format!("{}\nx{}\ny{}\n", told.join(" "), digits(&[x]), digits(&y));
+    let ends = digits(&[smallest, largest]);
+    let again = format!("{}\nx{}\ny{}\nh{ends}\n", told.join(" "), digits(&[x]), digits(&y));
     if again != text || !(1..=MOST).contains(&y.len()) {
         return None;
     }
+    let strides = Strides { smallest, largest };
     let (evals, steps) =
         (Evals { ode: whole(ode)?, jac: whole(jac)?, lu: whole(lu)? }, steps(accepted, rejected, total)?);
     if status == STATUS_SUCCESS {
-        return Some(Ok(Forecast { x, y, evals, steps }));
+        return Some(Ok(Forecast { x, y, evals, steps, strides }));
     }
     let (status, reached) = (Status::of(status)?, Reached { x, y });
-    Some(Err(NoForecast::BrokenOff(BrokenOffSheet { status, reached, evals, steps })))
+    Some(Err(NoForecast::BrokenOff(BrokenOffSheet { status, reached, evals, steps, strides })))
 }
 
 fn whole(count: u64) -> Option<usize> {
@@ -75,7 +78,8 @@ mod tests {
     use super::*;
 
     const ENDED: &str = "status 2 accepted 20 rejected 0 total 21 ode 96 jac 15 lu 57\n\
-                         x 3ffd31cd9d2d5b6e\ny 40230631e05c6177 7ff8000000000000\n";
+                         x 3ffd31cd9d2d5b6e\ny 40230631e05c6177 7ff8000000000000\n\
+                         h 3f50000000000000 3fd0000000000000\n";
 
     fn is_unknown(printed: &[u8]) -> bool {
         matches!(read(printed), Err(NoForecast::Unknown { .. }))
@@ -86,6 +90,7 @@ mod tests {
         let Err(NoForecast::BrokenOff(broken)) = read(ENDED.as_bytes()) else { panic!() };
         assert_eq!((broken.status(), broken.steps().total, broken.evals().lu), (Status::NeedLargerNMax, 21, 57));
         assert_eq!(broken.reached().y[0].to_bits(), 0x40230631e05c6177);
+        assert_eq!(broken.strides(), Strides { smallest: 1.0 / 1024.0, largest: 0.25 });
         assert!(read(ENDED.replace("status 2", "status 0").as_bytes()).is_ok());
     }
 
@@ -133,15 +138,22 @@ mod tests {
             ("\ny ", "\r\ny "),
             ("y 4", "y  4"),
             ("7ff8", "7ff"),
-            ("0000\n", "0000"),
-            ("0000\n", "0000 \n"),
-            ("0000\n", "0000\nh 0000000000000000 0000000000000000\n"),
+            ("0000\nh", "0000h"),
+            ("0000\nh", "0000 \nh"),
+            ("3fd0000000000000\n", "3fd0000000000000"),
+            ("3fd0000000000000\n", "3fd0000000000000 \n"),
+            ("3fd0000000000000\n", "3fd0000000000000\nh 3fd0000000000000 3fd0000000000000\n"),
+            ("\nh 3f50000000000000 3fd0000000000000", ""),
+            (" 3fd0000000000000", ""),
+            ("3fd0", "3fd"),
+            ("h 3", "h  3"),
             ("y 4", "h 4"),
+            ("h 3", "y 3"),
         ] {
             assert!(ENDED.contains(old) && is_unknown(ENDED.replacen(old, new, 1).as_bytes()), "{old:?} {new:?}");
         }
-        let amounts =
-            |count: usize| format!("{}\ny{}\n", ENDED.split("\ny").next().unwrap(), digits(&vec![1.0; count]));
+        let (before, after) = (ENDED.split("\ny").next().unwrap(), ENDED.split("\nh").last().unwrap());
+        let amounts = |count: usize| format!("{before}\ny{}\nh{after}", digits(&vec![1.0; count]));
         assert!(
             is_unknown(amounts(0).as_bytes())
                 && is_unknown(amounts(33).as_bytes())

@@ -7,7 +7,7 @@ use crate::error::{BrokenOff, Error, Interrupted, Reached, Refused, RefusedOpeni
 use crate::matrix::{Matrix, MatrixStorage};
 use crate::memory::Memory;
 use crate::numbers::*;
-use crate::outcome::{Evals, IntegrationResult, Steps};
+use crate::outcome::{Evals, IntegrationResult, Steps, Strides};
 use crate::settings::RADAU;
 use crate::solout::{ControlFlag, SolOut};
 use crate::status::{Singular, Status};
@@ -122,18 +122,20 @@ impl Talk {
         let evals = Evals { ode: count(RESULT_ODE), jac: count(RESULT_JAC), lu: count(RESULT_LU) };
         let steps =
             Steps { total: count(RESULT_TOTAL), accepted: count(RESULT_ACCEPTED), rejected: count(RESULT_REJECTED) };
+        let strides = Strides { smallest: floats[RESULT_SMALLEST], largest: floats[RESULT_LARGEST] };
         let (x, y, h, xend) = (floats[RESULT_X], self.memory.y, floats[RESULT_H], given.opening.xend);
         match numbers[RESULT_STATUS] {
-            STATUS_SUCCESS => Ok(IntegrationResult { x, y, h, evals, steps }),
-            STATUS_USER_INTERRUPT => Err(Error::Interrupted(Interrupted { x, y, xend, h, evals, steps })),
+            STATUS_SUCCESS => Ok(IntegrationResult { x, y, h, evals, steps, strides }),
+            STATUS_USER_INTERRUPT => Err(Error::Interrupted(Interrupted { x, y, xend, h, evals, steps, strides })),
             status => Err(Error::BrokenOff(BrokenOff {
                 status: Status::of(status).expect("a status is 0, 1, 2, 3 or 5"),
                 singular: singular_of(&numbers),
-                reached: Reached { x, y },
+                reached: Box::new(Reached { x, y }),
                 xend,
                 h,
                 evals,
                 steps,
+                strides,
                 has_zero_mass: given.has_zero_mass(),
             })),
         }

@@ -34,8 +34,9 @@ const INTERRUPT: u64 = 3;
 const MODIFIED: u64 = 4;
 const MARK: u64 = 5;
 
-// The words that a stored ending tells: h, x, the six counts, the kind of the singular matrix and its column.
-const RESULT_WORDS: usize = 10;
+// The words that a stored ending tells: h, x, the six counts, the kind of the singular matrix and its column, and the
+// two strides.
+const RESULT_WORDS: usize = 12;
 
 /// The stored words, in order.
 struct Stored<'a>(std::iter::Peekable<std::str::SplitWhitespace<'a>>);
@@ -230,13 +231,14 @@ impl SolOut for Reports<'_> {
     }
 }
 
-/// How a run ended: its status, and h, x, the counts and the singular matrix as the file has them.
+/// How a run ended: its status, and h, x, the counts, the singular matrix and the strides as the file has them.
 fn ended(answer: Result<IntegrationResult, Error>) -> (u64, Vec<u64>) {
-    let (status, h, x, evals, steps, singular) = match answer {
-        Ok(run) => (0, run.h, run.x, run.evals, run.steps, None),
-        Err(Error::Interrupted(run)) => (1, run.h, run.x, run.evals, run.steps, None),
+    let (status, h, x, evals, steps, strides, singular) = match answer {
+        Ok(run) => (0, run.h, run.x, run.evals, run.steps, run.strides, None),
+        Err(Error::Interrupted(run)) => (1, run.h, run.x, run.evals, run.steps, run.strides, None),
         Err(Error::BrokenOff(run)) => {
-            (run.status().number(), run.h(), run.reached().x, run.evals(), run.steps(), run.singular())
+            let (status, x, singular) = (run.status().number(), run.reached().x, run.singular());
+            (status, run.h(), x, run.evals(), run.steps(), run.strides(), singular)
         }
         Err(other) => panic!("{other}"),
     };
@@ -248,7 +250,7 @@ fn ended(answer: Result<IntegrationResult, Error>) -> (u64, Vec<u64>) {
     };
     let counts = [evals.ode, evals.jac, evals.lu, steps.total, steps.accepted, steps.rejected, kind, column];
     let words = [bits(h), bits(x)].into_iter().chain(counts.map(|count| count as u64));
-    (status, words.collect())
+    (status, words.chain([bits(strides.smallest), bits(strides.largest)]).collect())
 }
 
 #[test]

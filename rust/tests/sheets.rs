@@ -25,21 +25,22 @@ fn records(mut left: &[u8]) -> Vec<(&[u8], &str)> {
     found
 }
 
-fn told(status: u64, evals: Evals, steps: Steps, x: f64, y: &[f64]) -> String {
+fn told(status: u64, evals: Evals, steps: Steps, strides: Strides, x: f64, y: &[f64]) -> String {
     let Steps { total, accepted, rejected } = steps;
     let Evals { ode, jac, lu } = evals;
     let amounts: String = y.iter().map(|amount| format!(" {:016x}", bits(*amount))).collect();
     let counts = format!("accepted {accepted} rejected {rejected} total {total} ode {ode} jac {jac} lu {lu}");
-    format!("status {status} {counts}\nx {:016x}\ny{amounts}\n", bits(x))
+    let ends = format!("h {:016x} {:016x}", bits(strides.smallest), bits(strides.largest));
+    format!("status {status} {counts}\nx {:016x}\ny{amounts}\n{ends}\n", bits(x))
 }
 
 /// What the program `decay` prints of a sheet, by the forecast of this crate.
 fn forecast_of(sheet: &[u8]) -> String {
     match forecast(sheet) {
-        Ok(run) => told(0, run.evals, run.steps, run.x, &run.y),
+        Ok(run) => told(0, run.evals, run.steps, run.strides, run.x, &run.y),
         Err(NoForecast::BrokenOff(broken)) => {
             let Reached { x, y, .. } = broken.reached();
-            told(broken.status().number(), broken.evals(), broken.steps(), *x, y)
+            told(broken.status().number(), broken.evals(), broken.steps(), broken.strides(), *x, y)
         }
         Err(NoForecast::Refused(refused)) => format!("refused {}\n", refused.number()),
         Err(NoForecast::Malformed { line }) => format!("refused 20 {line}\n"),
@@ -52,10 +53,10 @@ fn forecast_of(sheet: &[u8]) -> String {
 fn solved(sheet: &str) -> String {
     let model = Model::read(sheet).expect("a sheet");
     match model.solve(&model.solver(), None::<&mut NoSolOut>) {
-        Ok(run) => told(0, run.evals, run.steps, run.x, &run.y),
+        Ok(run) => told(0, run.evals, run.steps, run.strides, run.x, &run.y),
         Err(Error::BrokenOff(broken)) => {
             let Reached { x, y, .. } = broken.reached();
-            told(broken.status().number(), broken.evals(), broken.steps(), *x, y)
+            told(broken.status().number(), broken.evals(), broken.steps(), broken.strides(), *x, y)
         }
         Err(Error::Refused(refused)) => format!("refused {}\n", refused.number()),
         Err(other) => panic!("{other}"),

@@ -86,6 +86,8 @@ static void met_end(struct replay *replay, int answer, const struct elchepur_out
     same("h", bits_of(outcome->floats[ELCHEPUR_RESULT_H]), word());
     same("x", bits_of(outcome->floats[ELCHEPUR_RESULT_X]), word());
     for (size_t k = 0; k < sizeof order / sizeof *order; k++) same("a count", outcome->numbers[order[k]], word());
+    same("the smallest stride", bits_of(outcome->floats[ELCHEPUR_RESULT_SMALLEST]), word());
+    same("the largest stride", bits_of(outcome->floats[ELCHEPUR_RESULT_LARGEST]), word());
 }
 
 int main(void) {

@@ -126,6 +126,8 @@ static void print_result(const struct elchepur_outcome *outcome, size_t n) {
         printf("%s%s %" PRIu64, k ? " " : "", words[k], outcome->numbers[places[k]]);
     printf("\nx %016" PRIx64 "\ny", bits_of(outcome->floats[ELCHEPUR_RESULT_X]));
     print_amounts(outcome->reached, n);
+    printf("h");
+    print_amounts(outcome->floats + ELCHEPUR_RESULT_SMALLEST, 2);
 }
 
 static void solve(struct model *model, int makes_jacobian) {

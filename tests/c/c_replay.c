@@ -14,7 +14,7 @@ struct run {
 
 enum { STAGE_COLUMN = 4, STAGE_ENDED = 12 };
 
-static uint64_t refusals, advances;
+static uint64_t refusals, advances, nan_steps;
 
 // --- What is refused -----------------------------------------------------------------------------
 
@@ -46,7 +46,7 @@ static void refused(const struct run *run, const struct elchepur_state *state, u
 
 static void no_result(const struct elchepur_state *state, uint64_t number) {
     uint64_t counts[ELCHEPUR_RESULT_NUMBERS] = {9, 9, 9, 9, 9, 9, 9, 9, 9};
-    double floats[ELCHEPUR_RESULT_FLOATS] = {9.0, 9.0};
+    double floats[ELCHEPUR_RESULT_FLOATS] = {9.0, 9.0, 9.0, 9.0};
     same("the refusal of a result", elchepur_result(ELCHEPUR_STATE(*state), counts, floats), number);
     for (size_t k = 0; k < ELCHEPUR_RESULT_NUMBERS; k++) same("a count of a refused result", counts[k], 9);
     for (size_t k = 0; k < ELCHEPUR_RESULT_FLOATS; k++) same("a float of a refused result", bits_of(floats[k]),
@@ -66,7 +66,7 @@ enum { UNFITS = sizeof UNFIT / sizeof *UNFIT, LOOKED_AT_BEFORE_THE_END = 2 };
 
 static const struct { size_t place; double number; } UNFIT_DOUBLES[] = {
     {ELCHEPUR_DOUBLE_UROUND, 1.0}, {ELCHEPUR_DOUBLE_SAFETY_FACTOR, 1.0}, {ELCHEPUR_DOUBLE_SCALE_MIN, 0.0},
-    {ELCHEPUR_DOUBLE_SCALE_MAX, 0.0},
+    {ELCHEPUR_DOUBLE_SCALE_MAX, 0.0}, {ELCHEPUR_DOUBLE_SMALLEST, -1e-300}, {ELCHEPUR_DOUBLE_LARGEST, -1.0},
 };
 enum { UNFIT_DOUBLES_COUNT = sizeof UNFIT_DOUBLES / sizeof *UNFIT_DOUBLES };
 
@@ -78,6 +78,7 @@ static void unfit(const struct run *run) {
     if (ended && k >= UNFITS - LOOKED_AT_BEFORE_THE_END && k < UNFITS) return;
     if (k < UNFITS) state.words[UNFIT[k].place] = UNFIT[k].number;
     else state.doubles[UNFIT_DOUBLES[k - UNFITS].place] = UNFIT_DOUBLES[k - UNFITS].number;
+    if (k >= UNFITS) state.words[ELCHEPUR_WORD_STRIDES] = 1;
     refused(run, &state, ELCHEPUR_REPLY_FILLED, ELCHEPUR_REFUSED_UNFIT);
 }
 
@@ -88,7 +89,7 @@ static const size_t CHOICES[] = {
     ELCHEPUR_WORD_MARKED, ELCHEPUR_WORD_LISTS, ELCHEPUR_WORD_PREDICTIVE, ELCHEPUR_WORD_MASS, ELCHEPUR_WORD_SOURCE,
     ELCHEPUR_WORD_DENSE_OUTPUT, ELCHEPUR_WORD_RULE, ELCHEPUR_WORD_HAS_MAX_STEP, ELCHEPUR_WORD_HAS_MIN_STEP,
     ELCHEPUR_WORD_HAS_NEWTON_TOL, ELCHEPUR_WORD_HAS_FIRST_STEP, ELCHEPUR_WORD_HAS_NIND1, ELCHEPUR_WORD_HAS_NIND2,
-    ELCHEPUR_WORD_HAS_NIND3, ELCHEPUR_WORD_MADE_HERE,
+    ELCHEPUR_WORD_HAS_NIND3, ELCHEPUR_WORD_MADE_HERE, ELCHEPUR_WORD_STRIDES,
 };
 
 // What stands behind a choice of 0 is not looked at.
@@ -97,6 +98,7 @@ static const struct { size_t choice, place; } ABSENT[] = {
     {ELCHEPUR_WORD_HAS_MIN_STEP, ELCHEPUR_DOUBLE_GIVEN_MIN_STEP},
     {ELCHEPUR_WORD_HAS_NEWTON_TOL, ELCHEPUR_DOUBLE_GIVEN_NEWTON_TOL},
     {ELCHEPUR_WORD_HAS_FIRST_STEP, ELCHEPUR_DOUBLE_GIVEN_FIRST_STEP},
+    {ELCHEPUR_WORD_STRIDES, ELCHEPUR_DOUBLE_SMALLEST}, {ELCHEPUR_WORD_STRIDES, ELCHEPUR_DOUBLE_LARGEST},
 };
 
 // The same state in other words: each choice by another number, and rubbish wherever nothing is looked at.
@@ -133,6 +135,27 @@ static void alike(const struct run *before, const struct run *after, uint64_t re
     same("its parts", memcmp(copy.doubles, after->doubles, ELCHEPUR_DOUBLES(m.n) * sizeof(double)) != 0, 0);
     same("its pivots", memcmp(copy.pivots, after->pivots, ELCHEPUR_PIVOTS(m.n) * sizeof(size_t)) != 0, 0);
     advances++;
+}
+
+// A step that is no number is forged, which nothing refuses: where its attempt is accepted, the strides stay as they
+// were, none and some.
+static void nan_step(const struct run *before, uint64_t reply, double value) {
+    static struct run copy;
+    for (size_t some = 0; some < 2; some++) {
+        struct elchepur_memory m = copied(before, &copy);
+        copy.state = before->state;
+        copy.state.doubles[ELCHEPUR_DOUBLE_H] = elchepur_sqrt(-1.0);
+        copy.state.words[ELCHEPUR_WORD_STRIDES] = some;
+        copy.state.doubles[ELCHEPUR_DOUBLE_SMALLEST] = 0.5;
+        copy.state.doubles[ELCHEPUR_DOUBLE_LARGEST] = 2.0;
+        same("an advance with a step that is no number", elchepur_advance(ELCHEPUR_STATE(copy.state), reply, value,
+                                                                         copy.told, copy.at, ELCHEPUR_PARTS(m)), 0);
+        if (copy.state.words[ELCHEPUR_WORD_ACCEPTED] == before->state.words[ELCHEPUR_WORD_ACCEPTED]) return;
+        same("whether there are strides", copy.state.words[ELCHEPUR_WORD_STRIDES], some);
+        same("the smallest", bits_of(copy.state.doubles[ELCHEPUR_DOUBLE_SMALLEST]), bits_of(some ? 0.5 : 0.0));
+        same("the largest", bits_of(copy.state.doubles[ELCHEPUR_DOUBLE_LARGEST]), bits_of(some ? 2.0 : 0.0));
+        nan_steps++;
+    }
 }
 
 static void wrong_replies(const struct run *run) {
@@ -207,6 +230,8 @@ static void advanced(struct run *run, uint64_t reply) {
     same("an advance",
          elchepur_advance(ELCHEPUR_STATE(run->state), reply, value, run->told, run->at, ELCHEPUR_PARTS(run->m)), 0);
     alike(&before, run, reply, value);
+    if (run->state.words[ELCHEPUR_WORD_ACCEPTED] > before.state.words[ELCHEPUR_WORD_ACCEPTED])
+        nan_step(&before, reply, value);
 }
 
 // A column that no matrix of the run has is no refusal: the result shows it with status 5, and nothing with others.
@@ -221,6 +246,20 @@ static void forged_column(struct elchepur_state state) {
     same("its column", counts[ELCHEPUR_RESULT_COLUMN], blames ? SIZE_MAX : 0);
 }
 
+// Whatever the two doubles of the strides are, the result shows them, and +0 where none is said to be there.
+static void forged_strides(struct elchepur_state state) {
+    uint64_t counts[ELCHEPUR_RESULT_NUMBERS];
+    double floats[ELCHEPUR_RESULT_FLOATS];
+    state.doubles[ELCHEPUR_DOUBLE_SMALLEST] = elchepur_sqrt(-1.0);
+    state.doubles[ELCHEPUR_DOUBLE_LARGEST] = -7.5;
+    for (size_t k = 0; k < 3; k++) {
+        state.words[ELCHEPUR_WORD_STRIDES] = k * k * k;
+        same("a result with forged strides", elchepur_result(ELCHEPUR_STATE(state), counts, floats), 0);
+        same("its smallest", floats[ELCHEPUR_RESULT_SMALLEST] != floats[ELCHEPUR_RESULT_SMALLEST], k > 0);
+        same("its largest", bits_of(floats[ELCHEPUR_RESULT_LARGEST]), bits_of(k ? -7.5 : 0.0));
+    }
+}
+
 static void met_end(const struct run *run) {
     static const size_t order[] = {ELCHEPUR_RESULT_ODE, ELCHEPUR_RESULT_JAC, ELCHEPUR_RESULT_LU, ELCHEPUR_RESULT_TOTAL,
         ELCHEPUR_RESULT_ACCEPTED, ELCHEPUR_RESULT_REJECTED, ELCHEPUR_RESULT_SINGULAR, ELCHEPUR_RESULT_COLUMN};
@@ -232,7 +271,10 @@ static void met_end(const struct run *run) {
     same("h", bits_of(floats[ELCHEPUR_RESULT_H]), word());
     same("x", bits_of(floats[ELCHEPUR_RESULT_X]), word());
     for (size_t k = 0; k < sizeof order / sizeof *order; k++) same("a count", counts[order[k]], word());
+    same("the smallest stride", bits_of(floats[ELCHEPUR_RESULT_SMALLEST]), word());
+    same("the largest stride", bits_of(floats[ELCHEPUR_RESULT_LARGEST]), word());
     forged_column(run->state);
+    forged_strides(run->state);
 }
 
 static void replay(struct run *run, uint64_t count) {
@@ -255,6 +297,7 @@ int main(void) {
         runs++;
         replay(&run, opened(&run, n));
     }
+    same("that a step was accepted that is no number", nan_steps > 0, 1);
     printf("%" PRIu64 " runs of the Rust with %" PRIu64 " requests agree, %" PRIu64 " advances refused, %" PRIu64
            " made again in other words\n", runs, requests, refusals, advances);
     return 0;

@@ -219,6 +219,7 @@ def check_endings(module):
     insist(found.success and found.status == 0 and found.refused is None, f"a plain run: {found}")
     insist(found.singular is None and found.column is None, f"a plain run blames {found.singular}")
     insist({len(found.t), *map(len, found.y)} == {found.accepted + 1}, "a plain run has other points than its steps")
+    insist(0.0 < found.smallest <= found.largest <= 1.0, f"a plain run has strides {found.smallest} {found.largest}")
     nothing = module.solve(lambda x, y: [math.nan], (0.0, 1.0), [1.0])
     insist(nothing.success and math.isnan(nothing.y[0][-1]), "that NaN is no end of a run stands in the README")
 

@@ -165,12 +165,13 @@ def hexes(numbers):
     return "".join(f" {bits(number):016x}" for number in numbers)
 
 
-def told(found):
-    """A forecast or a result as `decay` prints it, the amounts given apart."""
+def told(found, amounts):
+    """A forecast or a result as `decay` prints it."""
     if found.refused is not None:
         return f"refused {found.refused}\n"
     text = f"status {found.status} accepted {found.accepted} rejected {found.rejected} total {found.total}"
-    return f"{text} ode {found.nfev} jac {found.njev} lu {found.nlu}\nx{hexes([found.x])}\n"
+    ends = hexes([found.smallest, found.largest])
+    return f"{text} ode {found.nfev} jac {found.njev} lu {found.nlu}\nx{hexes([found.x])}\ny{hexes(amounts)}\nh{ends}\n"
 
 
 def check_forecasts(module, records):
@@ -179,7 +180,7 @@ def check_forecasts(module, records):
         found = module.forecast(data, check=False)
         insist(found.printed.decode() == answer, f"a forecast is\n{found.printed.decode()}and is to be\n{answer}")
         if found.refused is None:
-            insist(told(found) + f"y{hexes(found.y)}\n" == answer, "a forecast is read otherwise than it is printed")
+            insist(told(found, found.y) == answer, "a forecast is read otherwise than it is printed")
         insist(found.success == answer.startswith("status 0 "), f"a forecast has success {found.success}:\n{answer}")
         try:
             insist(module.forecast(data).printed == found.printed, "a forecast differs from itself")
@@ -257,7 +258,7 @@ class Model:
             rtol=self.rtol, atol=self.atol, rule=["rust", "book"][self.rule], max_steps=self.max_steps, check=False,
         )
         at = "".join(f"at{hexes([t, *amounts])}\n" for t, amounts in zip(found.t, zip(*found.y)))
-        return at + told(found) + ("" if found.refused else f"y{hexes(last[0])}\n")
+        return at + told(found, last[0])
 
 
 def check_models(module, records):
@@ -356,8 +357,9 @@ class Replay:
         counts = [found.nfev, found.njev, found.nlu, found.total, found.accepted, found.rejected]
         insist((found.singular is None) == (found.status != 5), f"status {found.status} blames {found.singular}")
         blame = [SINGULARS.index(found.singular or "none"), found.column or 0]
-        wanted = [self.word() for _ in range(10)]
-        insist([bits(found.h), bits(found.x), *counts, *blame] == wanted, "a run ends otherwise")
+        strides = [bits(found.smallest), bits(found.largest)]
+        wanted = [self.word() for _ in range(12)]
+        insist([bits(found.h), bits(found.x), *counts, *blame, *strides] == wanted, "a run ends otherwise")
         return self.requests
 
 

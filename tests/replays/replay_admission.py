@@ -15,7 +15,7 @@ holds, else 14 where the run has ended, else 15 where the reply is not of the ki
 made by altering a state that no clause refuses; for each it is said which clauses are to hold, and a case in which
 others do stops the script.
 
-A case is a block of eleven lines, each of four words of 16 hex digits with a space between. Doubles are bit patterns; a
+A case is a block of twelve lines, each of four words of 16 hex digits with a space between. Doubles are bit patterns; a
 NaN is always 7ff8000000000000.
 
     1-5  as in tests/replays/replay_opening.py, x in the place of x0, with further choices, a bit for each of FLAGS
@@ -26,7 +26,8 @@ NaN is always 7ff8000000000000.
     10   rejected; the stage by its place in STAGES, the status, the reply by its place in REPLIES, of four digits
          each; the column; the float of the reply
     11   for each list of pivots the place of one entry (ffff: none) and what the others are, four digits each; what
-         that entry is in each list; the pattern of every float of the state that has no word of its own"""
+         that entry is in each list; the pattern of every float of the state that has no word of its own
+    12   1 if there are strides, else 0; the smallest, the largest; 0"""
 
 import sys
 
@@ -89,6 +90,8 @@ class State(Opening):
         self.pivots = ((0xFFFF, 0, max(n - 1, 0) % 64), (0xFFFF, 0, 0))
         self.first = self.last = self.reject = self.call_jac = self.call_decomp = self.xout = self.made_here = False
         self.filling = 0.25
+        # The smallest and the largest, or None.
+        self.strides = (0.125, 0.5)
 
     def at(self, stage, **changes):
         """At another stage, with a reply that fits it."""
@@ -138,6 +141,8 @@ UNFIT = {
     "singular count": lambda s: s.singular_count > 5 and not has_ended(s),
     "pivots": has_stray_pivot,
     "counts": has_large_count,
+    # neither stride is negative (02, [7])
+    "strides": lambda s: s.strides is not None and any(stride < 0 for stride in s.strides),
 }
 
 
@@ -173,7 +178,8 @@ def words_of(s, row):
     words += [s.ode, s.jac, s.lu, s.total, s.accepted, s.rejected]
     words += packed((list(STAGES).index(s.stage), s.status, list(REPLIES).index(s.reply)))
     words += [s.column, pattern_of(s.reply_float)]
-    return words + packed((place1, others1, place2, others2)) + [odd1, odd2, pattern_of(s.filling)]
+    words += packed((place1, others1, place2, others2)) + [odd1, odd2, pattern_of(s.filling)]
+    return words + [int(s.strides is not None), *map(pattern_of, s.strides or (0.0, 0.0)), 0]
 
 
 # --- The cases -------------------------------------------------------------------------------
@@ -194,6 +200,7 @@ BREAKERS = {
     "singular count": [{"singular_count": 6}],
     "pivots": [{"pivots": ((0, 34, 0), (0xFFFF, 0, 0))}, {"pivots": ((0xFFFF, 0, 0), (0, 34, 1))}],
     "counts": [{"lu": 1_300_013}, {"accepted": 100_001}],
+    "strides": [{"strides": (-TINY, 1.0)}, {"strides": (NOT_A_NUMBER, -INF)}],
 }
 
 
@@ -317,6 +324,17 @@ def cases_of_counts():
             yield from alone("counts", [s.copy(stage="ended", **{name: bound + 1})])
 
 
+def cases_of_strides():
+    """Each alone, whatever the other is, in a run that goes on and in one that has ended."""
+    strides = (0.0, MINUS_ZERO, TINY, -TINY, 1.0, -1.0, HUGE, -HUGE, INF, -INF, NOT_A_NUMBER)
+    for pair in (None, *((one, other) for one in strides for other in strides)):
+        s = State().copy(strides=pair)
+        yield from alone("strides", [s, s.copy(stage="ended")])
+    for stage in STAGES:
+        pairs = (None, (MINUS_ZERO, 1.0), (1.0, -TINY))
+        yield from alone("strides", [State().at(stage, strides=pair) for pair in pairs])
+
+
 def broken(*breakers):
     made = State()
     for breaker in breakers:
@@ -372,8 +390,8 @@ def cases_untested():
 
 def every_case():
     makers = (cases_of_n, cases_of_lengths, cases_of_settings, cases_of_partitions, cases_of_attempts, cases_of_rounds)
-    makers += (cases_of_columns, cases_of_singular_counts, cases_of_pivots, cases_of_counts, cases_of_orders,
-               cases_of_replies)
+    makers += (cases_of_columns, cases_of_singular_counts, cases_of_pivots, cases_of_counts, cases_of_strides,
+               cases_of_orders, cases_of_replies)
     found = {}
     for make in (*makers, cases_untested):
         for row, s in make():

@@ -186,6 +186,8 @@ EXAMPLE_MODEL = sheet.model_of(EXAMPLE)
 # has a mass, and no sheet.
 FIGURED = (EXAMPLE_MODEL, EXAMPLE_MODEL.copy(max_steps=1), EXAMPLE_MODEL.copy(x0=EXAMPLE_MODEL.xend))
 EXAMPLE_ANSWER = "status 0 accepted 8 rejected 0 total 8 ode 33 jac 8 lu 24\nx 3ff0000000000000\ny 3ff0000000000000\n"
+# 02, [7]: the first step, and the last, which is aimed at the end.
+EXAMPLE_ANSWER += "h 3eb0c6f7a0b5ed8d 3fe669bbf0dc768e\n"
 
 # Document 01's P11 has these amounts and this reaction; its derivative is 0, -3.
 P11 = EXAMPLE_MODEL.copy(amounts=[pattern_of(2.0), pattern_of(3.0)], reactions=[(pattern_of(0.5), 1, 2, 1, 0)])

@@ -11,6 +11,7 @@ const LU: usize = 4;
 const TOTAL: usize = 5;
 const ACCEPTED: usize = 6;
 const REJECTED: usize = 7;
+const STRIDES: usize = 10;
 
 fn hexadecimal(words: &[u64]) -> String {
     let digits: Vec<String> = words.iter().map(|word| format!("{word:016x}")).collect();
@@ -18,7 +19,7 @@ fn hexadecimal(words: &[u64]) -> String {
 }
 
 // Standard input has a line for each run. Standard output gets a line for each: how many requests it made, its first
-// derivative, and the three lines that document 01's program prints, with a | between; and behind all runs a line for
+// derivative, and the four lines that document 01's program prints, with a | between; and behind all runs a line for
 // each branch that was taken.
 pub fn go() {
     let mut text = String::new();
@@ -32,7 +33,7 @@ pub fn go() {
         let status = last.words[0] >> 4 & 15;
         let said = &last.reply;
         println!(
-            "{} | {} | status {status} accepted {} rejected {} total {} ode {} jac {} lu {} | x {:016x} | y {}",
+            "{} | {} | status {status} accepted {} rejected {} total {} ode {} jac {} lu {} | x {:016x} | y {} | h {}",
             asked.len(),
             hexadecimal(&asked[0].reply),
             said[ACCEPTED],
@@ -42,7 +43,8 @@ pub fn go() {
             said[JAC],
             said[LU],
             said[X],
-            hexadecimal(&last.parts[0])
+            hexadecimal(&last.parts[0]),
+            hexadecimal(&said[STRIDES..])
         );
     }
     for (name, count) in taken() {

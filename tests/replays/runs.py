@@ -786,7 +786,7 @@ KINDS = {1: "derivatives", 2: "Jacobians", 3: "reports", 4: "ends"}
 PLACES = ("", "y to f0", "cont to z1", "cont to z2", "cont to z3", "cont to f1", "y to f_origin",
           "y_perturbed to f_perturbed")
 FILLED, MODIFIED, MARK = 1, 4, 5
-RESULT = "h x ode jac lu total accepted rejected kind column".split()
+RESULT = "h x ode jac lu total accepted rejected kind column smallest largest".split()
 
 
 def lengths_behind(n, head):
@@ -835,6 +835,7 @@ NEVER = {
     "passes: Decomposed::Done, again": "only a matrix that is singular is asked for its column",
     "passes: Decomposed::RefusedOrder, again": "likewise",
     "passes: Decomposed::RefusedLength, again": "likewise",
+    "notes: if stride != stride: yes": "no h of these runs is a NaN; tests/c/c_replay.c forges one",
     "report: Reply::Filled": "15 stands before it",
     "stage: _, again": "no advance leads back to the first derivative",
 }

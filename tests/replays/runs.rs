@@ -13,6 +13,7 @@ use crate::methods::{Evals, Steps, Tolerance};
 use crate::solout::{ControlFlag, SolOut};
 use crate::status::Status;
 use crate::stopped;
+use crate::strides;
 pub use branches::{hit, note, noted, taken};
 pub use powers::{four_fifths, inverse_root, power, quarter, two_thirds};
 use std::cell::{Cell, RefCell};
@@ -246,6 +247,7 @@ pub fn end(h: f64, x: f64, status: Status, evals: &Evals, steps: &Steps) {
     let mut said = vec![pattern(h), pattern(x)];
     said.extend(counts.iter().map(|&count| count as u64));
     said.extend(blamed(&status));
+    said.extend(strides::ends().map(pattern));
     with(|t| t.ask(ENDED, number_of(&status), &[], NO_REPLY, said));
 }
 
@@ -678,6 +680,7 @@ pub fn read_line(line: &str) -> (Opening, Host) {
 // A new trace, in which nothing was asked yet.
 pub fn begin(opening: &Opening) {
     stopped::forget();
+    strides::forget();
     let (n, square) = (opening.n(), opening.n() * opening.n());
     branches::forget();
     with(|t| {

@@ -146,7 +146,7 @@ fn advance(run: Run, reply: Reply, m: &mut Mem) -> Answer {
 fn unfit(run: Run) -> Vec<Run> {
     let m = run.settings.max_steps;
     let k = run.settings.newton_maxiter;
-    let mut all = vec![run; 19];
+    let mut all = vec![run; 21];
     all[0].shape.n = 0;
     all[1].shape.n = 33;
     all[2].shape.n += 1;
@@ -164,9 +164,11 @@ fn unfit(run: Run) -> Vec<Run> {
     all[14].counts.lu = 13 + 13 * m;
     all[15].counts.accepted = m + 1;
     all[16].counts.rejected = 2 * m + 1;
+    all[17].notes.strides = Strides::Between(-f64::MIN_POSITIVE, 1.0);
+    all[18].notes.strides = Strides::Between(f64::NAN, f64::NEG_INFINITY);
     // these two only while the run has not ended
-    all[17].counts.total = m + 1;
-    all[18].control.singular_count = 6;
+    all[19].counts.total = m + 1;
+    all[20].control.singular_count = 6;
     all
 }
 
@@ -196,7 +198,7 @@ fn tried(run: Run, kind: u64, m: &mut Mem, asked: &Asked) -> std::result::Result
         calls.push((run, right, Refusal::HasEnded));
     }
     let bad = unfit(run);
-    let count = if kind == 4 { 17 } else { 19 };
+    let count = if kind == 4 { 19 } else { 21 };
     calls.extend(bad[..count].iter().map(|&r| (r, right, Refusal::Unfit)));
     for (state, reply, refusal) in calls {
         let answer = advance(state, reply, m);
@@ -339,6 +341,8 @@ fn replay(o: &Opening, asked: &[Asked]) -> std::result::Result<usize, String> {
                     c.rejected as u64,
                     state::blame_kind(r.blame) as u64,
                     state::blame_column(r.blame) as u64,
+                    pat(r.smallest),
+                    pat(r.largest),
                 ];
                 if mine != a.reply {
                     return Err(format!("result: port {mine:x?} rust {:x?}", a.reply));

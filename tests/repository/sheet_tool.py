@@ -202,8 +202,8 @@ def try_instead():
 
 
 def bits_back(lines):
-    """The doubles of an answer in words, by their bits: each stands behind a name."""
-    return [sheet.Words("").bits(line.split()[1]) for line in lines]
+    """The doubles of an answer in words, by their bits: they stand behind a name."""
+    return [sheet.Words("").bits(word) for line in lines for word in line.split()[1:]]
 
 
 def try_answers():
@@ -220,8 +220,9 @@ def try_answers():
         insist(right, f"{told} ends with {status}")
         given = [int(bits, 16) for line in answer.splitlines()[1:] for bits in line.split()[1:]]
         insist(bits_back(told[4:]) == given, f"{answer} is told as {told}")
-        insist([line.split()[0] for line in told[4:]] == ["x", *names[1:]], f"the names are others: {told}")
-        for wrong in (answer[:-1], answer + answer, answer.replace("x ", "z "), answer[: answer.index("y")]):
+        insist([line.split()[0] for line in told[4:]] == ["x", *names[1:], "h"], f"the names are others: {told}")
+        for wrong in (answer[:-1], answer + answer, answer.replace("x ", "z "), answer[: answer.index("y")],
+                      answer[: answer.index("h")], answer.replace("h ", "y "), answer[:-18] + "\n"):
             try_no_answer(wrong, names)
         try_no_answer(answer, names + ["more"])
 

@@ -23,7 +23,8 @@ ASSIGNS = ("=", "+=", "-=", "*=", "/=")
 
 # The calls that our edits put in.
 TRACE = re.compile(
-    r"\s*crate::(?:program::(?:hit|note|snap|end|differences|mass_made)|stopped::told)\(.*?\);\s*", re.S)
+    r"\s*crate::(?:program::(?:hit|note|snap|end|differences|mass_made)|stopped::told|strides::accepted)\(.*?\);\s*",
+    re.S)
 COUNTING = re.compile(r"\{(?:\s*crate::program::hit\([^)]*\);)+\s*\}")
 
 

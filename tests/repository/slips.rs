@@ -36,7 +36,7 @@ fn lengths(n: usize, head: u64) -> (usize, usize) {
         (3, MODIFIED) => (2, n + 1),
         (3, MARK) => (2, 1),
         (3, _) => (2, 0),
-        _ => (0, 10),
+        _ => (0, 12),
     }
 }
 
@@ -182,7 +182,8 @@ impl SolOut for Silent {
     }
 }
 
-// The words that are printed of a sheet's run: status, x, the counts, the amounts; none where the Rust has no end.
+// The words that are printed of a sheet's run: status, x, the counts, the strides, the amounts; none where the Rust has
+// no end.
 fn printed(opening: &Opening, host: &Host, most: u64) -> Option<Vec<u64>> {
     begin(opening);
     allow(most);
@@ -192,6 +193,7 @@ fn printed(opening: &Opening, host: &Host, most: u64) -> Option<Vec<u64>> {
         let end = t.asked.first()?;
         let mut words = vec![end.words[0]];
         words.extend(&end.reply[1..8]);
+        words.extend(&end.reply[10..]);
         words.extend(&end.parts[0]);
         Some(words)
     })

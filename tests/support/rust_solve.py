@@ -8,7 +8,7 @@ radau.rs and ivp.rs are copied with these changes, each of which must find its w
   - `POWERS`: each power goes to a routine of the program, since the C library's `pow` is not the same on every
     machine, and 01 says which power is meant;
   - `EDITS`, `IVP_EDITS`: before each call of the host all parts of memory are handed to the program, and each branch
-    is counted;
+    is counted; where an attempt is accepted its h is told (tests/support/strides.rs);
   - `BOOK_EDITS`: for the book rule, and only there, document 01's two changes and request 1 of document 02.
 solout.rs and solve/event.rs are not among the Rust's files here: tests/support/solout.rs and the crate's root have
 the three types that are named.
@@ -57,6 +57,7 @@ def noted(name):
 
 
 END = "crate::program::end(h, x, {status}, &evals, &steps);"
+STRIDE = "crate::strides::accepted(h);"
 
 # What is taken out, with what stands there instead.
 SHIMS = [
@@ -218,7 +219,7 @@ EDITS = [
         hit_if("h == 0.0", "step is zero"),
         hit_if("h.is_infinite()", "step is infinite"),
     ),
-    after("                // --- Step accepted ---", hit("accepted"), hit_if("err == 1.0", "error just at 1"),
+    after("                // --- Step accepted ---", STRIDE, hit("accepted"), hit_if("err == 1.0", "error just at 1"),
           hit_if("reject", "accepted after a rejection")),
     after("                    if steps.accepted > 1 {", hit("predictive controller")),
     before("                    h_acc = h;", hit("predictive controller remembers"),
@@ -397,6 +398,8 @@ mod solve {{
 {modules}
 #[path = "{stopped}"]
 mod stopped;
+#[path = "{tests}/strides.rs"]
+mod strides;
 #[path = "{program}"]
 mod program;
 {extra}

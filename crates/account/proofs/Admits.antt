@@ -14,7 +14,7 @@ use Rattle.state.specs.declared.talk.Verdict.the-variants.{Passed, Refused}
 use Rattle.state.specs.Memory.{Memory, lengthsFit, amountsFit, newtonFit, givenFit, factorsFit, differencesFit}
 use Rattle.state.specs.Pivots.{stray}
 use Rattle.opening.specs.Rows.{Test, test, verdictOf, rangeRows, outside}
-use Rattle.opening.specs.Admission.{askingAt, answersReport, unfitOf, allUnfit, shapeRows}
+use Rattle.opening.specs.Admission.{askingAt, answersReport, strideBelow, unfitOf, allUnfit, shapeRows}
 use Rattle.opening.specs.Admission.{stateRows, countRows, replyRows, admissionRows}
 use Rattle.opening.proofs.RowLaws.{verdict-append}
 use Rattle.opening.proofs.AdmissionLaws.{unfit-all}
@@ -38,6 +38,7 @@ pub record Bounded (r : Run) (m : Memory) : Type 0 where
   pub lu : r .counts .lu ≤ 13 * r .settings .«max_steps» + 12
   pub accepted : r .counts .accepted ≤ r .settings .«max_steps»
   pub rejected : r .counts .rejected ≤ 2 * r .settings .«max_steps»
+  pub strides : strideBelow (r .notes .strides) ≡ false
 
 -- ---- rows that don't hold
 
@@ -112,7 +113,7 @@ module _ (r : Run) (m : Memory) (h : Bounded r m) where
   count-passes =
       over _ _ (le-ltb _ _ (h .ode)) (over _ _ (le-ltb _ _ (h .jac))
       (over _ _ (le-ltb _ _ (h .lu))
-      (over _ _ (le-ltb _ _ (h .accepted)) (over _ _ (le-ltb _ _ (h .rejected)) no-row))))
+      (over _ _ (le-ltb _ _ (h .accepted)) (over _ _ (le-ltb _ _ (h .rejected)) (over _ _ (h .strides) no-row)))))
 
   -- 13 is never met, so the reply decides
   reply-decides : (p : Reply) → verdictOf (admissionRows r p m) ≡ verdictOf (replyRows (r .stage) p)

@@ -5,7 +5,7 @@ use mathlib.Core.Bool.{Bool, true, false, true≢false}
 use mathlib.Core.Logic.{_↔_}
 use Rattle.state.specs.declared.run.Counts.{Counts}
 use Rattle.state.specs.declared.run.Run.{Run}
-use Rattle.state.specs.declared.run.Singular.{Singular}
+use Rattle.state.specs.declared.run.Notes.{Notes}
 use Rattle.state.specs.declared.run.Stage.{Stage}
 use Rattle.state.specs.declared.run.Stage.the-variants as stage
 use Rattle.state.specs.declared.run.Status.{Status}
@@ -23,7 +23,7 @@ use Rattle.account.specs.Account.{Strategy, played, FairHost, EndsWithin
 use Rattle.account.specs.Demand.{tells, Demand3}
 use Rattle.account.proofs.Matches.{Matches, ended-matches}
 use Rattle.account.proofs.Journals.{sound, ends-proof, counts-told-proof, limits-proof, success-exactly-proof}
-use Rattle.account.proofs.Journals.{events-true-proof, latest-kept-proof, ledger-proof}
+use Rattle.account.proofs.Journals.{events-true-proof, notes-kept-proof, ledger-proof}
 use Rattle.account.proofs.Fresh.{fresh-proof}
 use Rattle.account.proofs.Played.{played-of}
 
@@ -62,9 +62,9 @@ demand-3-proof o start starts h fair =
       result =
           ap (resultAt (j .point .run)) at
           ∙ ap
-          (λ (c : Counts). result.Ended (tells (j .point .run) (s .status) c (j .point .run .notes .singular))) told
-          ∙ ap (λ (latest : Singular). result.Ended (tells (j .point .run) (s .status) (countsOf j) latest))
-          (latest-kept-proof o j w .kept);
+          (λ (c : Counts). result.Ended (tells (j .point .run) (s .status) c (j .point .run .notes))) told
+          ∙ ap (λ (notes : Notes). result.Ended (tells (j .point .run) (s .status) (countsOf j) notes))
+          (notes-kept-proof o j w);
       events = events-true-proof o j w;
       ledger = ledger-proof o j w;
       accepted = b .accepted;

@@ -16,6 +16,7 @@ use Rattle.words.specs.Words.{_⊕_, _⊖_}
 use Rattle.words.specs.Loop.{pick}
 use Rattle.state.specs.declared.settings.Settings.{Settings}
 use Rattle.state.specs.declared.run.Counts.{Counts}
+use Rattle.state.specs.declared.run.Notes.{Notes}
 use Rattle.state.specs.declared.run.Run.{Run}
 use Rattle.state.specs.declared.run.Stage.{Stage}
 use Rattle.state.specs.declared.run.Stage.the-variants as stage
@@ -24,7 +25,7 @@ use Rattle.state.specs.declared.run.Status.the-variants as status
 use Rattle.state.specs.declared.talk.Place.{Place}
 use Rattle.state.specs.declared.talk.Request.{Request}
 use Rattle.state.specs.declared.talk.Request.the-variants as request
-use Rattle.state.specs.Numbers.{statusNumber}
+use Rattle.state.specs.Numbers.{statusNumber, smallestStride, largestStride}
 use Rattle.opening.specs.Rows.{Opening, openingRows}
 use Rattle.opening.specs.Opening.{openOf}
 use Rattle.opening.specs.Admission.{askingAt}
@@ -39,6 +40,7 @@ use Rattle.account.specs.Reading.{one, many, Question, questions, askedI
 use Rattle.account.specs.Reading.{standingAt, interruptedIn, countsOf, happened, Means, width, mostRequests}
 use Rattle.account.specs.Truth.{EventsTrue}
 use Rattle.account.specs.Latest.{LatestKept}
+use Rattle.account.specs.Strides.{stepsOf, stridesOf, notesOf, StridesKept}
 use Rattle.account.specs.Account.{Strategy, played, FairHost, Answered}
 use Rattle.account.specs.Account.{EndsWithin, Over, Limits, Ends, Lands, Ledger}
 use Rattle.account.proofs.Matches.{Matches, by-stage, matches-report, matches-end, matches-ended, ended-matches}
@@ -46,7 +48,7 @@ use Rattle.account.proofs.Flow.{owed, endsWith}
 use Rattle.account.proofs.StandingKept.{Stands, marksOf, endMarks}
 use Rattle.account.proofs.Bounds.{WithinAt, Ceilings, bounds-fit, bounds-ended}
 use Rattle.account.proofs.SuccessLands.{lands-report}
-use Rattle.account.proofs.LatestLaws.{latest-true}
+use Rattle.account.proofs.NoteLaws.{latest-true, smallest-told, largest-told}
 use Rattle.account.proofs.SuccessLands as landed
 use Rattle.account.proofs.Admits.{ended-refuses}
 use Rattle.account.proofs.FirstPoint.{opens}
@@ -372,7 +374,22 @@ events-true-proof o j w = sound o j w .tallied .truths
 pub latest-kept-proof : (o : Opening) (j : Journal) → JournalOf o j → LatestKept o j
 latest-kept-proof o j w =
     let t = sound o j w .tallied in
-    record { kept = t .latest; pass = latest-true o (j .point .memory) (j .turns) (t .truths) }
+    record {
+      kept = ap (λ (n : Notes). n .singular) (t .notes);
+      pass = latest-true o (j .point .memory) (j .turns) (t .truths);
+    }
+
+pub notes-kept-proof : (o : Opening) (j : Journal) → JournalOf o j → j .point .run .notes ≡ notesOf j
+notes-kept-proof o j w = sound o j w .tallied .notes
+
+pub strides-kept-proof : (o : Opening) (j : Journal) → JournalOf o j → StridesKept j
+strides-kept-proof o j w =
+    let are = ap (λ (n : Notes). n .strides) (notes-kept-proof o j w) in
+    record {
+      kept = are;
+      smallest = ap smallestStride are ∙ smallest-told (stridesOf (stepsOf j));
+      largest = ap largestStride are ∙ largest-told (stridesOf (stepsOf j));
+    }
 
 -- ---- the ledger
 

@@ -8,7 +8,7 @@ pub mod Flow
 pub mod StandingKept
 pub mod SuccessLands
 pub mod EventsTrue
-pub mod LatestLaws
+pub mod NoteLaws
 pub mod Ledgers
 pub mod FreshKept
 pub mod Admits

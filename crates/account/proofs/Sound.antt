@@ -4,16 +4,18 @@ use Prim.Native.Nat.{ℕ, _+_, _≤_}
 use mathlib.Core.Path.{_≡_, refl, sym, ap, _∙_, subst}
 use mathlib.Core.Bool.{false}
 use mathlib.Core.List.{List, []}
+use lib.Ieee.{Float}
 use Rattle.state.specs.declared.settings.Settings.{Settings}
 use Rattle.state.specs.declared.run.Run.{Run}
 use Rattle.state.specs.declared.run.Fixed.{Fixed}
+use Rattle.state.specs.declared.run.Notes.{Notes}
 use Rattle.state.specs.declared.run.Shape.{Shape}
 use Rattle.state.specs.declared.talk.Verdict.the-variants.{Passed}
 use Rattle.state.specs.Memory.{Memory, Given, Factors}
 use Rattle.state.specs.Pivots.{stray}
 use Rattle.opening.specs.Rows.{Opening, openingRows, rangeRows, verdictOf}
 use Rattle.opening.specs.Opening.{shapeOf}
-use Rattle.opening.specs.Admission.{askingAt, answersReport, admissionRows}
+use Rattle.opening.specs.Admission.{askingAt, answersReport, strideBelow, admissionRows}
 use Rattle.opening.proofs.RowLaws.{NoneHolds}
 use Rattle.solve_blocks.specs.Events.{Event, Logged}
 use Rattle.solve_blocks.specs.Advance.{Stepped, Called, receivedOf, passedOf}
@@ -22,6 +24,8 @@ use Rattle.history.specs.Host.{Action}
 use Rattle.history.specs.History.{Point}
 use Rattle.account.specs.Journal.{Fair, Journal}
 use Rattle.account.specs.Reading.{one}
+use Rattle.account.specs.Latest.{Latest, never, latestEvents, keptOf}
+use Rattle.account.specs.Strides.{stepEvents, stridesOf, keptStrides, keptNotes}
 use Rattle.solve_blocks.proofs.AdvanceWhole.{wholeOf}
 use Rattle.solve_blocks.proofs.Rules.{Position, replied, asked, Closed}
 use Rattle.solve_blocks.proofs.EveryRule.{everyway}
@@ -31,11 +35,18 @@ use Rattle.account.proofs.Lengths.{advance-long}
 use Rattle.account.proofs.PivotsKept.{called-given, advance-pivots}
 use Rattle.account.proofs.Bounds.{Within, WithinAt, Ceilings, bounds-fit, bounds-closed, bounds-first}
 use Rattle.account.proofs.SuccessLands.{Lands, Reports, lands-first, lands-next, lands-closed}
+use Rattle.account.proofs.NoteLaws.{notes-closed, none-below}
 use Rattle.account.proofs.Admits.{Bounded, admits}
 use Rattle.account.proofs.FirstPoint.{Opens, range-passes, partition-sums, order-within, rounds-within}
 use Rattle.account.proofs.Advance.{wrote-long, wrote-factors, handed, advanced}
 
 -- ---- what is carried
+
+-- the notes are those of some history; Tally.antt says of which
+pub record Noted (r : Run) : Type 0 where
+  pub latest : Latest
+  pub steps : List Float
+  pub are : r .notes ≡ keptNotes latest steps
 
 -- the state and the memory stay those of the opening
 pub record Held (o : Opening) (here : Point) : Type 0 where
@@ -46,6 +57,7 @@ pub record Held (o : Opening) (here : Point) : Type 0 where
   pub ip1 : stray (o .n) (here .memory .factors .ip1) ≡ false
   pub ip2 : stray (o .n) (here .memory .factors .ip2) ≡ false
   pub within : WithinAt (here .run .stage) (here .run)
+  pub noted : Noted (here .run)
   pub matches : Matches (here .run .stage) (here .request) (here .place)
   pub lands : Lands [] (replied (here .run .stage) (here .run))
   pub reports : Reports (here .request) (here .run)
@@ -86,6 +98,7 @@ module _ (o : Opening) (none : NoneHolds (openingRows o)) where
         lu = c .lu;
         accepted = c .accepted;
         rejected = c .rejected;
+        strides = ap (λ (k : Notes). strideBelow (k .strides)) (h .noted .are) ∙ none-below (h .noted .steps);
       }
 
   running-bounded : (here : Point) (m : Memory) → Held o here → askingAt (here .run .stage) .ended ≡ false
@@ -144,6 +157,19 @@ module _ (o : Opening) (none : NoneHolds (openingRows o)) where
     unfolding Within
     within-next = everywhere (bounds-closed (a .reply) (kept .mass) (kept .jac)) (h .within)
 
+    noted-next : Noted (l .core .call .run)
+    unfolding latestEvents stepEvents
+    noted-next =
+        let was = h .noted in
+        record {
+          latest = latestEvents (l .core .memory) (l .log) (was .latest);
+          steps = stepEvents (l .log) (was .steps);
+          are =
+              everywhere
+              (notes-closed (l .core .memory) (was .latest) (was .steps) (a .reply) (kept .mass) (kept .jac))
+              (was .are);
+        }
+
     lands-there : Lands (l .log) (asked (l .core .call))
     lands-there = everywhere (lands-closed (a .reply) (kept .mass) (kept .jac)) (h .lands)
 
@@ -166,6 +192,7 @@ module _ (o : Opening) (none : NoneHolds (openingRows o)) where
           ip1 = p .0;
           ip2 = p .1;
           within = within-next;
+          noted = noted-next;
           matches = c .matches;
           lands = lands-next (l .log) (l .core .call) lands-there;
           reports = reports-next;
@@ -182,6 +209,10 @@ module _ (o : Opening) (here : Point) (p : Opens o here) where
   unfolding Reports
   reports-first = rw (p .request) tt
 
+  noted-first : Noted (here .run)
+  unfolding keptOf stridesOf keptStrides
+  noted-first = record { latest = never; steps = []; are = p .notes }
+
   pub held-first : Held o here
   held-first =
       record {
@@ -194,6 +225,7 @@ module _ (o : Opening) (here : Point) (p : Opens o here) where
         within = bounds-first (here .run) (p .stage) (p .counts) (p .control)
             (subst (λ (s : Settings). 1 ≤ s .«newton_maxiter») (sym (p .settings)) (rounds-within o (p .none) .0))
             (subst (λ (k : ℕ). 1 ≤ k) (sym (p .order)) (order-within o (p .none) .0));
+        noted = noted-first;
         matches = matches-first;
         lands = lands-first (here .run) (p .stage) (p .control);
         reports = reports-first;

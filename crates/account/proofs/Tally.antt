@@ -34,6 +34,7 @@ use Rattle.account.specs.Reading.{Standing, standingAt, pastEvents, past
 use Rattle.account.specs.Reading.{Progress, progressAt, progressEvents, progressReply}
 use Rattle.account.specs.Truth.{AllTrue, TrueIn, EventsTrue}
 use Rattle.account.specs.Latest.{latestEvents, latestIn, latestOf, keptOf}
+use Rattle.account.specs.Strides.{stepEvents, stepsIn, stepsOf, stridesOf, keptStrides, notesOf}
 use Rattle.account.specs.Account.{Ledger}
 use Rattle.solve_blocks.proofs.AdvanceWhole.{wholeOf}
 use Rattle.solve_blocks.proofs.Rules.{replied, asked}
@@ -44,7 +45,7 @@ use Rattle.account.proofs.Flow.{Flows, flow-closed, flow-start, flow-en
 use Rattle.account.proofs.StandingKept.{Stands, marksOf, pastAnswer, stands-start, stands-closed, stands-end}
 use Rattle.account.proofs.EventsTrue.{Grounds, AskedAt, Where, TrueAt, true-closed}
 use Rattle.account.proofs.EventsTrue.{true-end, replied-from, rounds-asked}
-use Rattle.account.proofs.LatestLaws.{latest-closed}
+use Rattle.account.proofs.NoteLaws.{notes-closed}
 use Rattle.account.proofs.Ledgers.{ledger-start, ledger-closed, ledger-end}
 use Rattle.account.proofs.FirstPoint.{Opens, order-within}
 use Rattle.account.proofs.Advance.{handed, advanced}
@@ -84,7 +85,7 @@ pub record Tallied (o : Opening) (j : Journal) : Type 0 where
   pub tries : j .point .run .counts .total ≡ progressAt (j .turns) .attempts
   pub here : AskedAt o (standingAt (j .turns)) (progressAt (j .turns)) (j .point .run .stage) (j .point .run)
   pub truths : EventsTrue o j
-  pub latest : j .point .run .notes .singular ≡ keptOf (latestOf j)
+  pub notes : j .point .run .notes ≡ notesOf j
   pub ledger : Ledger (o .settings .rule) j
 
 -- ---- a request is of one kind
@@ -266,11 +267,11 @@ module _ (o : Opening) (none : NoneHolds (openingRows o)) (j : Journal) (a : Act
   unfolding TrueIn
   truths-next = (true-there .truth, t .truths)
 
-  latest-next : l .core .call .run .notes .singular ≡ keptOf (latestOf (advanced j a))
-  unfolding latestEvents latestIn
-  latest-next =
+  notes-next : l .core .call .run .notes ≡ notesOf (advanced j a)
+  unfolding latestEvents latestIn stepEvents stepsIn
+  notes-next =
       everywhere o none j a h fair
-      (latest-closed (l .core .memory) (latestOf j) (a .reply) (given .mass) (given .jac)) (t .latest)
+      (notes-closed (l .core .memory) (latestOf j) (stepsOf j) (a .reply) (given .mass) (given .jac)) (t .notes)
 
   tries-next : l .core .call .run .counts .total ≡ progressAt (advanced j a .turns) .attempts
   unfolding progressAt
@@ -368,7 +369,7 @@ module _ (o : Opening) (none : NoneHolds (openingRows o)) (j : Journal) (a : Act
         tries = tries-next;
         here = here-next;
         truths = truths-next;
-        latest = latest-next;
+        notes = notes-next;
         ledger = ledger-next;
       }
 
@@ -393,9 +394,9 @@ module _ (o : Opening) (j : Journal) (p : Opens o (j .point)) (start : j .turns 
   unfolding TrueIn
   truths-first = rw start tt
 
-  latest-first : j .point .run .notes .singular ≡ keptOf (latestOf j)
-  unfolding latestIn keptOf
-  latest-first = rw (p .notes, start) refl
+  notes-first : j .point .run .notes ≡ notesOf j
+  unfolding latestIn keptOf stepsIn stridesOf keptStrides
+  notes-first = rw (p .notes, start) refl
 
   here-first : AskedAt o (standingAt (j .turns)) (progressAt (j .turns)) (j .point .run .stage) (j .point .run)
   unfolding AskedAt standingAt
@@ -430,6 +431,6 @@ module _ (o : Opening) (j : Journal) (p : Opens o (j .point)) (start : j .turns 
         tries = rw (p .counts, start) refl;
         here = here-first;
         truths = truths-first;
-        latest = latest-first;
+        notes = notes-first;
         ledger = ledger-first;
       }

@@ -17,6 +17,7 @@ use Rattle.account.specs.Reading.{one, many, Question, questions, isRepo
 use Rattle.account.specs.Reading.{standingAt, countsOf}
 use Rattle.account.specs.Truth.{EventsTrue}
 use Rattle.account.specs.Latest.{LatestKept}
+use Rattle.account.specs.Strides.{notesOf, StridesKept}
 use Rattle.account.specs.Account.{Strategy, FairHost, EndsWithin, Over, Limits, Ends, Lands, Ledger}
 use Rattle.account.specs.Points.{Fresh}
 use Rattle.account.specs.Demand.{most, Demand3}
@@ -24,7 +25,7 @@ use Rattle.account.proofs.Flow.{endsWith}
 use Rattle.account.proofs.Journals.{ends-proof, over-proof, counts-told-proof, attempts-told-proof}
 use Rattle.account.proofs.Journals.{reports-told-proof, limits-proof, statuses-proof, success-exactly-proof}
 use Rattle.account.proofs.Journals.{not-yet-proof, success-lands-proof, events-true-proof, ledger-proof}
-use Rattle.account.proofs.Journals.{latest-kept-proof}
+use Rattle.account.proofs.Journals.{latest-kept-proof, notes-kept-proof, strides-kept-proof}
 use Rattle.account.proofs.Fresh.{fresh-proof}
 use Rattle.account.proofs.Demand.{demand-3-proof}
 use Rattle.account.proofs.Exists.{sample, end, success-journal, success-reached}
@@ -74,6 +75,16 @@ events-true = events-true-proof
 -- the elimination of that very matrix of its pass stops there.
 pub latest-kept : (o : Opening) (j : Journal) → JournalOf o j → LatestKept o j
 latest-kept = latest-kept-proof
+
+-- At every point of every journal the run keeps the smallest and the largest |h| over the attempts that its history
+-- says were accepted, each with the h held then; a NaN is passed over, and both are told as +0 where there is nothing
+-- else.
+pub strides-kept : (o : Opening) (j : Journal) → JournalOf o j → StridesKept j
+strides-kept = strides-kept-proof
+
+-- Both together: all that the run keeps for its result is in its history.
+pub notes-kept : (o : Opening) (j : Journal) → JournalOf o j → j .point .run .notes ≡ notesOf j
+notes-kept = notes-kept-proof
 
 -- Every attempt comes to one end, unless it is open, and every error solve is judged once.
 pub ledger : (o : Opening) (j : Journal) → JournalOf o j → Ledger (o .settings .rule) j

@@ -11,33 +11,36 @@ use mathlib.Core.Logic.{_↔_}
 use Rattle.state.specs.declared.settings.Rule.the-variants as rule
 use Rattle.state.specs.declared.run.Counts.{Counts}
 use Rattle.state.specs.declared.run.Run.{Run}
-use Rattle.state.specs.declared.run.Singular.{Singular}
+use Rattle.state.specs.declared.run.Notes.{Notes}
 use Rattle.state.specs.declared.run.Status.{Status}
 use Rattle.state.specs.declared.run.Status.the-variants.{Success}
 use Rattle.state.specs.declared.talk.IntegrationResult.{IntegrationResult}
 use Rattle.state.specs.declared.talk.Result.the-variants as result
+use Rattle.state.specs.Numbers.{smallestStride, largestStride}
 use Rattle.state.specs.Result.{blameOf, resultOf}
 use Rattle.opening.specs.Rows.{Opening}
 use Rattle.account.specs.Journal.{Journal}
 use Rattle.account.specs.Reading.{countsOf, standingAt, mostRequests}
 use Rattle.account.specs.Truth.{EventsTrue}
-use Rattle.account.specs.Latest.{latestOf, keptOf}
+use Rattle.account.specs.Strides.{notesOf}
 use Rattle.account.specs.Account.{Strategy, played, Answered, Ledger}
 
 -- the requests that a run can come to
 abbrev pub most : Opening → ℕ
 most o = mostRequests (o .settings .source) (o .n) (o .settings .«max_steps») (o .settings .«newton_maxiter»)
 
--- what is told of a run that ended: where it stands, with this status, these counts and this latest singular
--- decomposition
-abbrev pub tells : Run → Status → Counts → Singular → IntegrationResult
-tells r s c latest =
+-- what is told of a run that ended: where it stands, with this status, these counts and what these notes say: its
+-- latest singular decomposition and its strides
+abbrev pub tells : Run → Status → Counts → Notes → IntegrationResult
+tells r s c notes =
     record {
       h = r .numbers .h;
       x = r .numbers .x;
       status = s;
       counts = c;
-      blame = blameOf s (record { singular = latest });
+      blame = blameOf s notes;
+      smallest = smallestStride (notes .strides);
+      largest = largestStride (notes .strides);
     }
 
 pub record Demand3 (o : Opening) (start : Journal) (h : Strategy) : Type 0 where
@@ -45,12 +48,12 @@ pub record Demand3 (o : Opening) (start : Journal) (h : Strategy) : Type 0 where
   pub advances : ℕ
   pub few : advances < most o
   pub answered : (i : ℕ) → i < advances → Answered (played h start i) (h (played h start i))
-  -- its result has a status, and the counts and the latest singular decomposition of its history
+  -- its result has a status, and the counts, the latest singular decomposition and the strides of its history
   pub end : Journal
   pub at : end ≡ played h start advances
   pub status : Status
   pub result : resultOf (end .point .run)
-      ≡ result.Ended (tells (end .point .run) status (countsOf end) (keptOf (latestOf end)))
+      ≡ result.Ended (tells (end .point .run) status (countsOf end) (notesOf end))
   -- of that history every event is true, and every attempt and every error solve is accounted for
   pub events : EventsTrue o end
   pub ledger : Ledger (o .settings .rule) end

@@ -154,7 +154,7 @@ advanceLeft k value words doubles told at m =
 
 -- ---- the result
 
--- the number, and nine numbers and two floats
+-- the number, and nine numbers and four floats
 pub record Ended : Type 0 where
   pub number : ℕ
   pub numbers : List ℕ
@@ -176,9 +176,12 @@ endNumbers e =
     ∷ blameColumn (e .blame)
     ∷ []
 
+abbrev pub endFloats : IntegrationResult → List Float
+endFloats e = e .h ∷ e .x ∷ e .smallest ∷ e .largest ∷ []
+
 -- 29, which document 01 does not use, where the run has not ended
 unfoldable pub ofResult : Result → List ℕ → List Float → Ended
-ofResult (result.Ended e) numbers floats = ended 0 (endNumbers e) (e .h ∷ e .x ∷ [])
+ofResult (result.Ended e) numbers floats = ended 0 (endNumbers e) (endFloats e)
 ofResult result.NotEnded numbers floats = ended 29 numbers floats
 
 abbrev pub resultLeft : List ℕ → List Float → List ℕ → List Float → Ended

@@ -188,14 +188,14 @@ pub extern "C" fn elchepur_advance(
     tell_answer(answer, words, doubles, told, at)
 }
 
-// Tells the result of a run that has ended: 0, with the status, the counts and what status 5 blames, h and x; 29 where
-// it has not.
+// Tells the result of a run that has ended: 0, with the status, the counts and what status 5 blames, h, x and the two
+// strides; 29 where it has not.
 #[no_mangle]
 pub extern "C" fn elchepur_result(
     words: &[usize; WORDS],
     doubles: &[f64; DOUBLES],
     numbers: &mut [u64; 9],
-    floats: &mut [f64; 2],
+    floats: &mut [f64; 4],
 ) -> u64
     ensures { λ r. ⌜ ended r (now (numbers .exit)) (now (floats .exit))
         ≡ resultLeft (now (words .entry)) (now (doubles .entry)) (now (numbers .entry)) (now (floats .entry)) ⌝ }

@@ -181,7 +181,7 @@ fn end_numbers(result: IntegrationResult) -> [u64; 9]
 }
 
 // Writes the result of a run that has ended.
-pub fn tell_result(result: Result, numbers: &mut [u64; 9], floats: &mut [f64; 2]) -> u64
+pub fn tell_result(result: Result, numbers: &mut [u64; 9], floats: &mut [f64; 4]) -> u64
     ensures { λ r. ⌜ ended r (now (numbers .exit)) (now (floats .exit))
         ≡ ofResult result (now (numbers .entry)) (now (floats .entry)) ⌝ }
 {
@@ -190,7 +190,7 @@ pub fn tell_result(result: Result, numbers: &mut [u64; 9], floats: &mut [f64; 2]
         Result::Ended(end) => {
             let words = end_numbers(end);
             *numbers = words;
-            *floats = [end.h, end.x];
+            *floats = [end.h, end.x, end.smallest, end.largest];
             0
         }
     }

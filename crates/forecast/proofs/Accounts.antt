@@ -8,7 +8,7 @@ use lib.ListN.{length}
 use lib.Ieee.{Float}
 use Rattle.state.specs.declared.run.Counts.{Counts}
 use Rattle.state.specs.declared.run.Run.{Run}
-use Rattle.state.specs.declared.run.Singular.{Singular}
+use Rattle.state.specs.declared.run.Notes.{Notes}
 use Rattle.state.specs.declared.run.Status.{Status}
 use Rattle.state.specs.declared.talk.IntegrationResult.{IntegrationResult}
 use Rattle.state.specs.declared.talk.Opened.{Opened}
@@ -18,14 +18,16 @@ use Rattle.state.specs.declared.talk.Place.the-variants.{Nowhere}
 use Rattle.state.specs.declared.talk.Request.{Request}
 use Rattle.state.specs.declared.talk.Request.the-variants as request
 use Rattle.state.specs.Memory.{Memory}
+use Rattle.state.specs.Numbers.{smallestStride, largestStride}
 use Rattle.state.specs.Result.{blameOf}
 use Rattle.opening.specs.Rows.{Opening}
 use Rattle.opening.specs.Opening.{openingOutcome, openOf}
 use Rattle.history.specs.History.{Point, point}
 use Rattle.account.specs.Journal.{Journal, journal, JournalOf}
-use Rattle.account.specs.Latest.{latestOf, keptOf}
+use Rattle.account.specs.Strides.{stepsOf, smallestOf, largestOf, notesOf}
 use Rattle.account.specs.Account.{played, Limits}
-use Rattle.account.proofs.Theorems.{counts-told, latest-kept, limits, statuses}
+use Rattle.account.specs.Demand as demand
+use Rattle.account.proofs.Theorems.{counts-told, notes-kept, strides-kept, limits, statuses}
 use Rattle.solve_whole.specs.Talk.{World, Talk, offered}
 use Rattle.solve_whole.proofs.Talks.{one-end}
 use Rattle.solve_whole.proofs.Theorems.{solve-offered}
@@ -64,13 +66,7 @@ module _ (m : Model) (valid : Valid m) (r : Run) (q : Request) (p : Place) (memo
 
   -- the result of the run is told
   result-told : e .result
-      ≡ record {
-        h = runs .run .numbers .h;
-        x = runs .run .numbers .x;
-        status = runs .talks .status;
-        counts = runs .run .counts;
-        blame = blameOf (runs .talks .status) (runs .run .notes);
-      }
+      ≡ demand.tells (runs .run) (runs .talks .status) (runs .run .counts) (runs .run .notes)
   result-told = let is = ap (λ (f : Forecast). f .ending) (runs .told) in cc
 
   status : e .result .status ≡ runs .talks .status
@@ -92,13 +88,25 @@ module _ (m : Model) (valid : Valid m) (r : Run) (q : Request) (p : Place) (memo
   same-counts =
       ap (λ (here : Point). here .run .counts) last ∙ sym (ap (λ (x : IntegrationResult). x .counts) result-told)
 
-  -- the latest singular decomposition, as the run keeps it and as its journal has it
-  same-blame : e .result .blame ≡ blameOf (e .result .status) (record { singular = keptOf (latestOf played-to) })
+  -- the notes, as the run keeps them and as its journal has them
+  notes-are : runs .run .notes ≡ played-to .point .run .notes
+  notes-are = sym (ap (λ (here : Point). here .run .notes) last)
+
+  same-blame : e .result .blame ≡ blameOf (e .result .status) (notesOf played-to)
   same-blame =
       ap (λ (x : IntegrationResult). x .blame) result-told
       ∙ ap (λ (s : Status). blameOf s (runs .run .notes)) (sym status)
-      ∙ ap (λ (latest : Singular). blameOf (e .result .status) (record { singular = latest }))
-      (sym (ap (λ (here : Point). here .run .notes .singular) last) ∙ latest-kept o played-to of .kept)
+      ∙ ap (blameOf (e .result .status)) (notes-are ∙ notes-kept o played-to of)
+
+  same-smallest : e .result .smallest ≡ smallestOf (stepsOf played-to)
+  same-smallest =
+      ap (λ (x : IntegrationResult). x .smallest) result-told
+      ∙ ap (λ (n : Notes). smallestStride (n .strides)) notes-are ∙ strides-kept o played-to of .smallest
+
+  same-largest : e .result .largest ≡ largestOf (stepsOf played-to)
+  same-largest =
+      ap (λ (x : IntegrationResult). x .largest) result-told
+      ∙ ap (λ (n : Notes). largestStride (n .strides)) notes-are ∙ strides-kept o played-to of .largest
 
   few : k < mostOf o
   few =
@@ -125,6 +133,8 @@ module _ (m : Model) (valid : Valid m) (r : Run) (q : Request) (p : Place) (memo
         last = last;
         counts = sym same-counts ∙ counts-told o played-to of;
         blame = same-blame;
+        smallest = same-smallest;
+        largest = same-largest;
         status = λ t. statuses o played-to of (e .result .status) t (ap (λ (here : Point). here .request) last);
         limits =
             subst (λ (x : Request). Limits (o .settings) (e .result .counts) x)

@@ -128,6 +128,8 @@ stillForecast =
           status = StepSizeTooSmall;
           counts = counts 1 1 2 1 0 0;
           blame = Untold;
+          smallest = double 0;
+          largest = double 0;
         };
         species = 1;
       });

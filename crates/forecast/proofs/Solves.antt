@@ -21,10 +21,11 @@ use Rattle.state.specs.declared.talk.Opened.{Opened}
 use Rattle.state.specs.declared.talk.Opened.the-variants as opened
 use Rattle.state.specs.declared.talk.Result.the-variants as result
 use Rattle.state.specs.Memory.{Memory, zeros, noughts}
-use Rattle.state.specs.Result.{blameOf, resultAt, resultOf}
+use Rattle.state.specs.Result.{resultAt, resultOf}
 use Rattle.opening.specs.Rows.{Opening, opening}
 use Rattle.opening.specs.Opening.{openingOutcome, openOf}
 use Rattle.history.specs.History.{Point, point}
+use Rattle.account.specs.Demand as demand
 use Rattle.solve_whole.specs.Talk.{World, offered}
 use Rattle.solve_whole.proofs.Talks.{one-end}
 use Rattle.sheet.specs.Sheet as sheet
@@ -79,14 +80,7 @@ module _ (m : sheet.Model) (valid : Valid m) where
 
   -- the result of an ended run, and a forecast that tells it with k amounts
   abbrev endOf : Run → Status → IntegrationResult
-  endOf e s =
-      record {
-        h = e .numbers .h;
-        x = e .numbers .x;
-        status = s;
-        counts = e .counts;
-        blame = blameOf s (e .notes);
-      }
+  endOf e s = demand.tells e s (e .counts) (e .notes)
 
   abbrev tells : IntegrationResult → ℕ → List Float → Forecast
   tells i k y = record { ending = ending.Ended (record { result = i; species = k }); amounts = y ++ zeros (32 - k) }

@@ -17,7 +17,7 @@ use Rattle.opening.specs.Opening.{openingOutcome, openOf}
 use Rattle.history.specs.History.{Point, point}
 use Rattle.account.specs.Journal.{Journal, JournalOf}
 use Rattle.account.specs.Journal as begun
-use Rattle.account.specs.Latest.{latestOf, keptOf}
+use Rattle.account.specs.Strides.{stepsOf, smallestOf, largestOf, notesOf}
 use Rattle.account.specs.Reading.{says, sameStatus, countsOf, mostRequests}
 use Rattle.account.specs.Account.{Strategy, played, Limits}
 use Rattle.solve_whole.specs.Talk.{World}
@@ -54,10 +54,12 @@ pub record Accounted (m : Model) (e : Reached) (y : List Float) : Type 0 where
   pub is : journal ≡ played (strategyOf m) (begun.journal start []) (length (world .exchanges))
   pub of : JournalOf (openingFor m) journal
   pub last : journal .point ≡ point run (request.Ended (e .result .status)) Nowhere (world .memory)
-  -- its counts are told, and with status 5 its latest singular decomposition; of the five conditions it meets that of
-  -- the told status alone; and the counts are within their limits
+  -- its counts are told, with status 5 its latest singular decomposition, and the smallest and the largest |h| that it
+  -- accepted; of the five conditions it meets that of the told status alone; and the counts are within their limits
   pub counts : e .result .counts ≡ countsOf journal
-  pub blame : e .result .blame ≡ blameOf (e .result .status) (record { singular = keptOf (latestOf journal) })
+  pub blame : e .result .blame ≡ blameOf (e .result .status) (notesOf journal)
+  pub smallest : e .result .smallest ≡ smallestOf (stepsOf journal)
+  pub largest : e .result .largest ≡ largestOf (stepsOf journal)
   pub status : (t : Status) → says t (journal .turns) ≡ sameStatus (e .result .status) t
   pub limits : Limits (openingFor m .settings) (e .result .counts) (request.Ended (e .result .status))
 

@@ -19,10 +19,10 @@ use Rattle.state.specs.declared.talk.Request.{Request}
 use Rattle.state.specs.declared.talk.Request.the-variants as request
 use Rattle.state.specs.Settings.{defaultsOf}
 use Rattle.state.specs.Memory.{Memory, zeros}
-use Rattle.state.specs.Result.{blameOf}
 use Rattle.opening.specs.Rows.{Opening, opening}
 use Rattle.opening.specs.Opening.{openOf}
 use Rattle.history.specs.Host.{Action}
+use Rattle.account.specs.Demand.{tells}
 use Rattle.history.specs.History.{Point, point}
 use Rattle.solve_whole.specs.Talk.{Host, World, offered, TalksTo}
 use Rattle.model.specs.Model.{reaction, derivativeOf}
@@ -92,13 +92,7 @@ abbrev pub endedAt : Run → Status → List Float → Forecast
 endedAt e s y =
     record {
       ending = ending.Ended (record {
-        result = record {
-          h = e .numbers .h;
-          x = e .numbers .x;
-          status = s;
-          counts = e .counts;
-          blame = blameOf s (e .notes);
-        };
+        result = tells e s (e .counts) (e .notes);
         species = length y;
       });
       amounts = y ++ zeros (32 - length y);

@@ -32,6 +32,8 @@ fn never(run: Run) -> IntegrationResult
         status: Status::StepSizeTooSmall,
         counts,
         blame: Blame::Untold,
+        smallest: 0.0,
+        largest: 0.0,
     }
 }
 

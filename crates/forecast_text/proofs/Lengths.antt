@@ -1,4 +1,4 @@
--- No forecast is printed with more than 735 bytes: so the lent 1,024 always suffice.
+-- No forecast is printed with more than 771 bytes: so the lent 1,024 always suffice.
 use Prim.Native.Nat.{ℕ, _*_, _≤_}
 use mathlib.Core.Path.{_≡_, refl}
 use mathlib.Core.List.{List, [], _∷_}
@@ -56,7 +56,7 @@ status-few r =
       numeral-few (c .lu),
     ))
 
-ending-few : (e : Ending) (ys : List Float) → length ys ≡ 32 → length (endingText e ys) ≤ 735
+ending-few : (e : Ending) (ys : List Float) → length ys ≡ 32 → length (endingText e ys) ≤ 771
 unfolding endingText text
 ending-few (ending.Ended e) ys h =
     simp length-append
@@ -64,6 +64,8 @@ ending-few (ending.Ended e) ys h =
       arith,
       simp length-append at (status-few (e .result)),
       length-float (e .result .x),
+      length-float (e .result .smallest),
+      length-float (e .result .largest),
       length-amounts (take (e .species) ys),
       length-take (e .species) ys,
     ))
@@ -72,7 +74,7 @@ ending-few (ending.Malformed k) ys h = simp length-append (omega (arith, numeral
 ending-few ending.TooLong ys h = omega arith
 
 -- an array of amounts has 32 of them
-pub printed-few-proof : (f : Forecast) → length (f .amounts) ≡ 32 → length (printedOf f) ≤ 735
+pub printed-few-proof : (f : Forecast) → length (f .amounts) ≡ 32 → length (printedOf f) ≤ 771
 printed-few-proof f h = ending-few (f .ending) (f .amounts) h
 
 -- what `print` is to ensure, where the bytes of the ending were put from the start

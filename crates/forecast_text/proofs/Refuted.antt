@@ -12,7 +12,7 @@ use Rattle.forecast_text.specs.declared.ending.Forecast.{Forecast}
 use Rattle.forecast_text.specs.declared.ending.Reached.{Reached}
 use Rattle.forecast_text.specs.declared.ending.Ending.{Ending}
 use Rattle.forecast_text.specs.declared.ending.Ending.the-variants as ending
-use Rattle.forecast_text.specs.Printed.{text, widthIn, floatOf, statusLine, amountsText}
+use Rattle.forecast_text.specs.Printed.{text, widthIn, floatOf, statusLine, amountsText, strideLine}
 use Rattle.forecast_text.specs.Printed.{reachedText, endingText, printedOf}
 use Rattle.forecast_text.proofs.Samples.{one, told, ended}
 
@@ -52,7 +52,7 @@ signed x = pick (ne x x) (hexOf 0xfff8_0000_0000_0000) (floatOf x)
 abbrev pub ownBits : Ending → List Float → List ℕ
 ownBits =
     atEnd (λ e amounts. statusLine (e .result) ++ text "x " ++ signed (e .result .x) ++ text "\ny"
-    ++ amountsText (take (e .species) amounts) ++ text "\n")
+    ++ amountsText (take (e .species) amounts) ++ text "\n" ++ strideLine (e .result))
 
 -- the byte behind `x `: an f, where a 7 is wanted
 pub own-bits : Meets (by ownBits) → ⊥
@@ -68,6 +68,19 @@ allAmounts = atEnd (λ e amounts. reachedText (record { result = e .result; spec
 pub all-amounts : Meets (by allAmounts) → ⊥
 unfolding endingText text amountsText widthIn digits byteOf power pick ne ofBits toBits over
 all-amounts = shut-out (by allAmounts) (ended one 1) 95 32 10 refl refl (λ e. omega arith)
+
+-- ---- the largest stride first
+
+abbrev pub largestFirst : Ending → List Float → List ℕ
+largestFirst =
+    atEnd (λ e amounts. statusLine (e .result) ++ text "x " ++ floatOf (e .result .x) ++ text "\ny"
+    ++ amountsText (take (e .species) amounts) ++ text "\nh " ++ floatOf (e .result .largest) ++ text " "
+    ++ floatOf (e .result .smallest) ++ text "\n")
+
+-- the third digit behind `h `: an f, where a 5 is wanted
+pub largest-first : Meets (by largestFirst) → ⊥
+unfolding endingText text amountsText widthIn digits byteOf power pick ne ofBits toBits over
+largest-first = shut-out (by largestFirst) (ended one 1) 100 102 53 refl refl (λ e. omega arith)
 
 -- ---- the number 20 without its line
 

@@ -2,6 +2,7 @@
 -- the three kinds of refusal.
 use Prim.Native.Nat.{ℕ}
 use mathlib.Core.Path.{_≡_, refl}
+use mathlib.Core.List.{_++_}
 use lib.Ieee.{Float, nan, ne, ofBits, toBits}
 use lib.ListN.{replicate}
 use Rattle.words.specs.Words.{double}
@@ -25,21 +26,31 @@ one = double 0x3ff0_0000_0000_0000
 abbrev pub told : Ending → Forecast
 told e = record { ending = e; amounts = replicate 32 one }
 
--- the end of a run with these counts, at x, with so many amounts, each 1
+-- the end of a run with these counts, at x, with so many amounts, each 1, and strides from 2^-10 to 1
 abbrev pub ended : Float → ℕ → Forecast
 ended x n =
     told (ending.Ended (record {
-      result = record { h = one; x = x; status = Success; counts = counted; blame = Untold };
+      result = record {
+        h = one;
+        x = x;
+        status = Success;
+        counts = counted;
+        blame = Untold;
+        smallest = double 0x3f50_0000_0000_0000;
+        largest = one;
+      };
       species = n;
     }))
 
 pub decayed-printed : printedOf (ended one 1)
     ≡ text "status 0 accepted 8 rejected 0 total 8 ode 33 jac 8 lu 24\nx 3ff0000000000000\ny 3ff0000000000000\n"
+    ++ text "h 3f50000000000000 3ff0000000000000\n"
 unfolding endingText text amountsText widthIn digits byteOf power pick ne ofBits toBits
 decayed-printed = refl
 
 pub nan-printed : printedOf (ended nan 0)
     ≡ text "status 0 accepted 8 rejected 0 total 8 ode 33 jac 8 lu 24\nx 7ff8000000000000\ny\n"
+    ++ text "h 3f50000000000000 3ff0000000000000\n"
 unfolding endingText text amountsText widthIn digits byteOf power pick ne ofBits toBits
 nan-printed = refl
 

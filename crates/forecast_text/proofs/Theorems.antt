@@ -7,6 +7,6 @@ use Rattle.forecast_text.specs.declared.ending.Forecast.{Forecast}
 use Rattle.forecast_text.specs.Printed.{printedOf}
 use Rattle.forecast_text.proofs.Lengths.{printed-few-proof}
 
--- No forecast of 32 amounts, as an array of them has, is printed with more than 735 bytes.
-pub printed-few : (f : Forecast) → length (f .amounts) ≡ 32 → length (printedOf f) ≤ 735
+-- No forecast of 32 amounts, as an array of them has, is printed with more than 771 bytes.
+pub printed-few : (f : Forecast) → length (f .amounts) ≡ 32 → length (printedOf f) ≤ 771
 printed-few = printed-few-proof

@@ -1,6 +1,6 @@
 -- The bytes that are printed of a forecast (01, 'Sheet and program'): 'status, six counts, the point reached, all
--- amounts on one line; one space between, a NaN as 7ff8000000000000'; or `refused` and the number, with the line after
--- 20. Each line is ended by LF.
+-- amounts on one line; one space between, a NaN as 7ff8000000000000', then the two strides (02, [7]); or `refused` and
+-- the number, with the line after 20. Each line is ended by LF.
 use Prim.Native.Nat.{ℕ, zero, suc, _+_, _/_}
 use Prim.Native.Char.{code}
 use Prim.Native.String.{String, [] as nothing, _∷_ as _then_}
@@ -52,11 +52,15 @@ unfoldable pub amountsText : List Float → List ℕ
 amountsText [] = []
 amountsText (y ∷ ys) = text " " ++ floatOf y ++ amountsText ys
 
+-- the smallest and the largest stride
+abbrev pub strideLine : IntegrationResult → List ℕ
+strideLine r = text "h " ++ floatOf (r .smallest) ++ text " " ++ floatOf (r .largest) ++ text "\n"
+
 -- all amounts, of those that stand in the array
 abbrev pub reachedText : Reached → List Float → List ℕ
 reachedText e amounts =
     statusLine (e .result) ++ text "x " ++ floatOf (e .result .x) ++ text "\n" ++ text "y"
-    ++ amountsText (take (e .species) amounts) ++ text "\n"
+    ++ amountsText (take (e .species) amounts) ++ text "\n" ++ strideLine (e .result)
 
 unfoldable pub endingText : Ending → List Float → List ℕ
 endingText (ending.Ended e) amounts = reachedText e amounts

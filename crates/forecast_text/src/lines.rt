@@ -6,7 +6,8 @@ ghost use mathlib.Core.List.{_++_};
 ghost use lib.Dec.{ltb};
 ghost use lib.ListN.{length, take};
 ghost use Rattle.words.specs.Loop.{pick};
-ghost use Rattle.forecast_text.specs.Printed.{text, numeralOf, floatOf, statusLine, amountsText, reachedText};
+ghost use Rattle.forecast_text.specs.Printed.{text, numeralOf, floatOf, statusLine, amountsText, strideLine};
+ghost use Rattle.forecast_text.specs.Printed.{reachedText};
 ghost use Rattle.forecast_text.specs.Put.{Put};
 use crate::digits::ROOM;
 use crate::digits::put_float;
@@ -94,6 +95,18 @@ fn put_amounts(out: &mut [u8; ROOM], from: usize, amounts: [f64; MOST], species:
     at
 }
 
+// The line of the smallest and the largest stride.
+fn put_strides(out: &mut [u8; ROOM], from: usize, result: IntegrationResult) -> usize
+    requires { ⌜ from + 36 ≤ 1024 ⌝ }
+    ensures { λ r. ⌜ Put from (strideLine result) (now (out .entry)) (now (out .exit)) r ⌝ }
+{
+    let mut at = put_text(out, from, b"h ");
+    at = put_float(out, at, result.smallest);
+    at = put_text(out, at, b" ");
+    at = put_float(out, at, result.largest);
+    put_text(out, at, b"\n")
+}
+
 // All that is printed of the end of a run.
 pub fn put_reached(out: &mut [u8; ROOM], reached: Reached, amounts: [f64; MOST]) -> usize
     ensures { λ r. ⌜ Put 0 (reachedText reached amounts) (now (out .entry)) (now (out .exit)) r ⌝ }
@@ -104,5 +117,6 @@ pub fn put_reached(out: &mut [u8; ROOM], reached: Reached, amounts: [f64; MOST])
     at = put_float(out, at, result.x);
     at = put_text(out, at, b"\ny");
     at = put_amounts(out, at, amounts, reached.species);
-    put_text(out, at, b"\n")
+    at = put_text(out, at, b"\n");
+    put_strides(out, at, result)
 }

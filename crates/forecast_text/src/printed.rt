@@ -11,7 +11,7 @@ use crate::lines::put_reached;
 use crate::lines::put_text;
 use state::refusal_number;
 
-// Puts the bytes over the first of `out` and returns how many they are: no more than 735. The others stay as they were.
+// Puts the bytes over the first of `out` and returns how many they are: no more than 771. The others stay as they were.
 pub fn print(forecast: Forecast, out: &mut [u8; 1024]) -> usize
     ensures { λ r. ⌜ now (out .exit) ≡ over (printedOf forecast) (now (out .entry)) ⌝ }
     ensures { λ r. ⌜ (r ≡ length (printedOf forecast)) × (r ≤ 1024) ⌝ }

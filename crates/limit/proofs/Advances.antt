@@ -88,7 +88,8 @@ module _ (M : ℕ) (r : Run) (p : Reply) (m : Memory) (more : r .settings .«max
         (over _ _ (below-more _ _ (r .counts .accepted) more (none 17 (omega arith)))
         (over _ _ (below-more _ _ (r .counts .rejected) (omega (arith, more)) (none 18 (omega arith)))
         (over _ _ (none 19 (omega arith))
-        (over _ _ (none 20 (omega arith)) no-row))))))))))))))))))))
+        (over _ _ (none 20 (omega arith))
+        (over _ _ (none 21 (omega arith)) no-row)))))))))))))))))))))
 
 -- ---- the settings are kept
 

@@ -44,7 +44,7 @@ use Rattle.solve_blocks.specs.Entries.{massAt, jacAt, rtolAt, atolAt, combined}
 use Rattle.solve_blocks.specs.Estimate.{defectAt, defectOf, rowAt, rowSum, sideAt, sidesOf}
 use Rattle.solve_blocks.specs.Estimate.{solvedFirst, errorAt, errorOf, plusAt, sumAt}
 use Rattle.solve_blocks.specs.Jacobian.{askJacobianBy, perturbation, askColumnOf, columnOf}
-use Rattle.solve_blocks.specs.Judge.{facOf, between, quotOf, predictiveQuot, moveAt, movedOf}
+use Rattle.solve_blocks.specs.Judge.{facOf, between, quotOf, predictiveQuot, withStride, moveAt, movedOf}
 use Rattle.solve_blocks.specs.Judge.{rejectedOf, judgedOf, testedOf, estimateOf, refinedOf}
 use Rattle.solve_blocks.specs.Matrices.{failedOf, buildAt, buildRow, builtOf}
 use Rattle.solve_blocks.specs.Matrices.{complexTriedOf, realTriedOf, triedOf, passesOf}
@@ -157,7 +157,8 @@ unfolding talkBy goes at put loop pick halve absOf maxOf minOf clampOf signumOf 
     convertedOf newtonTolOf startedOf returnedOf concludeOf repliedOf calledOf advanceBy stageSumAt askStageOf guessed
     guessAt guessOf beganOf attemptOf massAt jacAt rtolAt atolAt combined defectAt defectOf rowAt rowSum sideAt
     sidesOf solvedFirst errorAt errorOf plusAt sumAt askJacobianBy perturbation askColumnOf columnOf facOf between
-    quotOf predictiveQuot moveAt movedOf rejectedOf judgedOf testedOf estimateOf refinedOf failedOf buildAt buildRow
+    quotOf predictiveQuot withStride moveAt movedOf rejectedOf judgedOf testedOf
+    estimateOf refinedOf failedOf buildAt buildRow
     builtOf complexTriedOf realTriedOf triedOf passesOf transformAt massSumAt massSums addSums massAddAt rightSides
     solvedOf normAt dynoOf updatedOf concludedOf slowRound slowedOf predictedOf rateOf pacedOf judgedRound roundOf
     againOf isDue askReport reportedOf isInterrupt hnewOf grownOf renewedOf arrivedOf scaleAt scaledOf divideAt

@@ -3,13 +3,17 @@
 -- written there; M is max_steps, K newton_maxiter. Settings are tested as they were given, floats that are not finite
 -- aside (row 3 is opening's), so a NaN that passes rows 4 to 8 is fit and the arithmetic goes on.
 use Prim.Native.Nat.{ℕ, _+_, _*_}
-use mathlib.Core.Bool.{Bool, true, false, not, _&&_, Bool·beq}
+use mathlib.Core.Bool.{Bool, true, false, not, _&&_, _||_, Bool·beq}
 use mathlib.Core.List.{List, [], _∷_, _++_}
 use lib.Dec.{ltb, eqb}
+use lib.Ieee.{lt}
+use Rattle.words.specs.Constants.{«0·0»}
 use Rattle.opening.specs.declared.admission.Asking.{Asking}
 use Rattle.state.specs.declared.run.Run.{Run}
 use Rattle.state.specs.declared.run.Stage.{Stage}
 use Rattle.state.specs.declared.run.Stage.the-variants as stage
+use Rattle.state.specs.declared.run.Strides.{Strides}
+use Rattle.state.specs.declared.run.Strides.the-variants as strides
 use Rattle.state.specs.declared.talk.Reply.{Reply}
 use Rattle.state.specs.declared.talk.Reply.the-variants as reply
 use Rattle.state.specs.declared.talk.Refusal.the-variants.{Unfit, HasEnded, WrongReply}
@@ -80,7 +84,12 @@ stateRows r ip1 ip2 =
     ∷ unfit (stray (r .shape .n) ip2)
     ∷ []
 
--- ode, jac or lu above 2+3(K+1)M, 6(M+1), 13M+12; accepted above M; rejected above 2M
+-- 'neither is negative' (02, [7]): a NaN and -0 are not, and where there is none both are +0
+abbrev pub strideBelow : Strides → Bool
+strideBelow strides.None = false
+strideBelow (strides.Between smallest largest) = lt smallest «0·0» || lt largest «0·0»
+
+-- ode, jac or lu above 2+3(K+1)M, 6(M+1), 13M+12; accepted above M; rejected above 2M; a stride negative
 abbrev pub countRows : Run → List Test
 countRows r =
     unfit (ltb (2 + 3 * (r .settings .«newton_maxiter» + 1) * r .settings .«max_steps») (r .counts .ode))
@@ -88,6 +97,7 @@ countRows r =
     ∷ unfit (ltb (13 * r .settings .«max_steps» + 12) (r .counts .lu))
     ∷ unfit (ltb (r .settings .«max_steps») (r .counts .accepted))
     ∷ unfit (ltb (2 * r .settings .«max_steps») (r .counts .rejected))
+    ∷ unfit (strideBelow (r .notes .strides))
     ∷ []
 
 -- 14 and 15

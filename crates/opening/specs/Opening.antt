@@ -20,6 +20,7 @@ use Rattle.state.specs.declared.run.Counts.{Counts}
 use Rattle.state.specs.declared.run.Control.{Control}
 use Rattle.state.specs.declared.run.Numbers.{Numbers}
 use Rattle.state.specs.declared.run.Singular.the-variants as singular
+use Rattle.state.specs.declared.run.Strides.the-variants as strides
 use Rattle.state.specs.declared.run.Notes.{Notes}
 use Rattle.state.specs.declared.run.Run.{Run}
 use Rattle.state.specs.declared.run.Stage.the-variants.{FirstDerivative}
@@ -117,9 +118,9 @@ firstNumbers x h =
       xout = number.Absent;
     }
 
--- nothing is decomposed yet (02, [3])
+-- nothing is decomposed yet (02, [3]), and nothing accepted (02, [7])
 abbrev pub firstNotes : Notes
-firstNotes = record { singular = singular.None }
+firstNotes = record { singular = singular.None; strides = strides.None }
 
 -- [radau.rs:291-293]
 unfoldable pub firstRun : Settings → ℕ → Float → Float → Conversion → Run

@@ -10,6 +10,7 @@ use crate::checks::vectors_fit;
 use crate::checks::with_test;
 use state::run::Run;
 use state::run::Stage;
+use state::run::Strides;
 use state::stray_pivot;
 use state::talk::Refusal;
 use state::talk::Reply;
@@ -19,7 +20,7 @@ ghost use Prim.Native.Nat.{_≤_, _+_, _*_};
 ghost use mathlib.Core.List.{_++_};
 ghost use Rattle.state.specs.Memory.{memory, amounts, newton, given, factors, differences};
 ghost use Rattle.opening.specs.Rows.{verdictOf, rangeRows};
-ghost use Rattle.opening.specs.Admission.{unfitOf, allUnfit, asking, askingAt, answersReport};
+ghost use Rattle.opening.specs.Admission.{unfitOf, allUnfit, asking, askingAt, answersReport, strideBelow};
 ghost use Rattle.opening.specs.Admission.{shapeRows, stateRows, countRows, replyRows, admissionRows};
 
 // What is open at a stage: whether the run has ended, whether a report is asked, and the column of a
@@ -124,7 +125,17 @@ fn check_state(run: Run, ip1: &[usize], ip2: &[usize]) -> Verdict
     with_test(verdict, stray_pivot(n, ip2), Refusal::Unfit)
 }
 
-// 13: the counts, against bounds of M and K that are known to be in range.
+// Whether either is negative: a NaN and -0 are not.
+fn stride_below(strides: Strides) -> bool
+    ensures { λ r. ⌜ r ≡ strideBelow strides ⌝ }
+{
+    match strides {
+        Strides::None => false,
+        Strides::Between(smallest, largest) => (smallest < 0.0) | (largest < 0.0),
+    }
+}
+
+// 13: the counts, against bounds of M and K that are known to be in range, and the strides.
 fn check_counts(run: Run) -> Verdict
     requires { ⌜ (run .settings .«max_steps» ≤ 1_000_000) × (run .settings .«newton_maxiter» ≤ 16) ⌝ }
     ensures { λ r. ⌜ r ≡ verdictOf (countRows run) ⌝ }
@@ -140,7 +151,10 @@ fn check_counts(run: Run) -> Verdict
     let verdict = with_test(verdict, 6 * (m + 1) < counts.jac, Refusal::Unfit);
     let verdict = with_test(verdict, 13 * m + 12 < counts.lu, Refusal::Unfit);
     let verdict = with_test(verdict, m < counts.accepted, Refusal::Unfit);
-    with_test(verdict, 2 * m < counts.rejected, Refusal::Unfit)
+    let verdict = with_test(verdict, 2 * m < counts.rejected, Refusal::Unfit);
+    let notes = run.notes;
+    let strides = notes.strides;
+    with_test(verdict, stride_below(strides), Refusal::Unfit)
 }
 
 // The tests behind those of n and the lengths.

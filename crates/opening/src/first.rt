@@ -17,6 +17,7 @@ use state::run::Run;
 use state::run::Shape;
 use state::run::Singular;
 use state::run::Stage;
+use state::run::Strides;
 use state::settings::Mass;
 use state::settings::Number;
 use state::settings::Settings;
@@ -153,6 +154,7 @@ pub fn first_run(s: Settings, n: usize, x0: f64, xend: f64, conversion: Conversi
         stage: Stage::FirstDerivative,
         notes: Notes {
             singular: Singular::None,
+            strides: Strides::None,
         },
     }
 }

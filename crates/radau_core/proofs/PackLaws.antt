@@ -27,7 +27,7 @@ use Rattle.radau_core.specs.Choices.{flagOf, numberOf, wholeOf, massOf, 
 use Rattle.radau_core.specs.Choices.{flagWord, numberTag, numberValue, wholeTag, massWord, sourceWord, ruleWord}
 use Rattle.radau_core.specs.Choices.{tolerancesTag, rtolValue, atolValue}
 use Rattle.radau_core.specs.Places.{_#_, runAt, wordsOf, doublesOf, Sized}
-use Rattle.radau_core.proofs.PlaceLaws.{stage-back, singular-back}
+use Rattle.radau_core.proofs.PlaceLaws.{stage-back, singular-back, strides-back}
 
 pub flag-held : (b : Bool) → flagOf (flagWord b) ≡ b
 flag-held true = refl
@@ -90,6 +90,7 @@ run-held r =
       whole-back (s .nind2),
       whole-back (s .nind3),
       singular-back (r .notes .singular),
+      strides-back (r .notes .strides),
     )
 
 pub run-sized : (r : Run) → Sized (wordsOf r) (doublesOf r)

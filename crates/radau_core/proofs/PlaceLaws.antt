@@ -3,6 +3,7 @@
 --     resized                 arrays of the same lengths
 --     stage-back              a stage is read as it was written
 --     singular-back           and so is the latest singular decomposition
+--     strides-back            and so are the strides
 --     flag-back, unflagged    a flag is read as it was written; denied twice it is itself
 --     flag-set, flag-clear    a flag that was tested
 --     run-back                the run of a step is the run
@@ -25,14 +26,16 @@ use Rattle.state.specs.declared.run.Stage.{Stage}
 use Rattle.state.specs.declared.run.Stage.the-variants as stage
 use Rattle.state.specs.declared.run.Singular.{Singular}
 use Rattle.state.specs.declared.run.Singular.the-variants as singular
+use Rattle.state.specs.declared.run.Strides.{Strides}
+use Rattle.state.specs.declared.run.Strides.the-variants as strides
 use Rattle.state.specs.declared.run.Status.{Status}
 use Rattle.state.specs.declared.run.Status.the-variants as status
-use Rattle.state.specs.Numbers.{statusNumber, singularKind, singularColumn}
+use Rattle.state.specs.Numbers.{statusNumber, singularKind, singularColumn, smallestStride, largestStride}
 use Rattle.solve_blocks.specs.Matrices.{runOf}
 use Rattle.radau_core.specs.declared.step.Step.{Step}
 use Rattle.radau_core.specs.declared.step.Step.the-variants.{Asked, Main, Matrices, Attempt}
 use Rattle.radau_core.specs.Choices.{flagOf, statusOf, stageOf, stageTag, stagePart}
-use Rattle.radau_core.specs.Choices.{singularOf}
+use Rattle.radau_core.specs.Choices.{singularOf, stridesOf, stridesTag}
 use Rattle.radau_core.specs.Places.{Sized, stepAt}
 
 -- ---- an array is the list of its entries
@@ -50,11 +53,11 @@ from {A} z l i (suc k) h =
     (ap (λ (j : ℕ). drop j l) (sym (add-one i)) ∙ from z l (i + 1) k (omega arith))
 
 module _ {w : List ℕ} {d : List Float} (sized : Sized w d) where
-  pub words-at : w ≡ entries 0 w 0 41
-  words-at = from 0 w 0 41 (omega (arith, sized .words))
+  pub words-at : w ≡ entries 0 w 0 42
+  words-at = from 0 w 0 42 (omega (arith, sized .words))
 
-  pub doubles-at : d ≡ entries nan d 0 29
-  doubles-at = from nan d 0 29 (omega (arith, sized .doubles))
+  pub doubles-at : d ≡ entries nan d 0 31
+  doubles-at = from nan d 0 31 (omega (arith, sized .doubles))
 
   pub resized : {v : List ℕ} {e : List Float} → length v ≡ length w → length e ≡ length d → Sized v e
   resized p q = record { words = p ∙ sized .words; doubles = q ∙ sized .doubles }
@@ -86,6 +89,11 @@ unfolding singularOf pick
 singular-back singular.None = refl
 singular-back (singular.Real k) = refl
 singular-back (singular.Complex k) = refl
+
+pub strides-back : (s : Strides) → stridesOf (stridesTag s) (smallestStride s) (largestStride s) ≡ s
+unfolding stridesOf pick
+strides-back strides.None = refl
+strides-back (strides.Between smallest largest) = refl
 
 pub flag-back : (b : Bool) → flagOf (boolByte b) ≡ b
 flag-back true = refl

@@ -19,6 +19,8 @@ use Rattle.state.specs.declared.run.Tolerances.{Tolerances}
 use Rattle.state.specs.declared.run.Tolerances.the-variants as tolerances
 use Rattle.state.specs.declared.run.Singular.{Singular}
 use Rattle.state.specs.declared.run.Singular.the-variants as singular
+use Rattle.state.specs.declared.run.Strides.{Strides}
+use Rattle.state.specs.declared.run.Strides.the-variants as strides
 use Rattle.state.specs.declared.run.Status.{Status}
 use Rattle.state.specs.declared.run.Status.the-variants as status
 use Rattle.state.specs.declared.run.Stage.{Stage}
@@ -111,6 +113,11 @@ singularOf kind column =
     (pick (eqb kind 2) (singular.Complex column)
     singular.None)
 
+-- ---- the strides: whether there are any, the smallest and the largest
+
+unfoldable pub stridesOf : ℕ → Float → Float → Strides
+stridesOf given smallest largest = pick (eqb given 0) strides.None (strides.Between smallest largest)
+
 -- ---- written: the other is 1, and what is absent is 0
 
 abbrev pub flagWord : Bool → ℕ
@@ -128,6 +135,10 @@ numberValue (number.Given x) = x
 abbrev pub wholeTag : Whole → ℕ
 wholeTag whole.Absent = 0
 wholeTag (whole.Given k) = 1
+
+abbrev pub stridesTag : Strides → ℕ
+stridesTag strides.None = 0
+stridesTag (strides.Between smallest largest) = 1
 
 abbrev pub massWord : Mass → ℕ
 massWord mass.Identity = 0

@@ -15,7 +15,7 @@ use Rattle.state.specs.declared.run.Control.{Control}
 use Rattle.state.specs.declared.run.Numbers.{Numbers}
 use Rattle.state.specs.declared.run.Stage.{Stage}
 use Rattle.state.specs.declared.run.Notes.{Notes}
-use Rattle.state.specs.Numbers.{singularKind, singularColumn}
+use Rattle.state.specs.Numbers.{singularKind, singularColumn, smallestStride, largestStride}
 use Rattle.state.specs.Settings.{orNone}
 use Rattle.solve_blocks.specs.declared.step.Call as theCall
 use Rattle.solve_blocks.specs.declared.step.Step as theStep
@@ -34,7 +34,7 @@ use Rattle.radau_core.specs.declared.step.Heard.the-variants as held
 use Rattle.radau_core.specs.Choices.{flagOf, numberOf, wholeOf, massOf, sourceOf, ruleOf, tolerancesOf, stageOf}
 use Rattle.radau_core.specs.Choices.{stageTag, stagePart, flagWord, numberTag, numberValue, wholeTag}
 use Rattle.radau_core.specs.Choices.{massWord, sourceWord, ruleWord, tolerancesTag, rtolValue, atolValue}
-use Rattle.radau_core.specs.Choices.{singularOf}
+use Rattle.radau_core.specs.Choices.{singularOf, stridesOf, stridesTag}
 
 infixl 90 _#_
 abbrev pub _#_ : List ℕ → ℕ → ℕ
@@ -120,8 +120,8 @@ settingsAt w d = record {
 abbrev pub stageAt : List ℕ → Stage
 stageAt w = stageOf (w # 0) (w # 1)
 
-abbrev pub notesAt : List ℕ → Notes
-notesAt w = record { singular = singularOf (w # 39) (w # 40) }
+abbrev pub notesAt : List ℕ → List Float → Notes
+notesAt w d = record { singular = singularOf (w # 39) (w # 40); strides = stridesOf (w # 41) (d ! 29) (d ! 30) }
 
 abbrev pub runAt : List ℕ → List Float → Run
 runAt w d = record {
@@ -132,12 +132,12 @@ runAt w d = record {
   control = controlAt w;
   numbers = numbersAt w d;
   stage = stageAt w;
-  notes = notesAt w;
+  notes = notesAt w d;
 }
 
 pub record Sized (w : List ℕ) (d : List Float) : Type 0 where
-  pub words : length w ≡ 41
-  pub doubles : length d ≡ 29
+  pub words : length w ≡ 42
+  pub doubles : length d ≡ 31
 
 -- ---- where `solve` stands
 
@@ -204,6 +204,7 @@ wordsOf r =
     ∷ flagWord (r .control .«made_here»)
     ∷ singularKind (r .notes .singular)
     ∷ singularColumn (r .notes .singular)
+    ∷ stridesTag (r .notes .strides)
     ∷ []
 
 abbrev pub doublesOf : Run → List Float
@@ -237,4 +238,6 @@ doublesOf r =
     ∷ numberValue (r .settings .«min_step»)
     ∷ numberValue (r .settings .«newton_tol»)
     ∷ numberValue (r .settings .«first_step»)
+    ∷ smallestStride (r .notes .strides)
+    ∷ largestStride (r .notes .strides)
     ∷ []

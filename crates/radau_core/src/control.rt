@@ -1,6 +1,7 @@
 // The step that the error asks for, and what an acceptance or a rejection leaves in the run
 // (radau.rs:671-697, 780-795).
 use crate::entries::as_float;
+use crate::notes::strode;
 use crate::passes::missed;
 use crate::places::ACCEPTED;
 use crate::places::DOUBLES;
@@ -103,6 +104,7 @@ fn accepted_point(words: &mut [usize; WORDS], doubles: &mut [f64; DOUBLES])
     doubles[XOLD] = doubles[X];
     doubles[HOLD] = doubles[H];
     doubles[X] = doubles[XPH];
+    strode(words, doubles);
 }
 
 pub fn accepted(words: &mut [usize; WORDS], doubles: &mut [f64; DOUBLES], err: f64, quot: f64)

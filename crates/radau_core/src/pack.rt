@@ -5,6 +5,7 @@ use crate::kept::shape_at;
 use crate::kept::source_mode;
 use crate::kept::tolerances_at;
 use crate::notes::notes_at;
+use crate::notes::strides_tag;
 use crate::places::ACCEPTED;
 use crate::places::CALL_DECOMP;
 use crate::places::CALL_JAC;
@@ -69,8 +70,10 @@ use crate::places::XPH;
 use crate::stage::stage_at;
 use crate::stage::stage_part;
 use crate::stage::stage_tag;
+use state::numbers::largest_stride;
 use state::numbers::singular_column;
 use state::numbers::singular_kind;
+use state::numbers::smallest_stride;
 use state::run::Control;
 use state::run::Counts;
 use state::run::Fixed;
@@ -212,6 +215,7 @@ pub fn words_of(run: Run) -> [usize; WORDS]
     let rule = s.rule;
     let notes = run.notes;
     let singular = notes.singular;
+    let strides = notes.strides;
     [
         stage_tag(stage),
         stage_part(stage),
@@ -254,6 +258,7 @@ pub fn words_of(run: Run) -> [usize; WORDS]
         flag_word(c.made_here),
         singular_kind(singular),
         singular_column(singular),
+        strides_tag(strides),
     ]
 }
 
@@ -270,6 +275,8 @@ pub fn doubles_of(run: Run) -> [f64; DOUBLES]
     let min_step = s.min_step;
     let newton_tol = s.newton_tol;
     let first_step = s.first_step;
+    let notes = run.notes;
+    let strides = notes.strides;
     [
         v.x,
         v.xold,
@@ -300,6 +307,8 @@ pub fn doubles_of(run: Run) -> [f64; DOUBLES]
         number_value(min_step),
         number_value(newton_tol),
         number_value(first_step),
+        smallest_stride(strides),
+        largest_stride(strides),
     ]
 }
 
@@ -420,6 +429,6 @@ pub fn run_at(words: &[usize; WORDS], doubles: &[f64; DOUBLES]) -> Run
         control: control_at(words),
         numbers: numbers_at(words, doubles),
         stage: stage_at(words),
-        notes: notes_at(words),
+        notes: notes_at(words, doubles),
     }
 }

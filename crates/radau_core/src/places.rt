@@ -1,8 +1,8 @@
-// The places of a run: 41 whole numbers in one array and 29 doubles in another, each at a place with a name, changed
+// The places of a run: 42 whole numbers in one array and 31 doubles in another, each at a place with a name, changed
 // where they stand. specs/Places.antt says which run two such arrays hold.
-pub const WORDS: usize = 41;
+pub const WORDS: usize = 42;
 
-pub const DOUBLES: usize = 29;
+pub const DOUBLES: usize = 31;
 
 // ---- whole numbers that an advance changes
 pub const STAGE: usize = 0;
@@ -95,6 +95,9 @@ pub const SINGULAR: usize = 39;
 
 pub const COLUMN: usize = 40;
 
+// Whether there are strides: SMALLEST and LARGEST, which refusal 13 tests.
+pub const STRIDES: usize = 41;
+
 // ---- doubles that an advance changes
 pub const X: usize = 0;
 
@@ -155,3 +158,8 @@ pub const GIVEN_MIN_STEP: usize = 26;
 pub const GIVEN_NEWTON_TOL: usize = 27;
 
 pub const GIVEN_FIRST_STEP: usize = 28;
+
+// ---- the notes
+pub const SMALLEST: usize = 29;
+
+pub const LARGEST: usize = 30;

@@ -23,9 +23,10 @@ use state::run::Shape;
 use state::run::Singular;
 use state::run::Stage;
 use state::run::Status;
+use state::run::Strides;
 use state::talk::Reply;
 
-pub const WORDS: usize = 44;
+pub const WORDS: usize = 48;
 
 // The row of the summary, and 01's number of the verdict, 0 where the advance is admitted.
 const OUTCOME: usize = 19;
@@ -69,6 +70,13 @@ const ODD_PIVOT: usize = 41;
 
 // What the floats of the state are that no test looks at, and the column of its notes.
 const FLOATS: usize = 43;
+
+// Whether there are strides, the smallest and the largest.
+const STRIDES: usize = 44;
+
+const SMALLEST: usize = 45;
+
+const LARGEST: usize = 46;
 
 // The entries of an array that holds the pivots of up to 33 amounts, and one more.
 pub const ROOM: usize = 34;
@@ -239,22 +247,24 @@ impl Case {
         }
     }
 
-    // Any notes are fit: a column of n or more too.
-    fn notes(self) -> Notes {
+    // Any is fit: a column of n or more too.
+    fn singular(self) -> Singular {
         let words = self.words;
         let column = words[FLOATS] as usize;
         let kind = words[FLOATS] % 3;
         match kind {
-            0 => Notes {
-                singular: Singular::None,
-            },
-            1 => Notes {
-                singular: Singular::Real(column),
-            },
-            _ => Notes {
-                singular: Singular::Complex(column),
-            },
+            0 => Singular::None,
+            1 => Singular::Real(column),
+            _ => Singular::Complex(column),
         }
+    }
+
+    fn strides(self) -> Strides {
+        let words = self.words;
+        if words[STRIDES] == 0 {
+            return Strides::None;
+        }
+        Strides::Between(double(words[SMALLEST]), double(words[LARGEST]))
     }
 
     pub fn run(self) -> Run {
@@ -267,7 +277,10 @@ impl Case {
             control: self.control(),
             numbers: self.numbers(),
             stage: self.stage(),
-            notes: self.notes(),
+            notes: Notes {
+                singular: self.singular(),
+                strides: self.strides(),
+            },
         }
     }
 }

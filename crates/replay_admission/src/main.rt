@@ -42,7 +42,7 @@ fn main() {
     let names = b"n fit:\nn unfit:\nlengths unfit:\nsettings fit:\nsettings unfit:\n\
         partition fit:\npartition unfit:\nattempts fit:\nattempts unfit:\n\
         rounds fit:\nrounds unfit:\ncolumn fit:\ncolumn unfit:\nsingular count fit:\nsingular count unfit:\n\
-        pivots fit:\npivots unfit:\ncounts fit:\ncounts unfit:\ntwo clauses:\n13 before 14:\n13 before 15:\n\
-        ended 14:\nreplies admitted:\nreplies 15:\nuntested:\n";
+        pivots fit:\npivots unfit:\ncounts fit:\ncounts unfit:\nstrides fit:\nstrides unfit:\n\
+        two clauses:\n13 before 14:\n13 before 15:\nended 14:\nreplies admitted:\nreplies 15:\nuntested:\n";
     write_summary(replayed(names), names);
 }

@@ -144,7 +144,7 @@ fn asked_end(head: u64, n: usize) -> usize {
         1 => FLOATS + 1 + vector_length(n),
         2 => FLOATS + 1 + matrix_length(n),
         3 => FLOATS + 2 + told(head % 16, n),
-        4 => FLOATS + 10,
+        4 => FLOATS + 12,
         _ => FLOATS,
     }
 }

@@ -76,6 +76,8 @@ fn met_end(found: Found, ended: IntegrationResult, words: [u64; ASKED]) -> Found
     met_counts(step, ended.counts, words)
         .compared(blame_kind(blame) as u64, words[FLOATS + 8])
         .compared(blame_column(blame) as u64, words[FLOATS + 9])
+        .double(ended.smallest, words[FLOATS + 10])
+        .double(ended.largest, words[FLOATS + 11])
 }
 
 fn met_result(found: Found, run: Run, words: [u64; ASKED]) -> Found {
@@ -119,7 +121,7 @@ fn met_talk(found: Found, talk: Talk, words: [u64; ASKED]) -> Found {
 }
 
 // The values are compared in this order: the digest of memory, the request's kind, place and flag, then its floats, or
-// at the end h, x, the six counts and the singular matrix that is blamed, with its column.
+// at the end h, x, the six counts, the singular matrix that is blamed, with its column, and the two strides.
 pub fn met(outcome: CallOutcome, n: usize, words: [u64; ASKED]) -> Found {
     let memory = outcome.memory;
     let talk = outcome.talk;

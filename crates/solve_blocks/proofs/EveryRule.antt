@@ -472,7 +472,7 @@ module _ (r : Run) (p : Reply) (m : Memory) (admits : verdictOf (admissionRows r
   there = receivedOf r p m .core
 
   going : askingAt (r .stage) .ended ≡ false
-  going = verdict-first (admissionRows r p m) .1 .0 admits 19 (omega arith)
+  going = verdict-first (admissionRows r p m) .1 .0 admits 20 (omega arith)
 
   shaped : runOf (there .step) .shape ≡ r .shape
   unfolding KeptAt

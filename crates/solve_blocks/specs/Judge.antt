@@ -4,24 +4,26 @@ use mathlib.Core.Bool.{false, _&&_, _||_}
 use mathlib.Core.List.{List, [], _∷_}
 use lib.Dec.{ltb}
 use lib.ListN.{set}
-use lib.Ieee.{Float, le}
+use lib.Ieee.{Float, le, isNan}
 use Rattle.words.specs.Words.{_⊕_, _⊖_, _⊗_, _⊘_, _!_}
 use Rattle.words.specs.Constants.{«1·0», «2·0», «0·1», «1e-2»}
 use Rattle.words.specs.Loop.{loop, pick}
-use Rattle.scalar.specs.Order.{maxOf, minOf}
+use Rattle.scalar.specs.Order.{absOf, maxOf, minOf}
 use Rattle.scalar.specs.Powers.{quarterOf}
 use Rattle.scalar.specs.Coefficients.{C1, C2, C1M1, C2M1, C1MC2}
 use Rattle.state.specs.declared.settings.Settings.{Settings}
 use Rattle.state.specs.declared.run.Run.{Run}
 use Rattle.state.specs.declared.run.Stage.the-variants as stage
+use Rattle.state.specs.declared.run.Strides.{Strides}
+use Rattle.state.specs.declared.run.Strides.the-variants as strides
 use Rattle.state.specs.declared.talk.Place.the-variants.{YToF0, ContToF1}
 use Rattle.state.specs.Memory.{Newton}
 use Rattle.solve_blocks.specs.declared.step.Call.{Call}
 use Rattle.solve_blocks.specs.declared.step.Step.{Step}
 use Rattle.solve_blocks.specs.declared.step.Step.the-variants as step
-use Rattle.solve_blocks.specs.Setters.{_▸_, inCounts, inControl, inNumbers}
+use Rattle.solve_blocks.specs.Setters.{_▸_, inCounts, inControl, inNumbers, inNotes}
 use Rattle.solve_blocks.specs.Setters.{oneLu, oneAccepted, oneRejected, setFirst, setHere, setX, setXold}
-use Rattle.solve_blocks.specs.Setters.{setH, setHold, setHnew, setHhfac, setHAcc, setErrAcc}
+use Rattle.solve_blocks.specs.Setters.{setH, setHold, setHnew, setHhfac, setHAcc, setErrAcc, setStrides}
 use Rattle.solve_blocks.specs.Events.{error-solve, failed, accepted, Logged, logged, quiet, noted}
 use Rattle.solve_blocks.specs.Entries.{asFloat, Three, three}
 use Rattle.solve_blocks.specs.Matrices.{askDerivative, missedOf}
@@ -91,6 +93,15 @@ remembered err r =
     (r ▸ inNumbers (setHAcc (r .numbers .h)) ▸ inNumbers (setErrAcc (maxOf err «1e-2»)))
     r
 
+-- the smallest and the largest with one stride more (02, [7]): 'a NaN is passed over', which minOf and maxOf do too
+unfoldable pub withStride : Float → Strides → Strides
+withStride a strides.None = pick (isNan a) strides.None (strides.Between a a)
+withStride a (strides.Between smallest largest) = strides.Between (minOf smallest a) (maxOf largest a)
+
+-- 'h is the one held when the attempt is accepted'
+abbrev pub strode : Run → Run
+strode r = r ▸ inNotes (setStrides (withStride (absOf (r .numbers .h)) (r .notes .strides)))
+
 -- what every acceptance leaves in the run, whatever its error was
 abbrev pub acceptedPoint : Run → Run
 acceptedPoint r =
@@ -103,6 +114,7 @@ acceptedPoint r =
     ▸ inNumbers (setXold (r .numbers .x))
     ▸ inNumbers (setHold (r .numbers .h))
     ▸ inNumbers (setX (r .numbers .xph))
+    ▸ strode
 
 unfoldable pub acceptedOf : Run → Float → Float → Run
 acceptedOf r err quot =

@@ -8,6 +8,7 @@ use Rattle.state.specs.declared.run.Control.{Control}
 use Rattle.state.specs.declared.run.Numbers.{Numbers}
 use Rattle.state.specs.declared.run.Stage.{Stage}
 use Rattle.state.specs.declared.run.Singular.{Singular}
+use Rattle.state.specs.declared.run.Strides.{Strides}
 use Rattle.state.specs.declared.run.Notes.{Notes}
 use Rattle.state.specs.declared.run.Run.{Run}
 
@@ -436,4 +437,7 @@ setXout v n =
 -- ---- notes
 
 abbrev pub setLatest : Singular → Notes → Notes
-setLatest v n = record { singular = v }
+setLatest v n = record { singular = v; strides = n .strides }
+
+abbrev pub setStrides : Strides → Notes → Notes
+setStrides v n = record { singular = n .singular; strides = v }

@@ -11,6 +11,8 @@ use Rattle.state.proofs.numbers.singular_kind as singular-kind
 use Rattle.state.proofs.numbers.singular_column as singular-column
 use Rattle.state.proofs.numbers.blame_kind as blame-kind
 use Rattle.state.proofs.numbers.blame_column as blame-column
+use Rattle.state.proofs.numbers.smallest_stride as smallest-stride
+use Rattle.state.proofs.numbers.largest_stride as largest-stride
 use Rattle.state.proofs.run.Run.result as result
 use Rattle.state.proofs.run.Run.held_step as held-step
 use Rattle.state.proofs.run.blamed as blamed
@@ -41,6 +43,14 @@ blame-kind-once κs a = (tt, λ o p. one-result (o .1))
 pub blame-column-once
     : Settles blame-column.Kinds.ps blame-column.Kinds.r blame-column.Reads.Asked blame-column.Reads.Post
 blame-column-once κs a = (tt, λ o p. one-result (o .1))
+
+pub smallest-stride-once
+    : Settles smallest-stride.Kinds.ps smallest-stride.Kinds.r smallest-stride.Reads.Asked smallest-stride.Reads.Post
+smallest-stride-once κs a = (tt, λ o p. one-result (o .1))
+
+pub largest-stride-once
+    : Settles largest-stride.Kinds.ps largest-stride.Kinds.r largest-stride.Reads.Asked largest-stride.Reads.Post
+largest-stride-once κs a = (tt, λ o p. one-result (o .1))
 
 pub result-once : Settles result.Kinds.ps result.Kinds.r result.Reads.Asked result.Reads.Post
 result-once κs a = (tt, λ o p. one-result (o .1))

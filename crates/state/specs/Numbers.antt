@@ -1,10 +1,14 @@
--- Document 01's numbers: of each refusal ('Numbers that refuse') and of each status ('Statuses'); and of a singular
--- decomposition (02, [3]) which matrix it was of, and the column.
+-- Document 01's numbers: of each refusal ('Numbers that refuse') and of each status ('Statuses'); of a singular
+-- decomposition (02, [3]) which matrix it was of, and the column; and the two strides (02, [7]).
 use Prim.Native.Nat.{ℕ}
+use lib.Ieee.{Float}
+use Rattle.words.specs.Constants.{«0·0»}
 use Rattle.state.specs.declared.run.Singular.{Singular}
 use Rattle.state.specs.declared.run.Singular.the-variants as singular
 use Rattle.state.specs.declared.run.Status.{Status}
 use Rattle.state.specs.declared.run.Status.the-variants as status
+use Rattle.state.specs.declared.run.Strides.{Strides}
+use Rattle.state.specs.declared.run.Strides.the-variants as strides
 use Rattle.state.specs.declared.talk.Blame.{Blame}
 use Rattle.state.specs.declared.talk.Blame.the-variants as blame
 use Rattle.state.specs.declared.talk.Refusal.{Refusal}
@@ -54,3 +58,12 @@ blameKind (blame.Latest s) = singularKind s
 abbrev pub blameColumn : Blame → ℕ
 blameColumn blame.Untold = 0
 blameColumn (blame.Latest s) = singularColumn s
+
+-- 'with none accepted both are +0'
+abbrev pub smallestStride : Strides → Float
+smallestStride strides.None = «0·0»
+smallestStride (strides.Between smallest largest) = smallest
+
+abbrev pub largestStride : Strides → Float
+largestStride strides.None = «0·0»
+largestStride (strides.Between smallest largest) = largest

@@ -1,4 +1,5 @@
--- The result, which only an ended run gives: h, the point reached, the status, the six counts and the blame.
+-- The result, which only an ended run gives: h, the point reached, the status, the six counts, the blame and the
+-- strides.
 use Rattle.state.specs.declared.run.Notes.{Notes}
 use Rattle.state.specs.declared.run.Run.{Run}
 use Rattle.state.specs.declared.run.Stage.{Stage}
@@ -9,6 +10,7 @@ use Rattle.state.specs.declared.talk.Blame.{Blame}
 use Rattle.state.specs.declared.talk.Blame.the-variants as blame
 use Rattle.state.specs.declared.talk.Result.{Result}
 use Rattle.state.specs.declared.talk.Result.the-variants as result
+use Rattle.state.specs.Numbers.{smallestStride, largestStride}
 
 -- only a status 5 tells of the latest singular decomposition (02, [3])
 abbrev pub blameOf : Status → Notes → Blame
@@ -18,7 +20,7 @@ blameOf status.NeedLargerNMax n = blame.Untold
 blameOf status.StepSizeTooSmall n = blame.Untold
 blameOf status.SingularMatrix n = blame.Latest (n .singular)
 
--- the Rust's result, with the point and the blame beside it [radau.rs:798]
+-- the Rust's result, with the point, the blame and the strides beside it [radau.rs:798]
 unfoldable pub resultAt : Run → Stage → Result
 resultAt r stage.FirstDerivative = result.NotEnded
 resultAt r stage.FirstReport = result.NotEnded
@@ -39,6 +41,8 @@ resultAt r (stage.Ended s) =
       status = s;
       counts = r .counts;
       blame = blameOf s (r .notes);
+      smallest = smallestStride (r .notes .strides);
+      largest = largestStride (r .notes .strides);
     })
 
 abbrev pub resultOf : Run → Result

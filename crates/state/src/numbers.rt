@@ -1,9 +1,11 @@
-// Document 01's numbers of a status and of a refusal, and 02's of a singular decomposition.
+// Document 01's numbers of a status and of a refusal, and 02's of a singular decomposition and of the strides.
 ghost use mathlib.Core.Path.{_≡_};
 ghost use Rattle.state.specs.Numbers.{refusalNumber, statusNumber};
 ghost use Rattle.state.specs.Numbers.{singularKind, singularColumn, blameKind, blameColumn};
+ghost use Rattle.state.specs.Numbers.{smallestStride, largestStride};
 use crate::run::Singular;
 use crate::run::Status;
+use crate::run::Strides;
 use crate::talk::Blame;
 use crate::talk::Refusal;
 
@@ -57,6 +59,26 @@ pub fn blame_column(blame: Blame) -> usize
     match blame {
         Blame::Untold => 0,
         Blame::Latest(singular) => singular_column(singular),
+    }
+}
+
+// The smallest stride, and +0 where there is none.
+pub fn smallest_stride(strides: Strides) -> f64
+    ensures { λ r. ⌜ r ≡ smallestStride strides ⌝ }
+{
+    match strides {
+        Strides::None => 0.0,
+        Strides::Between(smallest, _) => smallest,
+    }
+}
+
+// The largest.
+pub fn largest_stride(strides: Strides) -> f64
+    ensures { λ r. ⌜ r ≡ largestStride strides ⌝ }
+{
+    match strides {
+        Strides::None => 0.0,
+        Strides::Between(_, largest) => largest,
     }
 }
 

@@ -1,4 +1,6 @@
 // The state of a run. It goes in by value and comes back by value; vectors, matrices and pivots lie in lent memory.
+use crate::numbers::largest_stride;
+use crate::numbers::smallest_stride;
 use crate::settings::Number;
 use crate::settings::Settings;
 use crate::talk::Blame;
@@ -114,10 +116,19 @@ pub enum Singular {
     Complex(usize),
 }
 
-// What a run keeps for its result alone: no decision reads it, and any value is fit.
+// The strides of a run: |h| of each accepted attempt, with the h held when it was accepted. A NaN is passed over.
+pub enum Strides {
+    // There was none, or nothing but NaN.
+    None,
+    // The smallest and the largest.
+    Between(f64, f64),
+}
+
+// What a run keeps for its result alone: no decision reads it but refusal 13's test of the strides.
 pub struct Notes {
     // The latest of the whole run, whatever was accepted since.
     pub singular: Singular,
+    pub strides: Strides,
 }
 
 pub struct Run {
@@ -147,8 +158,8 @@ pub fn blamed(status: Status, notes: Notes) -> Blame
 }
 
 impl Run {
-    // h, the point reached, the status, the counts and the blame of an ended run; of any other run nothing, so that no
-    // broken-off run passes for a result.
+    // h, the point reached, the status, the counts, the blame and the strides of an ended run; of any other run
+    // nothing, so that no broken-off run passes for a result.
     pub fn result(self) -> Result
         ensures { λ r. ⌜ r ≡ resultOf self ⌝ }
     {
@@ -156,6 +167,7 @@ impl Run {
         let numbers = self.numbers;
         let counts = self.counts;
         let notes = self.notes;
+        let strides = notes.strides;
         match stage {
             Stage::FirstDerivative => Result::NotEnded,
             Stage::FirstReport => Result::NotEnded,
@@ -175,6 +187,8 @@ impl Run {
                 status,
                 counts,
                 blame: blamed(status, notes),
+                smallest: smallest_stride(strides),
+                largest: largest_stride(strides),
             }),
         }
     }

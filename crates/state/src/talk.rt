@@ -104,13 +104,16 @@ pub enum Blame {
     Latest(Singular),
 }
 
-// What `solve` returns (methods/mod.rs, IntegrationResult), with the point reached and the blame.
+// What `solve` returns (methods/mod.rs, IntegrationResult), with the point reached, the blame and the strides.
 pub struct IntegrationResult {
     pub h: f64,
     pub x: f64,
     pub status: Status,
     pub counts: Counts,
     pub blame: Blame,
+    // Of the strides of the accepted attempts; both are +0 where there was none.
+    pub smallest: f64,
+    pub largest: f64,
 }
 
 pub enum Result {

@@ -14,11 +14,13 @@ add-with-test-2 c = omega (arith, product-small _ _ (c .before .pre .1) (c .befo
 
 returns : tie.Need-returns
 returns c =
-    let at-with-test3 = c .before .before .before .before in
+    let at-with-test5 = c .before .before .before in
+    let at-with-test3 = at-with-test5 .before .before .before .before in
     let at-with-test = at-with-test3 .before .before .before .before in
-    c .with-test5 .ensures _ (c .before .before .with-test4 .ensures _
-    (at-with-test3 .with-test3 .ensures _
-    (at-with-test3 .before .before .with-test2 .ensures _ (at-with-test .with-test .ensures _ no-test))))
+    rw (← c .before .stride-below .ensures)
+    (c .with-test6 .ensures _ (at-with-test5 .with-test5 .ensures _
+    (at-with-test5 .before .before .with-test4 .ensures _ (at-with-test3 .with-test3 .ensures _
+    (at-with-test3 .before .before .with-test2 .ensures _ (at-with-test .with-test .ensures _ no-test))))))
 
 pub check-counts-spec : {M : Type 1} → statement M
 check-counts-spec =
@@ -27,5 +29,5 @@ check-counts-spec =
     mul-with-test-2
     add-with-test-2 (λ c κs. search needs) (λ c. search needs) (λ c. search needs)
     (λ c κs. search needs) (λ c. search needs) (λ c. search needs) (λ c κs. search needs)
-    (λ c κs. search needs) (λ c. search needs) (λ c κs. search needs)
+    (λ c κs. search needs) (λ c. search needs) (λ c κs. search needs) (λ c κs. search needs) (λ c κs. search needs)
     returns)

@@ -5,11 +5,12 @@ use Rattle.state.specs.declared.run.Run.{Run}
 use Rattle.state.specs.declared.run.Stage.the-variants as stage
 use Rattle.state.specs.declared.talk.Place.{Place}
 use Rattle.state.specs.declared.talk.Request.{Request}
-use Rattle.state.specs.Memory.{Differences}
+use Rattle.state.specs.Memory.{Differences, differences}
 use Rattle.solve_blocks.specs.Setters.{atStage}
 use Rattle.solve_blocks.specs.Matrices.{call}
 use Rattle.solve_blocks.specs.Jacobian.{asking, askJacobianBy}
 use Rattle.solve_blocks.proofs.JacobianLaws.{asked-by}
+use Rattle.radau_core.specs.Places.{runAt}
 use Rattle.radau_core.proofs.jacobian.ask_jacobian.Statement.{statement}
 use Rattle.radau_core.proofs.jacobian.ask_jacobian.Tie as tie
 
@@ -33,9 +34,12 @@ unfolding askJacobianBy
 returns c =
     let at-enum-told = c .before .before .before in
     let at-wanted = at-enum-told .before .before in
-    let at-source-mode = at-wanted .before .before .before .before in (
+    let at-source-mode = at-wanted .before .before .before .before in
+    let a = at-source-mode .before .before .before .before .before .before .args in (
       c .at-stage .ensures .0,
-      asked-by _ _ _ (sym (at-source-mode .source-mode .ensures) ∙ at-enum-told .enum-told .given .1)
+      asked-by (runAt (a .words .now) (a .doubles .now)) (a .y .now)
+          (differences (a .y-perturbed .now) (a .f-perturbed .now) (a .f-origin .now))
+          (sym (at-source-mode .source-mode .ensures) ∙ at-enum-told .enum-told .given .1)
           (same-but-run (c .at-stage .ensures .1 ∙ ap (atStage stage.Jacobian) (at-wanted .wanted .ensures .1))),
     )
 

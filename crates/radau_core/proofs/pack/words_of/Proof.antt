@@ -6,7 +6,7 @@ use Rattle.radau_core.proofs.pack.words_of.Tie as tie
 
 returns : tie.Need-returns
 returns c =
-    let at-whole-word2 = c .before .before .before .before .before in
+    let at-whole-word2 = c .before .before .before .before .before .before in
     let at-whole-tag2 = at-whole-word2 .before in
     let at-whole-word = at-whole-tag2 .before in
     let at-whole-tag = at-whole-word .before in
@@ -66,11 +66,12 @@ returns c =
     ∷ at-whole-word .whole-word .ensures i
     ∷ at-whole-tag2 .whole-tag2 .ensures i
     ∷ at-whole-word2 .whole-word2 .ensures i
-    ∷ c .before .before .before .before .whole-tag3 .ensures i
-    ∷ c .before .before .before .whole-word3 .ensures i
-    ∷ c .before .before .flag-word8 .ensures i
-    ∷ c .before .singular-kind .ensures i
-    ∷ c .singular-column .ensures i
+    ∷ c .before .before .before .before .before .whole-tag3 .ensures i
+    ∷ c .before .before .before .before .whole-word3 .ensures i
+    ∷ c .before .before .before .flag-word8 .ensures i
+    ∷ c .before .before .singular-kind .ensures i
+    ∷ c .before .singular-column .ensures i
+    ∷ c .strides-tag .ensures i
     ∷ []
 
 pub words-of-spec : {M : Type 1} → statement M
@@ -81,4 +82,4 @@ words-of-spec =
     (λ c κs. search needs) (λ c κs. search needs) (λ c κs. search needs) (λ c κs. search needs) (λ c κs. search needs)
     (λ c κs. search needs) (λ c κs. search needs) (λ c κs. search needs) (λ c κs. search needs) (λ c κs. search needs)
     (λ c κs. search needs) (λ c κs. search needs) (λ c κs. search needs) (λ c κs. search needs) (λ c κs. search needs)
-    (λ c κs. search needs) (λ c κs. search needs) (λ c κs. search needs) returns)
+    (λ c κs. search needs) (λ c κs. search needs) (λ c κs. search needs) (λ c κs. search needs) returns)

@@ -54,7 +54,14 @@ returns-12 c = rw (c .enum-told12 .given .1)
 
 returns-13 : tie.Need-returns-13
 unfolding resultAt
-returns-13 c = rw (c .blamed .ensures, c .before .before .stage .given .1)
+returns-13 c =
+    let at-blamed = c .before .before in
+    rw (
+      c .largest-stride .ensures,
+      c .before .smallest-stride .ensures,
+      at-blamed .blamed .ensures,
+      at-blamed .before .before .stage .given .1,
+    )
 
 pub result-spec : {M : Type 1} → statement M
 result-spec =
@@ -62,6 +69,7 @@ result-spec =
     (tie.spec (λ c. search needs) (λ c. search needs) (λ c. search needs) (λ c. search needs) (λ c. search needs)
     (λ c. search needs) (λ c. search needs) (λ c. search needs) (λ c. search needs) (λ c. search needs)
     (λ c. search needs) (λ c. search needs) (λ c. search needs) (λ c κs. search needs)
+    (λ c κs. search needs) (λ c κs. search needs)
     returns
     returns-2
     returns-3
