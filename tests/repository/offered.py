@@ -23,8 +23,9 @@ import command
 ROOT = pathlib.Path(__file__).resolve().parents[2]
 SETTLES = "use Rattle.words.specs.Contract.{Settles}"
 FILE = "crates/{}/proofs/Determinism.antt"
-# What the first answer depends on standard input, which is no argument: their contracts are relations. The last asks
-# that the run is fit, and is for crates here, which prove it; what users call refuses (docs/DECISIONS.md).
+# What the first answer depends on standard input, which is no argument: their contracts are relations. The last three
+# ask that the run is fit, or what a plan is, and are for crates here, which prove it; what users call refuses
+# (docs/DECISIONS.md).
 UNSETTLED = {
     "replay::word::read_word": "reads standard input",
     "replay::word::read_words": "reads standard input",
@@ -32,6 +33,8 @@ UNSETTLED = {
     "sheet_input::reading::read_all": "reads standard input",
     "piece_input::reading::read_piece": "reads standard input",
     "radau_core::advance::advanced": "asks that the run is fit",
+    "model::planned::plan": "makes a plan, which says what it is for and not what stands in it",
+    "model::planned::derivative_by_plan": "asks that the plan is the model's",
 }
 
 FUNCTION = re.compile(r'^( *)pub (?:extern "C" )?fn (\w+)\b', re.M)

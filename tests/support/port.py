@@ -30,7 +30,7 @@ CRATES = {
     "solve_blocks": ["words", "scalar", "matrix", "state", "opening"],
     "radau_core": ["words", "scalar", "matrix", "state", "opening", "solve_blocks"],
     "radau": ["words", "state", "opening", "solve_blocks", "radau_core"],
-    "export": ["words", "scalar", "matrix", "dense", "state", "opening", "solve_blocks", "radau_core", "radau"],
+    "export": ["words", "scalar", "matrix", "dense", "state", "opening", "solve_blocks", "radau_core"],
     "model": ["words", "state"],
     "sheet": ["words", "bits", "state"],
     "forecast_text": ["words", "bits", "state", "sheet"],

@@ -3,14 +3,19 @@
 use crate::choices::tolerances;
 use crate::settings::given_settings;
 use crate::talk::reply_of;
-use crate::talk::tell_answer;
+use crate::talk::tell_call;
 use crate::talk::tell_opened;
 use crate::talk::tell_result;
+use opening::admission::admission;
 use opening::open;
-use radau::advance::Resumed;
+use radau_core::advance::advanced;
+use radau_core::pack::doubles_of;
 use radau_core::pack::run_at;
+use radau_core::pack::words_of;
 use radau_core::places::DOUBLES;
 use radau_core::places::WORDS;
+use state::refusal_number;
+use state::talk::Verdict;
 ghost use mathlib.Core.Path.{_≡_};
 ghost use Rattle.state.specs.Memory.{memory, amounts, newton, given, factors, differences};
 ghost use Rattle.opening.specs.Rows.{opening};
@@ -160,8 +165,43 @@ pub extern "C" fn elchepur_advance(
     let run = run_at(words, doubles);
     let stage = run.stage;
     let reply = reply_of(stage, reply, value);
-    let turn = Resumed { run, reply };
-    let answer = turn.advance(
+    match admission(
+        run,
+        reply,
+        y,
+        f0,
+        scal,
+        cont,
+        z1,
+        z2,
+        z3,
+        f1,
+        f2,
+        f3,
+        rtol,
+        atol,
+        mass,
+        jac,
+        e1,
+        e2r,
+        e2i,
+        ip1,
+        ip2,
+        y_perturbed,
+        f_perturbed,
+        f_origin,
+    ) {
+        Verdict::Refused(refusal) => {
+            return refusal_number(refusal);
+        }
+        Verdict::Passed => {}
+    }
+    *words = words_of(run);
+    *doubles = doubles_of(run);
+    let call = advanced(
+        words,
+        doubles,
+        reply,
         y,
         f0,
         scal,
@@ -185,7 +225,7 @@ pub extern "C" fn elchepur_advance(
         f_perturbed,
         f_origin,
     );
-    tell_answer(answer, words, doubles, told, at)
+    tell_call(call, words, doubles, told, at)
 }
 
 // Tells the result of a run that has ended: 0, with the status, the counts and what status 5 blames, h, x and the two

@@ -2,15 +2,16 @@
 use crate::choices::flag_word;
 use opening::admission::asking_at;
 use radau_core::pack::doubles_of;
+use radau_core::pack::run_at;
 use radau_core::pack::words_of;
 use radau_core::places::DOUBLES;
 use radau_core::places::WORDS;
+use radau_core::step::Call;
 use state::blame_column;
 use state::blame_kind;
 use state::refusal_number;
 use state::run::Stage;
 use state::status_number;
-use state::talk::Answer;
 use state::talk::IntegrationResult;
 use state::talk::Opened;
 use state::talk::Place;
@@ -19,8 +20,9 @@ use state::talk::Request;
 use state::talk::Result;
 ghost use mathlib.Core.Path.{_≡_};
 ghost use Rattle.opening.specs.Admission.{askingAt};
+ghost use Rattle.radau_core.specs.Places.{runAt};
 ghost use Rattle.export.specs.Talk.{kindNumber, placeNumber, requestFlag, toldOf, atOf, replyOf};
-ghost use Rattle.export.specs.Talk.{crossed, ofOpened, ofAnswer, ended, endNumbers, ofResult};
+ghost use Rattle.export.specs.Talk.{crossed, askedOf, ofOpened, ended, endNumbers, ofResult};
 
 fn kind_number(request: Request) -> u64
     ensures { λ r. ⌜ r ≡ kindNumber request ⌝ }
@@ -138,27 +140,25 @@ pub fn tell_opened(
     }
 }
 
-// Writes what an advance answers.
-pub fn tell_answer(
-    answer: Answer,
+// Writes what an advance asks for, and the run that it came to in the one way in which a state is left.
+pub fn tell_call(
+    call: Call,
     words: &mut [usize; WORDS],
     doubles: &mut [f64; DOUBLES],
     told: &mut [u64; 3],
     at: &mut [f64; 2],
 ) -> u64
     ensures { λ r. ⌜ crossed r (now (words .exit)) (now (doubles .exit)) (now (told .exit)) (now (at .exit))
-        ≡ ofAnswer answer (now (words .entry)) (now (doubles .entry)) (now (told .entry)) (now (at .entry)) ⌝ }
+        ≡ askedOf (runAt (now (words .entry)) (now (doubles .entry))) (call .request) (call .place) ⌝ }
 {
-    match answer {
-        Answer::Refused(_, refusal) => refusal_number(refusal),
-        Answer::Asked(run, request, place) => {
-            *words = words_of(run);
-            *doubles = doubles_of(run);
-            tell(request, place, told);
-            tell_points(request, at);
-            0
-        }
-    }
+    let run = run_at(words, doubles);
+    let request = call.request;
+    let place = call.place;
+    *words = words_of(run);
+    *doubles = doubles_of(run);
+    tell(request, place, told);
+    tell_points(request, at);
+    0
 }
 
 fn end_numbers(result: IntegrationResult) -> [u64; 9]

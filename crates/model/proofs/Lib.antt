@@ -1,6 +1,7 @@
 -- In order of reading: laws of a reaction and of the tests, then what the derivative is.
 pub mod ReactionLaws
 pub mod TestLaws
+pub mod PlanLaws
 pub mod DerivativeTheorems
 pub mod Listed
 pub mod Determinism

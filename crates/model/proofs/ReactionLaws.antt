@@ -12,7 +12,7 @@ use Rattle.model.specs.Model.{Reaction, lessened, raised, reacted, allRe
 use Rattle.model.specs.Derivative.{reactionAt, reactionsOf}
 
 module _ (y : List Float) where
-  one-more : (rs : List Reaction) (r : Reaction) (dy : List Float)
+  pub one-more : (rs : List Reaction) (r : Reaction) (dy : List Float)
       → reacted y r (allReacted y rs dy) ≡ allReacted y (rs ++ (r ∷ [])) dy
   one-more [] r dy = refl
   one-more (q ∷ rs) r dy = one-more rs r (reacted y q dy)
@@ -26,12 +26,12 @@ module _ (y : List Float) where
       ∙ one-more (reactionsOf rates species i) (reactionAt rates species i) dy₀
       ∙ ap (λ (k : ℕ). allReacted y (reactionsOf rates species k) dy₀) (sym (add-one i))
 
-lessened-length : (v : Float) (s : ℕ) (dy : List Float) → length (lessened v s dy) ≡ length dy
+pub lessened-length : (v : Float) (s : ℕ) (dy : List Float) → length (lessened v s dy) ≡ length dy
 unfolding lessened
 lessened-length v s dy =
     pick-all (λ (l : List Float). length l ≡ length dy) (eqb s 0) _ _ (λ _. refl) (λ _. simp length-set)
 
-raised-length : (v : Float) (s : ℕ) (dy : List Float) → length (raised v s dy) ≡ length dy
+pub raised-length : (v : Float) (s : ℕ) (dy : List Float) → length (raised v s dy) ≡ length dy
 unfolding raised
 raised-length v s dy =
     pick-all (λ (l : List Float). length l ≡ length dy) (eqb s 0) _ _ (λ _. refl) (λ _. simp length-set)

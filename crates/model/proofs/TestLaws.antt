@@ -13,7 +13,7 @@ use Rattle.words.specs.Loop.{loop}
 use Rattle.words.proofs.Loops.{loop-none, loop-more}
 use Rattle.model.specs.Derivative.{lengthsFit, unknownAt, unknown}
 
-both : (p q : Bool) → (p && q) ≡ true → (p ≡ true) × (q ≡ true)
+pub both : (p q : Bool) → (p && q) ≡ true → (p ≡ true) × (q ≡ true)
 both true q e = (refl, e)
 both false q e = absurd (subst T (sym e) tt)
 

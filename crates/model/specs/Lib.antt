@@ -2,3 +2,4 @@
 pub mod Model
 pub mod Answers
 pub mod Derivative
+pub mod Plan

@@ -1,7 +1,8 @@
-// A model of reactions between species: the derivative of their amounts.
-// The offered function equals a definition of specs/ for every input, so it asks nothing of its caller.
+// A model of reactions between species: the derivative of their amounts, equal to a definition of specs/.
+// `derivative` asks nothing of its caller; `derivative_by_plan` asks for a plan of the model, and is faster.
 pub mod answers;
 pub mod derivation;
+pub mod planned;
 mod reactions;
 mod species;
 

@@ -1,5 +1,9 @@
 // A run in lent memory, answered and advanced turn by turn up to its end.
-use crate::host::answer;
+use crate::planned::answer_by_plan;
+use model::planned::CHANGES;
+use model::planned::STARTS;
+use model::planned::TERMS;
+use model::planned::plan;
 use radau_core::advance::advanced;
 use radau_core::pack::doubles_of;
 use radau_core::pack::run_at;
@@ -11,9 +15,12 @@ use state::run::Run;
 use state::talk::Place;
 use state::talk::Request;
 ghost use mathlib.Core.Path.{_≡_};
+ghost use Prim.Native.Nat.{_<_};
+ghost use lib.ListN.{length};
 ghost use Rattle.state.specs.Memory.{memory, amounts, newton, given, factors, differences};
 ghost use Rattle.history.specs.Host.{isEnd};
 ghost use Rattle.history.specs.History.{point};
+ghost use Rattle.model.specs.Plan.{Planned};
 ghost use Rattle.radau_core.specs.Places.{runAt, Sized};
 ghost use Rattle.model_run.specs.Host.{answeredBy};
 ghost use Rattle.model_run.specs.Budget.{turnOf, lastOf, budget, standing, standingAt, Admits, NoneRefused};
@@ -58,6 +65,10 @@ fn turned(
     y_perturbed: &mut [f64],
     f_perturbed: &mut [f64],
     f_origin: &mut [f64],
+    planned: usize,
+    starts: &[usize; STARTS],
+    terms: &[usize; TERMS],
+    changes: &mut [f64; CHANGES],
 ) -> Call
     requires { ⌜ Sized (now words) (now doubles) ⌝ }
     requires { ⌜ Admits (answeredBy reactions (now rates) (now species))
@@ -67,6 +78,8 @@ fn turned(
         (given (now rtol) (now atol) (now mass) (now jac))
         (factors (now e1) (now e2r) (now e2i) (now ip1) (now ip2))
         (differences (now «y_perturbed») (now «f_perturbed») (now «f_origin»)))) ⌝ }
+    requires { ⌜ (length (now changes) ≡ 128)
+        × (0 < planned → Planned planned reactions (now species) (now starts) (now terms)) ⌝ }
     ensures { λ _. ⌜ Sized (now (words .exit)) (now (doubles .exit)) ⌝ }
     ensures { λ r. ⌜ point (runAt (now (words .exit)) (now (doubles .exit))) (r .request) (r .place) (memory
         (amounts (now (y .exit)) (now (f0 .exit)) (now (scal .exit)) (now (cont .exit)))
@@ -83,10 +96,11 @@ fn turned(
         (given (now (rtol .entry)) (now (atol .entry)) (now (mass .entry)) (now (jac .entry)))
         (factors (now (e1 .entry)) (now (e2r .entry)) (now (e2i .entry)) (now (ip1 .entry)) (now (ip2 .entry)))
         (differences (now («y_perturbed» .entry)) (now («f_perturbed» .entry)) (now («f_origin» .entry))))) ⌝ }
+    ensures { λ _. ⌜ length (now (changes .exit)) ≡ 128 ⌝ }
 {
     let request = call.request;
     let place = call.place;
-    let reply = answer(
+    let reply = answer_by_plan(
         request,
         place,
         reactions,
@@ -102,6 +116,10 @@ fn turned(
         y_perturbed,
         f_perturbed,
         f_origin,
+        planned,
+        starts,
+        terms,
+        changes,
     );
     advanced(
         words,
@@ -198,6 +216,10 @@ pub fn to_end(
     let run = pending.run;
     let request = pending.request;
     let place = pending.place;
+    let mut starts = [0usize; STARTS];
+    let mut terms = [0usize; TERMS];
+    let mut changes = [0.0; CHANGES];
+    let planned = plan(y.len(), reactions, species, &mut starts, &mut terms);
     let mut words = words_of(run);
     let mut doubles = doubles_of(run);
     let mut here = Call { request, place };
@@ -235,6 +257,10 @@ pub fn to_end(
             y_perturbed,
             f_perturbed,
             f_origin,
+            planned,
+            &starts,
+            &terms,
+            &mut changes,
         );
     }
     run_at(&words, &doubles)

@@ -3,4 +3,5 @@
 // up is a theorem of `forecast`.
 pub mod host;
 mod lent;
+mod planned;
 pub mod run;

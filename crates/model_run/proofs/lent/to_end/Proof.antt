@@ -1,8 +1,9 @@
 -- `to_end` meets its contract: the loop is `lastOf`, left early where nothing more is asked; no turn of it is refused.
 use Prim.Native.Nat.{ℕ, _+_, _-_}
-use mathlib.Core.Path.{_≡_, sym, ap, subst, _∙_}
+use mathlib.Core.Path.{_≡_, refl, sym, ap, subst, _∙_}
 use mathlib.Core.List.{List}
 use native.Mathlib.Omega.{arith}
+use lib.ListN.{length}
 use lib.Ieee.{Float}
 use borrow.Author.Needs.{needs}
 use Rattle.state.specs.declared.run.Run.{Run}
@@ -18,16 +19,17 @@ use Rattle.model_run.proofs.lent.to_end.Statement.{statement}
 use Rattle.model_run.proofs.lent.to_end.Tie as tie
 
 -- so many turns led here, in arrays of their lengths, and no part is longer or shorter than it was
-pub record Led (host : Answering) (i : ℕ) (here₀ here : Point) (w : List ℕ) (d : List Float) : Type 0 where
+pub record Led (host : Answering) (i : ℕ) (here₀ here : Point) (w : List ℕ) (d changes : List Float) : Type 0 where
   pub sized : Sized w d
+  pub changed : length changes ≡ 128
   pub turns : Going host budget i here₀ here
   pub long : Lengths (here₀ .memory) (here .memory)
 
 abbrev Inv-loop : tie.InvT-loop
 Inv-loop reactions rates species y₀ f0₀ scal₀ cont₀ z1₀ z2₀ z3₀ f1₀ f2₀ f3₀ rtol atol mass jac₀ e1₀ e2r₀ e2i₀ ip1₀ ip2₀
-    y-perturbed₀ f-perturbed₀ f-origin₀ words₀ doubles₀ here₀ counter₀
+    y-perturbed₀ f-perturbed₀ f-origin₀ starts terms changes₀ planned words₀ doubles₀ here₀ counter₀
     y f0 scal cont z1 z2 z3 f1 f2 f3 jac e1 e2r e2i ip1 ip2 y-perturbed f-perturbed
-    f-origin words doubles here counter =
+    f-origin changes words doubles here counter =
     Led (answeredBy reactions rates species) counter
     (point (runAt words₀ doubles₀) (here₀ .request) (here₀ .place)
     (memory (amounts y₀ f0₀ scal₀ cont₀) (newton z1₀ z2₀ z3₀ f1₀ f2₀ f3₀)
@@ -37,13 +39,13 @@ Inv-loop reactions rates species y₀ f0₀ scal₀ cont₀ z1₀ z2₀ z3₀ f1
     (memory (amounts y f0 scal cont) (newton z1 z2 z3 f1 f2 f3)
     (given rtol atol mass jac) (factors e1 e2r e2i ip1 ip2)
     (differences y-perturbed f-perturbed f-origin)))
-    words doubles
+    words doubles changes
 
 abbrev μ-loop : tie.MeasureT-loop
 μ-loop reactions rates species y₀ f0₀ scal₀ cont₀ z1₀ z2₀ z3₀ f1₀ f2₀ f3₀ rtol atol mass jac₀ e1₀ e2r₀ e2i₀ ip1₀ ip2₀
-    y-perturbed₀ f-perturbed₀ f-origin₀ words₀ doubles₀ here₀ counter₀
+    y-perturbed₀ f-perturbed₀ f-origin₀ starts terms changes₀ planned words₀ doubles₀ here₀ counter₀
     y f0 scal cont z1 z2 z3 f1 f2 f3 jac e1 e2r e2i ip1 ip2 y-perturbed f-perturbed
-    f-origin words doubles here counter =
+    f-origin changes words doubles here counter =
     budget - counter
 
 -- the memory and the point at entry, at a turn and past it
@@ -66,7 +68,8 @@ host-at c = let a = c .args in answeredBy (a .reactions) (a .rates .now) (a .spe
 abbrev start : (c : tie.At-loop Inv-loop μ-loop) → tie.Start Inv-loop μ-loop
 start c =
     c .before .before .before .before .before .before .before .before .before .before .before .before .before .before
-    .before .before .before .before .before .before .before .before .before .before .before .before .before .before
+    .before .before .before .before .before .before .before .before .before .before
+    .before .before .before .before .before .before .before
 
 -- the run that was put into its places
 held : (c : tie.At-loop Inv-loop μ-loop)
@@ -88,7 +91,7 @@ point-in c =
 abbrev tested : (c : tie.After-turned Inv-loop μ-loop) → tie.Else1 Inv-loop μ-loop
 tested c =
     c .before .before .before .before .before .before .before .before .before .before .before .before .before .before
-    .before .before .before .before .before .before .before .before
+    .before .before .before .before .before .before .before .before .before .before .before
 
 abbrev looped : (c : tie.Else1 Inv-loop μ-loop) → tie.At-loop Inv-loop μ-loop
 looped c = c .before .before .before
@@ -123,9 +126,11 @@ point-turned c =
 loop-holds : tie.Need-loop-holds Inv-loop μ-loop
 loop-holds c =
     let s = c .before .before .before .before .before .before .before .before .before .before .before .before .before
-    .before .before .before .before .before .before .before .before .before .before .before .before .before .before in
+    .before .before .before .before .before .before .before .before .before .before
+    .before .before .before .before .before .before .before in
     record {
       sized = sized-at (s .args .pending .run) (c .before .words-of .ensures) (c .doubles-of .ensures);
+      changed = refl;
       turns = going _;
       long = same (memory-at s);
     }
@@ -158,17 +163,22 @@ returns-2 c =
 turned-requires : tie.Need-turned-requires Inv-loop μ-loop
 turned-requires c κs =
     let t = c .before .before .before .before .before .before .before .before .before .before .before .before .before
-    .before .before .before .before .before .before .before .before in
+    .before .before .before .before .before .before .before .before .before .before .before in
     let l = looped t in
     let p = start l .args .pending in
     let none = subst (λ (r : Run). NoneRefused (host-at (start l)) (point r (p .request) (p .place)
-    (memory-at (start l)))) (sym (held l)) (start l .pre) in
-    (l .loop .inv .sized, admits (l .loop .inv .turns) none (sym (t .before .is-end .ensures) ∙ t .if1 .left))
+    (memory-at (start l)))) (sym (held l)) (start l .pre) in (
+      l .loop .inv .sized,
+      (
+        admits (l .loop .inv .turns) none (sym (t .before .is-end .ensures) ∙ t .if1 .left),
+        (l .loop .inv .changed, l .before .before .before .plan .ensures),
+      ),
+    )
 
 -- a turn, in the words of the contract
 turn : (c : tie.After-turned Inv-loop μ-loop)
     → point-turned c ≡ turnOf (host-at (start (looped (tested c)))) (point-in (looped (tested c)))
-turn c = c .turned .ensures .1
+turn c = c .turned .ensures .1 .0
 
 kept : (c : tie.After-turned Inv-loop μ-loop) → Lengths (memory-in (looped (tested c))) (memory-turned c)
 kept c =
@@ -201,9 +211,11 @@ led : (c : tie.After-turned Inv-loop μ-loop)
     (start (looped (tested c)) .args .pending .request) (start (looped (tested c)) .args .pending .place)
     (memory-at (start (looped (tested c))))) (point-turned c)
     (c .turned .last .0) (c .turned .last .1 .0)
+    (c .turned .last .1 .1 .1 .1 .1 .1 .1 .1 .1 .1 .1 .1 .1 .1 .1 .1 .1 .1 .1 .1 .1 .1 .1 .1 .1 .1 .1 .1 .1 .1 .1 .0)
 led c =
     record {
       sized = c .turned .ensures .0;
+      changed = c .turned .ensures .1 .1;
       turns = turned (looped (tested c) .loop .inv .turns) (tested c .before .before .loop-test .taken)
           (sym (tested c .before .is-end .ensures) ∙ tested c .if1 .left) (turn c);
       long = after (kept c) (looped (tested c) .loop .inv .long);
@@ -229,7 +241,7 @@ to-end-spec =
     tie.close
     (tie.spec
     Inv-loop μ-loop
-    (λ c κs. search needs) (λ c κs. search needs)
+    (λ c κs. (refl, refl)) (λ c κs. search needs) (λ c κs. search needs)
     loop-holds (λ c κs. search needs) (λ c κs. search needs)
     (λ c. c .before .before .before .before .before .before .loop .inv .long .y)
     (λ c. c .before .before .before .before .before .before .loop .inv .long .f0)

@@ -43,14 +43,15 @@ advanced-requires c κs =
     .before .before .before .before .before .before .before .before .before in
     let start = at-answer .before .before .before .before .before .before .before .before .before .before .before
     .before .before .before .before .before .before .before .before .before .before .before .before .before .before
-    .before .before .before .before .before .before .before .before .before .before in
+    .before .before .before .before .before .before .before .before .before .before .before in
     let a = start .args in
     let r = runAt (a .words .now) (a .doubles .now) in
-    let q = subst (λ (m : Memory). Admitted r m) (sym (at-answer .answer .ensures .1 (a .scal .now) (a .f2 .now) (a
+    let q =
+    subst (λ (m : Memory). Admitted r m) (sym (at-answer .answer-by-plan .ensures .1 .0 (a .scal .now) (a .f2 .now) (a
     .f3 .now)
     (given (a .rtol .now) (a .atol .now) (a .mass .now) (a .jac .now))
     (factors (a .e1 .now) (a .e2r .now) (a .e2i .now) (a .ip1 .now) (a .ip2 .now))))
-    (admitted r (done-at start .reply) (wrote-at start) (start .pre .1)) in
+    (admitted r (done-at start .reply) (wrote-at start) (start .pre .1 .0)) in
     (start .pre .0, ((q .fit, q .stage), q .long))
 
 returns : tie.Need-returns
@@ -63,14 +64,19 @@ returns c =
     .before .before .before .before .before .before .before .before .before .before .before .before in
     let start = at-answer .before .before .before .before .before .before .before .before .before .before .before
     .before .before .before .before .before .before .before .before .before .before .before .before .before .before
-    .before .before .before .before .before .before .before .before .before .before in
+    .before .before .before .before .before .before .before .before .before .before .before in
     let a = start .args in (
       at-advanced .advanced .ensures .0,
-      turn-admitted (a .reactions) (a .rates .now) (a .species .now) (here-at start) (at-answer .answer .ensures .0)
-          (at-answer .answer .ensures .1 (a .scal .now) (a .f2 .now) (a .f3 .now)
-          (given (a .rtol .now) (a .atol .now) (a .mass .now) (a .jac .now))
-          (factors (a .e1 .now) (a .e2r .now) (a .e2i .now) (a .ip1 .now) (a .ip2 .now))) (start .pre .1) (at-advanced
-          .advanced .ensures .1),
+      (
+        turn-admitted (a .reactions) (a .rates .now) (a .species .now) (here-at start)
+            (at-answer .answer-by-plan .ensures .0)
+            (at-answer .answer-by-plan .ensures .1 .0 (a .scal .now) (a .f2 .now) (a .f3 .now)
+            (given (a .rtol .now) (a .atol .now) (a .mass .now) (a .jac .now))
+            (factors (a .e1 .now) (a .e2r .now) (a .e2i .now) (a .ip1 .now) (a .ip2 .now)))
+            (start .pre .1 .0) (at-advanced
+            .advanced .ensures .1),
+        at-answer .answer-by-plan .ensures .1 .1,
+      ),
     )
 
 same-length : tie.Need-same-length
@@ -88,7 +94,7 @@ same-length-2 c =
     .before .before .before .before .before .before .before .before .before .before .before .before .before .before
     .before .before .before .before .before .before .before .before .before .before .before .before .before .before
     .before .before .before .before in
-    at-answer .answer .kept .1 .1 .1 .1 .1 .1 .0
+    at-answer .answer-by-plan .kept .1 .1 .1 .1 .1 .1 .0
 
 same-length-3 : tie.Need-same-length-3
 same-length-3 c =
@@ -112,7 +118,7 @@ same-length-5 c =
     let at-answer = at-advanced .before .before .before .before .before .before .before .before .before .before
     .before .before .before .before .before .before .before .before .before .before .before .before .before .before
     .before .before .before .before .before .before .before .before .before .before .before .before in
-    at-advanced .advanced .kept .1 .1 .1 .1 .1 .1 .1 .0 ∙ at-answer .answer .kept .1 .1 .1 .1 .1 .1 .1 .1 .0
+    at-advanced .advanced .kept .1 .1 .1 .1 .1 .1 .1 .0 ∙ at-answer .answer-by-plan .kept .1 .1 .1 .1 .1 .1 .1 .1 .0
 
 same-length-6 : tie.Need-same-length-6
 same-length-6 c =
@@ -122,7 +128,8 @@ same-length-6 c =
     let at-answer = at-advanced .before .before .before .before .before .before .before .before .before .before
     .before .before .before .before .before .before .before .before .before .before .before .before .before .before
     .before .before .before .before .before .before .before .before .before .before .before .before in
-    at-advanced .advanced .kept .1 .1 .1 .1 .1 .1 .1 .1 .0 ∙ at-answer .answer .kept .1 .1 .1 .1 .1 .1 .1 .1 .1 .0
+    at-advanced .advanced .kept .1 .1 .1 .1 .1 .1 .1 .1 .0
+    ∙ at-answer .answer-by-plan .kept .1 .1 .1 .1 .1 .1 .1 .1 .1 .0
 
 same-length-7 : tie.Need-same-length-7
 same-length-7 c =
@@ -132,7 +139,8 @@ same-length-7 c =
     let at-answer = at-advanced .before .before .before .before .before .before .before .before .before .before
     .before .before .before .before .before .before .before .before .before .before .before .before .before .before
     .before .before .before .before .before .before .before .before .before .before .before .before in
-    at-advanced .advanced .kept .1 .1 .1 .1 .1 .1 .1 .1 .1 .0 ∙ at-answer .answer .kept .1 .1 .1 .1 .1 .1 .1 .1 .1 .1
+    at-advanced .advanced .kept .1 .1 .1 .1 .1 .1 .1 .1 .1 .0
+    ∙ at-answer .answer-by-plan .kept .1 .1 .1 .1 .1 .1 .1 .1 .1 .1
     .0
 
 same-length-8 : tie.Need-same-length-8
@@ -143,7 +151,8 @@ same-length-8 c =
     let at-answer = at-advanced .before .before .before .before .before .before .before .before .before .before
     .before .before .before .before .before .before .before .before .before .before .before .before .before .before
     .before .before .before .before .before .before .before .before .before .before .before .before in
-    at-advanced .advanced .kept .1 .1 .1 .1 .1 .1 .1 .1 .1 .1 .0 ∙ at-answer .answer .kept .1 .1 .1 .1 .1 .1 .1 .1 .1
+    at-advanced .advanced .kept .1 .1 .1 .1 .1 .1 .1 .1 .1 .1 .0
+    ∙ at-answer .answer-by-plan .kept .1 .1 .1 .1 .1 .1 .1 .1 .1
     .1 .1 .0
 
 same-length-9 : tie.Need-same-length-9
@@ -218,7 +227,7 @@ same-length-18 c =
     .before .before .before .before .before .before .before .before .before .before .before .before .before .before
     .before .before .before .before .before .before .before .before .before .before .before .before in
     at-advanced .advanced .kept .1 .1 .1 .1 .1 .1 .1 .1 .1 .1 .1 .1 .1 .1 .1 .1 .1 .1 .1 .1 .1 .1 .1 .0 ∙ at-answer
-    .answer .kept .1 .1 .1 .1 .1 .1 .1 .1 .1 .1 .1 .1 .1 .0
+    .answer-by-plan .kept .1 .1 .1 .1 .1 .1 .1 .1 .1 .1 .1 .1 .1 .0
 
 same-length-19 : tie.Need-same-length-19
 same-length-19 c =
@@ -229,7 +238,7 @@ same-length-19 c =
     .before .before .before .before .before .before .before .before .before .before .before .before .before .before
     .before .before .before .before .before .before .before .before .before .before .before .before in
     at-advanced .advanced .kept .1 .1 .1 .1 .1 .1 .1 .1 .1 .1 .1 .1 .1 .1 .1 .1 .1 .1 .1 .1 .1 .1 .1 .1 .0 ∙
-    at-answer .answer .kept .1 .1 .1 .1 .1 .1 .1 .1 .1 .1 .1 .1 .1 .1 .0
+    at-answer .answer-by-plan .kept .1 .1 .1 .1 .1 .1 .1 .1 .1 .1 .1 .1 .1 .1 .0
 
 pub turned-spec : {M : Type 1} → statement M
 turned-spec =
