@@ -30,8 +30,8 @@ impl SolOut for Reached {
 pub struct End {
     pub status: usize,
     counts: [usize; 6],
-    x: f64,
-    y: Vec<f64>,
+    pub x: f64,
+    pub y: Vec<f64>,
 }
 
 fn pattern(x: f64) -> u64 {
@@ -43,17 +43,16 @@ fn pattern(x: f64) -> u64 {
 }
 
 impl End {
-    // As `decay` prints it.
-    pub fn printed(&self) -> String {
+    pub fn first_line(&self) -> String {
         let [accepted, rejected, total, ode, jac, lu] = self.counts;
+        let status = self.status;
+        format!("status {status} accepted {accepted} rejected {rejected} total {total} ode {ode} jac {jac} lu {lu}")
+    }
+
+    // As `decay` prints it, but for the last line: the Rust tells no strides.
+    pub fn printed(&self) -> String {
         let amounts: Vec<String> = self.y.iter().map(|&amount| format!("{:016x}", pattern(amount))).collect();
-        format!(
-            "status {} accepted {accepted} rejected {rejected} total {total} ode {ode} jac {jac} lu {lu}\nx {:016x}\ny \
-             {}\n",
-            self.status,
-            pattern(self.x),
-            amounts.join(" ")
-        )
+        format!("{}\nx {:016x}\ny {}\n", self.first_line(), pattern(self.x), amounts.join(" "))
     }
 }
 

@@ -36,12 +36,19 @@ use std::fmt;
 /// # Ok::<(), NoForecast>(())
 /// ```
 pub fn forecast(sheet: &[u8]) -> Result<Forecast, NoForecast> {
-    printed::read(&c::forecast(sheet))
+    decay(sheet).1
+}
+
+/// What the program `decay` prints of a sheet, byte for byte, and the forecast in it.
+pub fn decay(sheet: &[u8]) -> (Vec<u8>, Result<Forecast, NoForecast>) {
+    let printed = c::forecast(sheet);
+    let forecast = printed::read(&printed);
+    (printed, forecast)
 }
 
 /// The amounts at the end of a sheet's run, which succeeded.
 ///
-/// Only [`forecast`] makes one. Nobody else can:
+/// Only [`forecast`] and [`decay`] make one. Nobody else can:
 ///
 /// ```compile_fail
 /// # use elchepur::prelude::*;

@@ -57,7 +57,7 @@ mod system;
 pub mod table;
 mod tolerance;
 
-pub use crate::forecast::{forecast, BrokenOffSheet, Forecast, NoForecast};
+pub use crate::forecast::{decay, forecast, BrokenOffSheet, Forecast, NoForecast};
 pub use crate::night::{totals, Night, NoTotals, Totals};
 pub use crate::sheet::{NoSheet, Reaction, Sheet};
 pub use crate::shelf::{Shelf, Shelved};

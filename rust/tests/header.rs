@@ -5,6 +5,7 @@ mod shared;
 use elchepur::prelude::Refused;
 use shared::file;
 use std::collections::BTreeMap;
+use std::path::{Path, PathBuf};
 
 const HEADER: &str = "include/elchepur.h";
 
@@ -134,10 +135,15 @@ fn every_part_is_handed_over_with_its_own_length() {
     }
 }
 
+/// The files below a folder.
+fn files(folder: &Path) -> Vec<PathBuf> {
+    let found = std::fs::read_dir(folder).expect("the sources").map(|entry| entry.expect("a source").path());
+    found.flat_map(|path| if path.is_dir() { files(&path) } else { vec![path] }).collect()
+}
+
 #[test]
 fn nothing_else_is_foreign() {
-    for entry in std::fs::read_dir(concat!(env!("CARGO_MANIFEST_DIR"), "/src")).expect("the sources") {
-        let path = entry.expect("a source").path();
+    for path in files(Path::new(concat!(env!("CARGO_MANIFEST_DIR"), "/src"))) {
         let text = bare(&std::fs::read_to_string(&path).expect("a source"));
         let count = |word: &str| text.matches(word).count();
         if path.ends_with("c.rs") {

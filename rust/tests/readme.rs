@@ -62,12 +62,6 @@ fn the_screen_shows_what_stands_here() {
 }
 
 #[test]
-fn the_table_is_the_stored_one() {
-    let table: String = file("rust/examples/nightly/table.txt").lines().map(|line| format!("    {line}\n")).collect();
-    assert!(file("rust/README.md").contains(&table));
-}
-
-#[test]
 fn the_rusts_paths_are_here() {
     use elchepur as ivp;
     #[allow(unused_imports)]

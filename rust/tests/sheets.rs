@@ -99,7 +99,7 @@ fn how_a_sheet_without_a_forecast_reads() {
     let read = |sheet: &[u8]| forecast(sheet).expect_err("no forecast").to_string();
     assert_eq!(read(b"7\n"), "refused (20): line 1 is not as a sheet has it");
     assert_eq!(read(&[b'6'; 4097]), "refused (21): the sheet is longer than 4,096 bytes");
-    assert_eq!(read(&bytes("rust/examples/nightly/no_steps.sheet")), "refused (4): max_steps is not 1 to 1,000,000");
+    assert_eq!(read(&bytes("rust/tests/night/no_steps.sheet")), "refused (4): max_steps is not 1 to 1,000,000");
     let broken = read(&bytes("cylinders/broken_off.sheet"));
     assert!(broken.starts_with("broken off at x = 331.8"), "{broken}");
     assert!(broken.ends_with(": max_steps is used up (status 2, NeedLargerNMax)"), "{broken}");

@@ -4,8 +4,8 @@
     tests/repository/width.py        complain where a line is; first the rule is tried on lines of its own
 
 What is stored and not read by people is passed over: pictures, what programs are run on and write (crates/*/stdin,
-stdout, data), sheets. A line may stand out where it can't be broken: one with an address of the web, a row of a table
-whose cells are numbers, a row of crates.txt, and what a must-fail edit takes for the other.
+stdout, data), sheets, rows. A line may stand out where it can't be broken: one with an address of the web, a row of a
+table whose cells are numbers, a row of crates.txt, and what a must-fail edit takes for the other.
 
 Exit status: 0 none is; 1 some are; 2 wrong use."""
 
@@ -20,7 +20,7 @@ import rust_text
 
 ROOT = rust_text.ROOT
 MOST = 120
-STORED = re.compile(r"crates/\w+/(stdin|stdout|data/.*)|.*\.(svg|sheet)")
+STORED = re.compile(r"crates/\w+/(stdin|stdout|data/.*)|.*\.(svg|sheet|tsv)")
 UNBROKEN = {"crates.txt": re.compile(r"\w+:.*"), ".edit": re.compile(r"(old|new): .*")}
 NUMBERS = re.compile(r"\|(?:[-+.,:%\s\d]*\|)+")
 ADDRESS = re.compile(r"https?://\S+")
