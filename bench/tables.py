@@ -7,7 +7,8 @@ import sys
 import textwrap
 
 OURS, RUST, SAME, FORTRAN = "ours", "rust", "rust_with_our_powers", "fortran"
-NAMES = {OURS: "ours", RUST: "the Rust", SAME: "the Rust, our powers", FORTRAN: "Fortran"}
+# Heads of columns, so short that no line is wider than a page; the tables' first words say what Rust' is.
+NAMES = {OURS: "ours", RUST: "Rust", SAME: "Rust'", FORTRAN: "Fortran"}
 PLAIN = ("host", "none")
 # The goals for whole runs with the host's Jacobian: of the Rust's time and instructions, per attempt of the
 # Fortran's, and per operation.
@@ -44,21 +45,18 @@ def measured(row, what):
     return {name: found[0] if what == "ns" else found for name, found in row[what].items()}
 
 
-def of_runs(rows, what, unit, scale):
+def of_runs(rows, what, scale):
     """Of each run time or instructions, and the ratios."""
     contestants = list(rows[0]["ends"])
     pairs = [(OURS, RUST), (OURS, SAME), (OURS, FORTRAN), (FORTRAN, RUST)]
     pairs = [pair for pair in pairs if set(pair) <= set(contestants)]
-    short = {OURS: "ours", RUST: "Rust", SAME: "Rust, our powers", FORTRAN: "Fortran"}
-    head = ["model", "n", "Jacobian", "dense"] + [f"{NAMES[name]}, {unit}"
-                                                  for name in contestants] + [f"{short[a]} / {short[b]}" for a,
-                                                      b in pairs]
+    head = ["model", "n", "Jacobian", "dense", *(NAMES[name] for name in contestants)]
     lines = []
     for row in rows:
         found = measured(row, what)
         lines.append(way_words(row) + [f"{found[name] / scale:,.1f}" for name in contestants]
                      + [ratio(found[a], found[b]) for a, b in pairs])
-    return table(head, lines)
+    return table(head + [("" if a == OURS else f"{NAMES[a]} ") + f"of {NAMES[b]}" for a, b in pairs], lines)
 
 
 def counts(rows):
@@ -81,11 +79,11 @@ def operations(row, name):
     return together + rounds * of_round + attempts * of_attempt + accepted * of_acceptance + ode * of_derivative
 
 
-def per_attempt(rows, what, unit):
-    """Of an attempt time or instructions, and how many of its parts it has."""
+def per_attempt(rows, what):
+    """Of an attempt time or instructions."""
     contestants = list(rows[0]["ends"])
-    head = ["model", "n"] + [f"{NAMES[name]}, {unit}" for name in contestants] + (["ours / Fortran"]
-        if FORTRAN in contestants else [])
+    head = ["model", "n", *(NAMES[name] for name in contestants)]
+    head += ["ours / Fortran"] if FORTRAN in contestants else []
     lines = []
     for row in rows:
         found = {name: value / row["ends"][name][3] for name, value in measured(row, what).items()}
@@ -106,9 +104,8 @@ def per_operation(rows):
     """Operations that a run needs, and the instructions of each contestant for one."""
     contestants = [name for name in rows[0]["ends"]]
     apart = [OURS] + [name for name in contestants if name == FORTRAN]
-    head = ["model", "n"] + [f"decompositions and rounds of an attempt, {NAMES[name]}"
-                             for name in apart] + ["needed by ours"]
-    head += [f"instructions for one, {NAMES[name]}" for name in contestants]
+    head = ["model", "n", *(f"attempt, {NAMES[name]}" for name in apart), "needed"]
+    head += [f"one, {NAMES[name]}" for name in contestants]
     lines = []
     for row in rows:
         each = [row["instructions"][name] / operations(row, name) for name in contestants]
@@ -120,7 +117,7 @@ def per_operation(rows):
 def memory(rows):
     """Of each contestant what a run holds at most: resident, above a process that runs nothing; and heap and stack."""
     contestants = list(rows[0]["ends"])
-    head = ["model", "n"] + [f"{NAMES[name]}, resident kB; heap and stack" for name in contestants]
+    head = ["model", "n", *(NAMES[name] for name in contestants)]
     lines = [[row["model"], str(row["n"])] + [f"{kb}; {asked:,}" for kb, asked in row["memory"].values()]
              for row in rows]
     return table(head, lines)
@@ -168,34 +165,43 @@ def spread(rows):
 
 def in_short(rows):
     """Ours as a share of each other contestant's, model by model; above 1 ours loses."""
-    lines = []
-    for what, word in (("ns", "time"), ("instructions", "instructions")):
-        for other in [name for name in rows[0]["ends"] if name != OURS]:
-            found = [measured(row, what) for row in rows]
-            lines.append([f"{word}, of {NAMES[other]}"] + [ratio(each[OURS], each[other]) for each in found])
-    return table(["ours"] + [f"{row['model']} ({row['n']})" for row in rows], lines)
+    asked = [(what, other) for what in ("ns", "instructions") for other in rows[0]["ends"] if other != OURS]
+    head = [f"{'time' if what == 'ns' else 'instr.'} of {NAMES[other]}" for what, other in asked]
+    lines = [[row["model"], str(row["n"]), *(ratio(measured(row, what)[OURS], measured(row, what)[other])
+                                             for what, other in asked)] for row in rows]
+    return table(["model", "n", *head], lines)
+
+
+def said(text):
+    """A paragraph within the width of a page, and a line that is left out."""
+    return textwrap.fill(text, WIDE) + "\n\n"
 
 
 def all_of(rows):
     plain = [row for row in rows if row["way"] == PLAIN]
     without = ("" if FORTRAN in rows[0]["ends"]
-               else "The published Fortran was not given, so its columns are not there.\n\n")
+               else said("The published Fortran was not given, so its columns are not there."))
     parts = [
-        f"Made on {machine()}. {spread(rows)} Ours and the Rust with our powers ended with the same bits and counts in "
-        f"every run.\n\n{without}",
-        "### In short\n\nOurs as a share of the others', for a run with the host's Jacobian and no dense output; above "
-        "1 ours loses.\n\n" + in_short(plain),
+        said(f"Made on {machine()}. {spread(rows)} Ours and the Rust with our powers, Rust' in the tables, ended with "
+             "the same bits and counts in every run.") + without,
+        "### In short\n\n" + said("Ours as a share of the others', for a run with the host's Jacobian and no dense "
+                                  "output; above 1 ours loses.") + in_short(plain),
         "### The goals\n\n" + goals(plain),
-        "### Time of a run\n\nMedian, in microseconds of the processor's time.\n\n" + of_runs(rows, "ns", "µs", 1e3),
-        "### Instructions of a run\n\nBy callgrind, in thousands.\n\n"
-        + of_runs(rows, "instructions", "thousands", 1e3),
-        "### An attempt\n\nHost's Jacobian, no dense output. Time in ns:\n\n" + per_attempt(plain, "ns", "ns"),
-        "Instructions:\n\n" + per_attempt(plain, "instructions", "instructions"),
-        "### Operations\n\nHost's Jacobian, no dense output.\n\n" + per_operation(plain),
-        "### Memory\n\nOne run, host's Jacobian, no dense output: the resident size at its most, above that of a "
-        "process that runs nothing, in kB; and heap and stack together, in bytes.\n\n" + memory(plain),
-        "### Counts\n\nAccepted, rejected, total, ode, jac, lu. The Fortran's lu are pairs of decompositions, and its "
-        "ode has the calls for differences (docs/DEPARTURES.md, D34).\n\n" + counts(rows),
+        "### Time of a run\n\n" + said("Median, in microseconds of the processor's time, and ours of the others'.")
+        + of_runs(rows, "ns", 1e3),
+        "### Instructions of a run\n\n" + said("By callgrind, in thousands, likewise.")
+        + of_runs(rows, "instructions", 1e3),
+        "### An attempt\n\n" + said("Host's Jacobian, no dense output. Time in ns:") + per_attempt(plain, "ns"),
+        said("Instructions:") + per_attempt(plain, "instructions"),
+        "### Operations\n\n" + said("Host's Jacobian, no dense output: decompositions and rounds of an attempt, the "
+                                    "operations that our run needs, and the instructions for one.")
+        + per_operation(plain),
+        "### Memory\n\n" + said("One run, host's Jacobian, no dense output: the resident size at its most, above that "
+                                "of a process that runs nothing, in kB; and heap and stack together, in bytes.")
+        + memory(plain),
+        "### Counts\n\n" + said("Accepted, rejected, total, ode, jac, lu. The Fortran's lu are pairs of "
+                                "decompositions, and its ode has the calls for differences (docs/DEPARTURES.md, D34).")
+        + counts(rows),
     ]
     return "\n".join(part.rstrip("\n") + "\n" for part in parts)
 
