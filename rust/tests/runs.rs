@@ -1,4 +1,4 @@
-//! The Rust's runs through this crate: the 471 of crates/replay_run/stdin (laid out as tests/replays/replay_run.py
+//! The Rust's runs through this crate: the 477 of crates/replay_run/stdin (laid out as tests/replays/replay_run.py
 //! says). The system and the `SolOut` answer each call as the Rust's host did, and see that it is the call that the
 //! Rust made: which function, at which x, with an interpolant or not. All settings, masses, lists of tolerances,
 //! Jacobians of the system's own, marks, modified points and interrupts come there.
@@ -268,7 +268,7 @@ fn every_run_makes_the_rusts_calls_and_ends_as_it_did() {
         statuses[status as usize] += 1;
         shortened += run.shortened.get();
     }
-    assert_eq!(runs, 471);
+    assert_eq!(runs, 477);
     assert!(shortened > 0, "no step was shortened");
     assert!([0, 1, 2, 3, 5].iter().all(|status| statuses[*status] > 0), "{statuses:?}");
 }

@@ -697,6 +697,18 @@ NOTICING = [
         spoiled=[(11, 6, 0.0), (22, 20, -1000000.0)],
     ),
     Run("rotation", [1.0, 0.5], 1.0, xend=4.0, max_steps=2, first_step=1.0, nind3=1, host=True, book=True),
+    Run("linear", [1.0], 4.0, xend=4.0, max_steps=3, first_step=U1 / 4.0, nind2=1, host=True, book=True),
+    Run("linear", [1.0], 4.0, xend=4.0, max_steps=3, first_step=U1 / 4.0, nind3=1, host=True, book=True),
+    Run(
+        "linear", [1.0], 4.0, x0=-U1 / 32.0, xend=U1 / 4.0, rtol=1e6, atol=1e6, max_steps=5, newton_tol=1e-12,
+        first_step=U1 / 32.0, host=True, book=True,
+    ),
+    Run(
+        "forced", [1.36, 1.1, -1.0], 37.8, rtol=0.01, atol=0.0001, max_steps=4, first_step=0.02, dense_output=False,
+        host=True, book=True,
+    ),
+    Run("zero", [1.0], mass=[5e-324], xend=1e3, max_steps=6, first_step=104.0, book=True),
+    Run("zero", [1.0], mass=[5e-324], xend=1e3, max_steps=6, first_step=208.0, book=True),
     Run("rotation", [1.0, 0.5, 0.25], 2.0, xend=0.25, max_steps=4, first_step=0.5, nind2=2, host=True, book=True),
     Run(
         "square", [0.1576809249524196, 2.0, 0.0], 0.347662114239502, xend=1.3618226647195644, max_steps=4,
