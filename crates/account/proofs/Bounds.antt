@@ -60,26 +60,25 @@ pub record Final (s : Status) (r : Run) : Type 0 where
 -- ---- the table
 
 -- What is left of each bound; the bounds grow with the attempts that were begun.
---     accepted, rejected    an attempt is accepted at most once, and rejected at most twice: by a slow verdict of the
---                           Rust rule, then by the error test
---     judged                by the book rule it is one of the two at most, once
---     jac, lu               a pass through the matrices ends in an attempt or in a failure, and an acceptance forgets
---                           at most five failures: one Jacobian and two decompositions for each pass and the one to
---                           come; and the first error solve of an attempt, which is counted as a decomposition
---     ode                   two at the start, and for an attempt three in each round and three past them: a refinement,
---                           the accepted point, a modified point
---     rounds                Newton rounds of the attempt
---     column                not what is left, but the column that is asked for
 pub record Left (accepted rejected judged jac lu ode rounds column : ℕ) (r : Run) : Type 0 where
+  -- an attempt is accepted at most once, and rejected at most twice: by a slow verdict of the Rust rule, then by the
+  -- error test
   pub accepted-left : r .counts .accepted + accepted ≤ r .counts .total
   pub rejected-left : r .counts .rejected + rejected ≤ 2 * r .counts .total
+  -- by the book rule it is one of the two at most, once
   pub judged-left : r .settings .rule ≡ rule.Book
       → r .counts .accepted + r .counts .rejected + judged ≤ r .counts .total
+  -- one Jacobian and two decompositions for each pass through the matrices and the one to come: a pass ends in an
+  -- attempt or in a failure, and an acceptance forgets at most five failures
   pub jac-left : r .counts .jac + jac ≤ r .counts .total + 5 * r .counts .accepted + r .control .«singular_count» + 1
+  -- and the first error solve of an attempt, which is counted as a decomposition
   pub lu-left : r .counts .lu + lu
       ≤ 2 * (r .counts .total + 5 * r .counts .accepted + r .control .«singular_count» + 1) + r .counts .total
+  -- two at the start, and for an attempt three in each round and three past them: a refinement, the accepted point, a
+  -- modified point
   pub ode-left : r .counts .ode + ode ≤ 2 + 3 * (r .settings .«newton_maxiter» + 1) * r .counts .total
   pub rounds-left : r .control .«newt_iter» + rounds ≤ r .settings .«newton_maxiter»
+  -- not what is left, but the column that is asked for
   pub column-fits : column ≤ r .shape .n
   pub total-fits : r .counts .total ≤ r .settings .«max_steps»
   pub failures-fit : r .control .«singular_count» ≤ 5

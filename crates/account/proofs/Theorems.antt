@@ -76,9 +76,8 @@ events-true = events-true-proof
 pub latest-kept : (o : Opening) (j : Journal) → JournalOf o j → LatestKept o j
 latest-kept = latest-kept-proof
 
--- At every point of every journal the run keeps the smallest and the largest |h| over the attempts that its history
--- says were accepted, each with the h held then; a NaN is passed over, and both are told as +0 where there is nothing
--- else.
+-- At every point of every journal the run keeps the smallest and the largest |h| that its attempts were accepted with,
+-- as its history says; a NaN is passed over, and both are told as +0 where there is nothing else.
 pub strides-kept : (o : Opening) (j : Journal) → JournalOf o j → StridesKept j
 strides-kept = strides-kept-proof
 

@@ -5,6 +5,11 @@ ghost use lib.Ieee.{ofBits, binary64};
 ghost use Rattle.bits.specs.Digit.{digitOf};
 ghost use Rattle.bits.specs.Pattern.{patternOf};
 
+// The byte of 0, and ten below that of a: digits are told from their bytes by them, and bytes from digits.
+pub const BYTE_0: u64 = 48;
+
+pub const TEN_BELOW_A: u64 = 87;
+
 pub fn double(pattern: u64) -> f64
     ensures { λ r. ⌜ r ≡ ofBits binary64 pattern ⌝ }
 {
@@ -31,13 +36,13 @@ pub fn digit(byte: u8) -> u64
         return 16;
     }
     if byte <= b'9' {
-        return byte as u64 - 48;
+        return byte as u64 - BYTE_0;
     }
     if byte < b'a' {
         return 16;
     }
     if byte <= b'f' {
-        return byte as u64 - 87;
+        return byte as u64 - TEN_BELOW_A;
     }
     16
 }

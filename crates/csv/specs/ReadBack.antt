@@ -10,15 +10,33 @@ use lib.Ieee.{Float}
 use lib.Ieee.Exact.{HasValue}
 use lib.ListN.{length, getD, take, drop}
 use Rattle.words.specs.Loop.{pick}
+use Rattle.bits.specs.Digit.{byte0}
 use Rattle.sheet.specs.Digits.{spelledOf, foundOf}
 use Rattle.sheet.specs.declared.digits.Spelt.{Spelt}
 use Rattle.sheet.specs.declared.digits.Spelt.the-variants.{Value, Wrong}
 use Rattle.csv.specs.NumberText.{numberText}
+use Rattle.csv.specs.Table.{commaByte}
 
 pub data Read : Type 0 where
   -- whether it is negative, and how many times 2^-1074 it is
   number : Bool → ℕ → Read
   unread : Read
+
+-- the bytes of a text that are no digits
+abbrev pub pointByte : ℕ
+pointByte = 46
+
+abbrev pub plusByte : ℕ
+plusByte = 43
+
+abbrev pub minusByte : ℕ
+minusByte = 45
+
+abbrev pub byteP : ℕ
+byteP = 112
+
+abbrev pub byteX : ℕ
+byteX = 120
 
 -- the smallest positive double is 2 to the power -1074
 abbrev pub smallest : ℕ
@@ -39,12 +57,12 @@ scaledOf s below places Wrong d = unread
 -- the digits before the `p`, cut at the point, and the exponent behind it, with its sign
 unfoldable pub partsOf : Bool → List ℕ → List ℕ → Read
 partsOf s ds exponent =
-    let point = foundOf 46 ds in
+    let point = foundOf pointByte ds in
     let fraction = drop (point + 1) ds in
     let sign = getD exponent 0 0 in
-    pick (eqb sign 43)
+    pick (eqb sign plusByte)
     (scaledOf s false (length fraction) (spelledOf 16 0 (take point ds ++ fraction)) (spelledOf 10 0 (drop 1 exponent)))
-    (pick (eqb sign 45)
+    (pick (eqb sign minusByte)
     (scaledOf s true (length fraction) (spelledOf 16 0 (take point ds ++ fraction)) (spelledOf 10 0 (drop 1 exponent)))
     unread)
 
@@ -52,11 +70,12 @@ partsOf s ds exponent =
 unfoldable pub unsignedOf : Bool → List ℕ → Read
 unsignedOf s t =
     let behind = drop 2 t in
-    let mark = foundOf 112 behind in
-    pick (eqb (getD t 0 0) 48 && eqb (getD t 1 0) 120) (partsOf s (take mark behind) (drop (mark + 1) behind)) unread
+    let mark = foundOf byteP behind in
+    pick (eqb (getD t 0 0) byte0 && eqb (getD t 1 0) byteX) (partsOf s (take mark behind) (drop (mark + 1) behind))
+    unread
 
 unfoldable pub readOf : List ℕ → Read
-readOf t = pick (eqb (getD t 0 0) 45) (unsignedOf true (drop 1 t)) (unsignedOf false t)
+readOf t = pick (eqb (getD t 0 0) minusByte) (unsignedOf true (drop 1 t)) (unsignedOf false t)
 
 -- the text of x reads back to that very number
 pub record ReadsBack (x : Float) : Type 0 where
@@ -73,4 +92,4 @@ ontoFirst b (field ∷ fields) = (b ∷ field) ∷ fields
 
 unfoldable pub fieldsOf : List ℕ → List (List ℕ)
 fieldsOf [] = [] ∷ []
-fieldsOf (b ∷ bytes) = pick (eqb b 44) ([] ∷ fieldsOf bytes) (ontoFirst b (fieldsOf bytes))
+fieldsOf (b ∷ bytes) = pick (eqb b commaByte) ([] ∷ fieldsOf bytes) (ontoFirst b (fieldsOf bytes))

@@ -10,6 +10,7 @@ use lib.Ieee.{Float}
 use lib.ListN.{length}
 use Rattle.words.specs.Loop.{pick}
 use Rattle.sheet.specs.Digits.{decimalOf}
+use Rattle.sheet.specs.Sheet.{lineFeed}
 use Rattle.sheet.specs.Reader.{over}
 use Rattle.forecast_text.specs.Printed.{text}
 use Rattle.csv.specs.NumberText.{numberText}
@@ -18,9 +19,18 @@ use Rattle.csv.specs.declared.answers.Exported.the-variants.{Written, Re
 
 -- ---- lines
 
+abbrev pub commaByte : ℕ
+commaByte = 44
+
+abbrev pub quoteByte : ℕ
+quoteByte = 34
+
+abbrev pub carriageReturn : ℕ
+carriageReturn = 13
+
 -- CR and LF
 abbrev pub lineEnd : List ℕ
-lineEnd = 13 ∷ 10 ∷ []
+lineEnd = carriageReturn ∷ lineFeed ∷ []
 
 -- `,y1` to `,yn`
 unfoldable pub namesText : ℕ → List ℕ
@@ -39,10 +49,10 @@ recordText x ys = numberText x ++ amountsText ys ++ lineEnd
 
 -- a byte that RFC 4180 lets stand in a field without quotes: no comma, quote, CR or LF
 pub record Plain (byte : ℕ) : Type 0 where
-  pub comma : byte ≡ 44 → ⊥
-  pub quote : byte ≡ 34 → ⊥
-  pub cr : byte ≡ 13 → ⊥
-  pub lf : byte ≡ 10 → ⊥
+  pub comma : byte ≡ commaByte → ⊥
+  pub quote : byte ≡ quoteByte → ⊥
+  pub cr : byte ≡ carriageReturn → ⊥
+  pub lf : byte ≡ lineFeed → ⊥
 
 -- ---- what is answered, and how the buffer is left
 

@@ -2,8 +2,9 @@
 ghost use Prim.Native.Nat.{_+_, _≤_, _<_};
 ghost use mathlib.Core.Path.{_≡_};
 ghost use lib.ListN.{length};
-ghost use Rattle.sheet.specs.Digits.{byteOf, power, digits, widthOf, decimalOf};
+ghost use Rattle.sheet.specs.Digits.{power, digits, widthOf, decimalOf};
 ghost use Rattle.forecast_text.specs.Put.{Put};
+use forecast_text::numerals::digit_byte;
 
 pub fn put_text(out: &mut [u8], at: usize, bytes: &[u8]) -> usize
     requires { ⌜ at + length (now bytes) ≤ length (now out) ⌝ }
@@ -15,17 +16,6 @@ pub fn put_text(out: &mut [u8], at: usize, bytes: &[u8]) -> usize
     at + bytes.len()
 }
 
-// The byte of a hexadecimal digit.
-fn byte(digit: u64) -> u8
-    requires { ⌜ digit < 16 ⌝ }
-    ensures { λ r. ⌜ r ≡ byteOf digit ⌝ }
-{
-    if digit < 10 {
-        return (48 + digit) as u8;
-    }
-    (87 + digit) as u8
-}
-
 // Puts a number that `width` digits of a base can spell, the last digit first.
 pub fn put_digits(out: &mut [u8], at: usize, base: u64, width: usize, value: u64) -> usize
     requires { ⌜ (at + width ≤ length (now out)) × (2 ≤ base) × (base ≤ 16) × (value < power base width) ⌝ }
@@ -35,7 +25,7 @@ pub fn put_digits(out: &mut [u8], at: usize, base: u64, width: usize, value: u64
     let mut rest = value;
     while 0 < left {
         left -= 1;
-        out[at + left] = byte(rest % base);
+        out[at + left] = digit_byte(rest % base);
         rest = rest / base;
     }
     at + width

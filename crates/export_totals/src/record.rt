@@ -91,7 +91,9 @@ pub fn words_of(night: Night) -> [u64; 37]
     words
 }
 
-fn totals_from(words: &[u64; 37]) -> Totals
+// The totals that words begin with.
+fn totals_from(words: &[u64]) -> Totals
+    requires { ⌜ 15 ≤ length (now words) ⌝ }
     ensures { λ r. ⌜ r ≡ totalsFrom (now (words .entry)) ⌝ }
 {
     Totals {
@@ -154,8 +156,9 @@ fn filling_from(words: &[u64; 37]) -> Filling
 pub fn night_from(words: &[u64; 37]) -> Night
     ensures { λ r. ⌜ r ≡ nightFrom (now (words .entry)) ⌝ }
 {
+    let all: &[u64] = words;
     let filling = filling_from(words);
-    let totals = totals_from(words);
+    let totals = totals_from(all);
     Night {
         filling: filling,
         totals: totals,
@@ -167,21 +170,6 @@ pub fn night_from(words: &[u64; 37]) -> Night
 pub fn totals_given(words: &[u64; 15]) -> Totals
     ensures { λ r. ⌜ r ≡ totalsFrom (now (words .entry)) ⌝ }
 {
-    Totals {
-        lines: words[0],
-        status0: words[1],
-        status1: words[2],
-        status2: words[3],
-        status3: words[4],
-        status5: words[5],
-        status7: words[6],
-        accepted: words[7],
-        rejected: words[8],
-        total: words[9],
-        ode: words[10],
-        jac: words[11],
-        lu: words[12],
-        largest: words[13],
-        place: words[14],
-    }
+    let all: &[u64] = words;
+    totals_from(all)
 }

@@ -30,7 +30,7 @@ use Rattle.model.specs.Model.{derivativeOf}
 use Rattle.model.specs.Answers.{Derivation}
 use Rattle.model.proofs.ReactionLaws.{derivative-length}
 use Rattle.model.proofs.TestLaws.{Fit}
-use Rattle.model.proofs.DerivativeTheorems.{accepted, length-kept}
+use Rattle.model.proofs.Theorems.{accepted, length-kept}
 use Rattle.sheet.specs.Sheet as sheet
 use Rattle.sheet.specs.Sheet.{Valid}
 use Rattle.model_run.specs.Host.{sourceAt, action, derivedAt, answeredBy}

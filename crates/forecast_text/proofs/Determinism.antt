@@ -3,8 +3,17 @@
 use Prim.Native.Nat.{ℕ}
 use mathlib.Core.List.{List}
 use Rattle.words.specs.Contract.{Settles}
-use Rattle.words.proofs.OneOutcome.{_▹_, two-parts}
+use Rattle.words.proofs.OneOutcome.{_▹_, one-result, two-parts}
+use Rattle.forecast_text.proofs.numerals.decimal_width as decimal_width
+use Rattle.forecast_text.proofs.numerals.digit_byte as digit_byte
 use Rattle.forecast_text.proofs.printed.print as print
+
+pub digit-byte-once : Settles digit_byte.Kinds.ps digit_byte.Kinds.r digit_byte.Reads.Asked digit_byte.Reads.Post
+digit-byte-once κs a = (tt, λ o p. one-result (o .1))
+
+pub decimal-width-once :
+    Settles decimal_width.Kinds.ps decimal_width.Kinds.r decimal_width.Reads.Asked decimal_width.Reads.Post
+decimal-width-once κs a = (tt, λ o p. one-result (o .1))
 
 pub print-once : Settles print.Kinds.ps print.Kinds.r print.Reads.Asked print.Reads.Post
 print-once κs a =

@@ -20,6 +20,10 @@ use Rattle.forecast_text.proofs.PutLaws.{sets-last}
 
 -- ---- the last digit
 
+-- it has a byte of its own in every base up to sixteen
+pub last-byte : (v b : ℕ) → 0 < b → b ≤ 16 → byteOf (v % b % 16) ≡ byteOf (v % b)
+last-byte v b some few = ap byteOf (mod-eq-of-lt (omega (arith, mod-lt v some)))
+
 module _ (b : ℕ) (some : 0 < b) where
   module _ (p v : ℕ) (pos : 0 < p) where
     -- what is left of v below p * b

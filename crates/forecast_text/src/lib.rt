@@ -2,6 +2,7 @@
 mod digits;
 pub mod ending;
 mod lines;
+pub mod numerals;
 pub mod printed;
 
 pub use ending::Forecast;

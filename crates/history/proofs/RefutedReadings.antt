@@ -60,9 +60,8 @@ wish-kept r e = ap (λ (q : Rule). wishedOf q (r .control)) e
 aim-lost : (r : Run) → missedOf r .control .last ≡ false
 aim-lost r = refl
 
--- a slow verdict goes on to the error test under the Rust rule without the reject mark, and ends the
--- attempt under the book rule with it, and with a Jacobian wanted unless it was made here
--- (radau.rs:581-582; 01, 'The book rule'; 02, [1])
+-- a slow verdict goes on to the error test under the Rust rule without the reject mark (radau.rs:581-582); under the
+-- book rule it ends the attempt with it, and wants a Jacobian unless it was made here (01, 'The book rule'; 02, [1])
 slow-rust : (r : Run) → slowRound rule.Rust r ≡ round.Estimate (r ▸ inControl (setLast false))
 unfolding slowRound
 slow-rust r = refl

@@ -2,7 +2,8 @@
 pub mod ReactionLaws
 pub mod TestLaws
 pub mod PlanLaws
-pub mod DerivativeTheorems
+pub mod DerivativeLaws
+pub mod Theorems
 pub mod Listed
 pub mod Determinism
 pub mod Examples

@@ -13,7 +13,7 @@ use Rattle.state.specs.Memory.{Memory}
 use Rattle.history.specs.Host.{isEnd, partAt}
 use Rattle.history.specs.History.{point}
 use Rattle.account.specs.Journal.{ofKind, SameLength, Fair}
-use Rattle.model.proofs.DerivativeTheorems.{length-kept}
+use Rattle.model.proofs.Theorems.{length-kept}
 use Rattle.model_run.specs.Host.{sourceAt, replyTo, answeredBy}
 
 pub host-fair : (reactions : ℕ) (rates : List Float) (species : List ℕ) (r : Run) (q : Request) (p : Place) (m : Memory)

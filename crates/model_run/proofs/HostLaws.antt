@@ -7,9 +7,14 @@ use lib.Ieee.{Float}
 use Rattle.state.specs.declared.talk.Place.{Place}
 use Rattle.state.specs.declared.talk.Request.{Request}
 use Rattle.state.specs.declared.talk.Request.the-variants as request
-use Rattle.state.specs.Memory.{Memory}
+use Rattle.state.specs.Memory.{Memory, Given, Factors, memory, amounts, newton, differences}
 use Rattle.history.specs.Host.{filled, wrote}
 use Rattle.model_run.specs.Host.{replyTo, derivedAt, answeredBy}
+
+-- the memory of a run: the parts that the host is lent, then those that it is not
+abbrev pub hosted : (y f0 cont z1 z2 z3 f1 yp fp fo scal f2 f3 : List Float) → Given → Factors → Memory
+hosted y f0 cont z1 z2 z3 f1 yp fp fo scal f2 f3 g f =
+    memory (amounts y f0 scal cont) (newton z1 z2 z3 f1 f2 f3) g f (differences yp fp fo)
 
 module _ (reactions : ℕ) (rates : List Float) (species : List ℕ) where
   -- the derivative that was written at a place

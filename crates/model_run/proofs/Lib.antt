@@ -9,3 +9,4 @@ pub mod Refuted
 pub mod Determinism
 pub mod HostFair
 pub mod NoneRefused
+pub mod Theorems

@@ -53,18 +53,18 @@ module _ (reactions : ℕ) (rates : List Float) (species : List ℕ) (o : Openin
   held-last (suc k) start h =
       held-last k _ (pick-all (Held o) (isEnd (start .request)) _ _ (λ _. h) (λ e. held-turn start h e))
 
-  pub none-refused : (start : Point) → Held o start → NoneRefused host start
-  none-refused start h k e = admitted-here (lastOf host k start) (held-last k start h) e
+  held-none : (start : Point) → Held o start → NoneRefused host start
+  held-none start h k e = admitted-here (lastOf host k start) (held-last k start h) e
 
 -- ---- a task
 
-pub task-none-refused : (t : Task) (rates : List Float) (species : List ℕ) {a : Opened}
+pub none-refused-proof : (t : Task) (rates : List Float) (species : List ℕ) {a : Opened}
     (r : Run) (q : Request) (p : Place) → a ≡ openOf (openingOf t) .answer → a ≡ opened.Asked r q p
     → NoneRefused (hostFor t rates species) (point r q p (memoryOf t))
 unfolding Starts
-task-none-refused t rates species r q p answered same =
+none-refused-proof t rates species r q p answered same =
     let o = openingOf t in
     let start = point r q p (memoryOf t) in
     let asked = sym answered ∙ same in
     let first = opens o (journal start []) (asked, opening-kept t r q p asked, refl) in
-    none-refused (t .reactions) rates species o (first .none) start (held-first o start first)
+    held-none (t .reactions) rates species o (first .none) start (held-first o start first)

@@ -7,6 +7,7 @@ use mathlib.Core.List.{List, _++_}
 use lib.Dec.{ltb}
 use lib.ListN.{length}
 use Rattle.words.specs.Loop.{pick}
+use Rattle.night_totals.specs.Entries.{mostLines}
 use Rattle.night_totals.specs.Totals.{totalsOf}
 use Rattle.night_totals.specs.declared.entry.Entry.{Entry}
 use Rattle.night_totals.specs.declared.totals.Totals.{Totals}
@@ -42,5 +43,6 @@ fit-short = fit-short-proof
 -- The totals of nights, printed one after another, are told as the totals of all their lines, or as 26.
 pub nights-told : (nights : List (List Entry)) → AllNights nights
     → toldOf (fedOf startOf (printedAll (totalsIn nights)))
-    ≡ answerOf (pick (ltb 65535 (length (linesIn nights))) joining.TooMany (joining.Joined (totalsOf (linesIn nights))))
+    ≡ answerOf (pick (ltb mostLines (length (linesIn nights))) joining.TooMany
+    (joining.Joined (totalsOf (linesIn nights))))
 nights-told = nights-told-proof

@@ -5,6 +5,7 @@ use mathlib.Core.List.{List, [], _∷_}
 use lib.Dec.{eqb}
 use lib.ListN.{getD, replicate}
 use Rattle.words.specs.Loop.{pick}
+use Rattle.sheet.specs.Sheet.{lineFeed}
 use Rattle.night_totals.specs.Filling.{blankOf, spoiltOf, filledOf}
 use Rattle.night_totals.specs.Night.{plus}
 use Rattle.night_totals.specs.Printed.{totalsForm}
@@ -45,7 +46,7 @@ abbrev pub startOf : Chain
 startOf = chainAt (blankOf false) 0 (joining.Joined (totalsFrom (replicate 16 0)))
 
 unfoldable pub linesOf : ℕ → ℕ → ℕ
-linesOf lines b = pick (eqb b 10) (plus lines 1) lines
+linesOf lines b = pick (eqb b lineFeed) (plus lines 1) lines
 
 unfoldable pub takenOf : ℕ → Joining → Filling → ℕ → Chain
 takenOf lines j q b =

@@ -2,7 +2,7 @@
 use Prim.Native.Nat.{_≤_}
 use mathlib.Core.List.{List, [], _∷_, _++_}
 use lib.ListN.{length}
-use Rattle.night_totals.specs.Entries.{AllFit}
+use Rattle.night_totals.specs.Entries.{AllFit, mostLines}
 use Rattle.night_totals.specs.Totals.{totalsOf}
 use Rattle.night_totals.specs.declared.entry.Entry.{Entry}
 use Rattle.night_totals.specs.declared.totals.Totals.{Totals}
@@ -10,7 +10,7 @@ use Rattle.night_totals.specs.declared.totals.Totals.{Totals}
 -- lines that `totals` reads, night by night
 pub data AllNights : List (List Entry) → Type 0 where
   noNight : AllNights []
-  andNight : {es : List Entry} {nights : List (List Entry)} → AllFit es → length es ≤ 65535 → AllNights nights
+  andNight : {es : List Entry} {nights : List (List Entry)} → AllFit es → length es ≤ mostLines → AllNights nights
       → AllNights (es ∷ nights)
 
 -- all lines, one after another

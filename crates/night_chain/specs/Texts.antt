@@ -5,6 +5,7 @@ use mathlib.Core.List.{List, [], _∷_, _++_}
 use lib.Dec.{eqb}
 use lib.ListN.{getD}
 use Rattle.words.specs.Loop.{pick}
+use Rattle.sheet.specs.Sheet.{lineFeed}
 use Rattle.night_totals.specs.Printed.{totalsNumbers, printedOf}
 use Rattle.night_totals.specs.declared.totals.Totals.{Totals}
 use Rattle.night_totals.specs.declared.night.Outcome.the-variants as told
@@ -29,7 +30,7 @@ printedAll (t ∷ ts) = printed t ++ printedAll ts
 unfoldable pub firstLines : List ℕ → ℕ → List ℕ
 firstLines [] n = []
 firstLines (b ∷ s) zero = []
-firstLines (b ∷ s) (suc n) = b ∷ firstLines s (pick (eqb b 10) n (suc n))
+firstLines (b ∷ s) (suc n) = b ∷ firstLines s (pick (eqb b lineFeed) n (suc n))
 
 -- a text begins with the first n lines of some totals
 pub record Begins (n : ℕ) (s : List ℕ) : Type 0 where

@@ -15,7 +15,7 @@ use Rattle.night_join.specs.declared.joining.Joining.the-variants as joi
 use Rattle.night_join.specs.Join.{fitTotals, Fit, placeOfBoth, sumTotals, joinOf, thenJoin, joinThen, placeless}
 use Rattle.night_join.specs.Join.{butPlace}
 use Rattle.night_join.proofs.JoinLaws.{Good, good, fit, left-first, left-second, left-many, join-few}
-use Rattle.night_join.proofs.JoinLaws.{sum-good, sum-fit}
+use Rattle.night_join.proofs.JoinLaws.{each, sum-good, sum-fit}
 use Rattle.night_join.proofs.PlaceLaws.{key, place-by-key, key-sum, place-assoc}
 
 module _ (a b c : Totals) (f : Fit a) (g : Fit b) (h : Fit c) where
@@ -44,23 +44,8 @@ module _ (a b c : Totals) (f : Fit a) (g : Fit b) (h : Fit c) where
     unfolding sumTotals
     sums-same =
         λ i.
-        record {
-          lines = same (a .lines) (b .lines) (c .lines) i;
-          status0 = same (a .status0) (b .status0) (c .status0) i;
-          status1 = same (a .status1) (b .status1) (c .status1) i;
-          status2 = same (a .status2) (b .status2) (c .status2) i;
-          status3 = same (a .status3) (b .status3) (c .status3) i;
-          status5 = same (a .status5) (b .status5) (c .status5) i;
-          status7 = same (a .status7) (b .status7) (c .status7) i;
-          accepted = same (a .accepted) (b .accepted) (c .accepted) i;
-          rejected = same (a .rejected) (b .rejected) (c .rejected) i;
-          total = same (a .total) (b .total) (c .total) i;
-          ode = same (a .ode) (b .ode) (c .ode) i;
-          jac = same (a .jac) (b .jac) (c .jac) i;
-          lu = same (a .lu) (b .lu) (c .lu) i;
-          largest = largest-same (a .largest) (b .largest) (c .largest) i;
-          place = place-same i;
-        }
+        each (λ field. same (field a) (field b) (field c) i) (largest-same (a .largest) (b .largest) (c .largest) i)
+        (place-same i)
       where
         largest-same : (u v w : ℕ) → max (max u v) w ≡ max u (max v w)
         largest-same u v w = omega arith

@@ -20,6 +20,27 @@ use Rattle.night_join.specs.Join.{runsIn, sumWithin, sumsWithin, placeIn
 use Rattle.night_join.specs.Join.{placeOfBoth, sumTotals, joinOf}
 use Rattle.night_join.specs.Words.{placeWord, sumWords}
 
+-- totals of what is made of each number that is added, with a largest and its place
+abbrev pub each : ((Totals → ℕ) → ℕ) → ℕ → ℕ → Totals
+each made largest place =
+    record {
+      lines = made (λ t. t .lines);
+      status0 = made (λ t. t .status0);
+      status1 = made (λ t. t .status1);
+      status2 = made (λ t. t .status2);
+      status3 = made (λ t. t .status3);
+      status5 = made (λ t. t .status5);
+      status7 = made (λ t. t .status7);
+      accepted = made (λ t. t .accepted);
+      rejected = made (λ t. t .rejected);
+      total = made (λ t. t .total);
+      ode = made (λ t. t .ode);
+      jac = made (λ t. t .jac);
+      lu = made (λ t. t .lu);
+      largest = largest;
+      place = place;
+    }
+
 -- ---- what fit totals have
 
 pub record Good (t : Totals) : Type 0 where

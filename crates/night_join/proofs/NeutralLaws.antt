@@ -13,7 +13,7 @@ use Rattle.night_totals.proofs.FormLaws.{split}
 use Rattle.night_join.specs.declared.joining.Joining.{Joining}
 use Rattle.night_join.specs.declared.joining.Joining.the-variants as joining
 use Rattle.night_join.specs.Join.{runsIn, fitTotals, Fit, placeOfBoth, sumTotals, joinOf, placeless, butPlace}
-use Rattle.night_join.proofs.JoinLaws.{Good, good, fit, left-first, left-second, left-many, join-few}
+use Rattle.night_join.proofs.JoinLaws.{Good, good, fit, each, left-first, left-second, left-many, join-few}
 
 -- ---- neutral
 
@@ -67,33 +67,12 @@ module _ (t : Totals) (f : Fit t) where
   behind : (n : ℕ) → n + 0 ≡ n
   behind n = omega arith
 
-  -- the totals with what is made of each number that is added, and with a largest and its place
-  abbrev with-each : (ℕ → ℕ) → ℕ → ℕ → Totals
-  with-each made largest place =
-      record {
-        lines = made (t .lines);
-        status0 = made (t .status0);
-        status1 = made (t .status1);
-        status2 = made (t .status2);
-        status3 = made (t .status3);
-        status5 = made (t .status5);
-        status7 = made (t .status7);
-        accepted = made (t .accepted);
-        rejected = made (t .rejected);
-        total = made (t .total);
-        ode = made (t .ode);
-        jac = made (t .jac);
-        lu = made (t .lu);
-        largest = largest;
-        place = place;
-      }
-
   none-first : sumTotals noTotals t ≡ t
   unfolding sumTotals placeOfBoth
   none-first =
       let e : max 0 (t .largest) ≡ t .largest = omega arith in
       let p = pick-yes {b = eqb 0 0} (t .place) (pick (ltb 0 (t .largest)) (0 + t .place) 0) refl in
-      λ i. with-each (λ n. before n i) (e i) (p i)
+      λ i. each (λ field. before (field t) i) (e i) (p i)
 
   place-behind : placeOfBoth t noTotals ≡ t .place
   unfolding placeOfBoth
@@ -107,7 +86,7 @@ module _ (t : Totals) (f : Fit t) where
   unfolding sumTotals
   none-second =
       let e : max (t .largest) 0 ≡ t .largest = omega arith in
-      λ i. with-each (λ n. behind n i) (e i) (place-behind i)
+      λ i. each (λ field. behind (field t) i) (e i) (place-behind i)
 
   both-sides : (joinOf noTotals t ≡ joining.Joined t) × (joinOf t noTotals ≡ joining.Joined t)
   both-sides =
@@ -131,24 +110,8 @@ module _ (a b : Totals) where
   sums-swapped : placeless (sumTotals a b) ≡ placeless (sumTotals b a)
   unfolding sumTotals
   sums-swapped =
-      λ i.
-      record {
-        lines = swapped (a .lines) (b .lines) i;
-        status0 = swapped (a .status0) (b .status0) i;
-        status1 = swapped (a .status1) (b .status1) i;
-        status2 = swapped (a .status2) (b .status2) i;
-        status3 = swapped (a .status3) (b .status3) i;
-        status5 = swapped (a .status5) (b .status5) i;
-        status7 = swapped (a .status7) (b .status7) i;
-        accepted = swapped (a .accepted) (b .accepted) i;
-        rejected = swapped (a .rejected) (b .rejected) i;
-        total = swapped (a .total) (b .total) i;
-        ode = swapped (a .ode) (b .ode) i;
-        jac = swapped (a .jac) (b .jac) i;
-        lu = swapped (a .lu) (b .lu) i;
-        largest = (let z : max (a .largest) (b .largest) ≡ max (b .largest) (a .largest) = omega arith in z) i;
-        place = 0;
-      }
+      let e : max (a .largest) (b .largest) ≡ max (b .largest) (a .largest) = omega arith in
+      λ i. each (λ field. swapped (field a) (field b) i) (e i) 0
 
 pub exchanged-proof : (a b : Totals) → butPlace (joinOf a b) ≡ butPlace (joinOf b a)
 unfolding butPlace

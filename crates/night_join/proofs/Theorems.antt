@@ -7,7 +7,7 @@ use mathlib.Core.List.{List, _++_}
 use lib.Dec.{ltb}
 use lib.ListN.{length}
 use Rattle.words.specs.Loop.{pick}
-use Rattle.night_totals.specs.Entries.{AllFit}
+use Rattle.night_totals.specs.Entries.{AllFit, mostLines}
 use Rattle.night_totals.specs.Totals.{totalsOf}
 use Rattle.night_totals.specs.Reads.{Reads}
 use Rattle.night_totals.specs.Night.{noTotals}
@@ -37,9 +37,9 @@ pub no-lines : (t : Totals) → Fit t → t .lines ≡ 0 → t ≡ noTotals
 no-lines = no-lines-proof
 
 -- Joined totals are those of the lines put one after the other, or there are more than 65,535.
-pub lines-joined : (a b : List Entry) → AllFit a → AllFit b → length a ≤ 65535 → length b ≤ 65535
+pub lines-joined : (a b : List Entry) → AllFit a → AllFit b → length a ≤ mostLines → length b ≤ mostLines
     → joinOf (totalsOf a) (totalsOf b)
-    ≡ pick (ltb 65535 (length (a ++ b))) joining.TooMany (joining.Joined (totalsOf (a ++ b)))
+    ≡ pick (ltb mostLines (length (a ++ b))) joining.TooMany (joining.Joined (totalsOf (a ++ b)))
 lines-joined = lines-joined-proof
 
 -- With the sides exchanged all but the place of the largest ode is the same, refusals too.
@@ -55,5 +55,5 @@ pub unfit-exactly : (a b : Totals) → (joinOf a b ≡ joining.Unfit) ↔ (Unfit
 unfit-exactly = unfit-exactly-proof
 
 -- 26 is given, of sides that 28 leaves, exactly where there are more than 65,535 lines.
-pub many-exactly : (a b : Totals) → Fit a → Fit b → (joinOf a b ≡ joining.TooMany) ↔ (65535 < a .lines + b .lines)
+pub many-exactly : (a b : Totals) → Fit a → Fit b → (joinOf a b ≡ joining.TooMany) ↔ (mostLines < a .lines + b .lines)
 many-exactly = many-exactly-proof

@@ -4,7 +4,7 @@ use mathlib.Core.Path.{_≡_}
 use mathlib.Core.Bool.{Bool, true, false}
 use lib.Dec.{eqb, ltb, leb}
 use Rattle.words.specs.Loop.{pick}
-use Rattle.night_totals.specs.Entries.{bothOf}
+use Rattle.night_totals.specs.Entries.{bothOf, mostCount, mostLines}
 use Rattle.night_totals.specs.declared.totals.Totals.{Totals}
 use Rattle.night_join.specs.declared.joining.Joining.{Joining}
 use Rattle.night_join.specs.declared.joining.Joining.the-variants as joining
@@ -15,7 +15,7 @@ abbrev pub runsIn : Totals → ℕ
 runsIn t = t .status0 + t .status1 + t .status2 + t .status3 + t .status5 + t .status7
 
 unfoldable pub sumWithin : ℕ → ℕ → Bool
-sumWithin lines sum = leb sum (10000000000 * lines)
+sumWithin lines sum = leb sum (mostCount * lines)
 
 abbrev pub sumsWithin : Totals → Bool
 sumsWithin t =
@@ -31,7 +31,7 @@ placeIn lines place = pick (ltb lines place) false (pick (eqb place 0) (eqb line
 
 unfoldable pub fitTotals : Totals → Bool
 fitTotals t =
-    pick (ltb 65535 (t .lines)) false
+    pick (ltb mostLines (t .lines)) false
     (bothOf (bothOf (eqb (runsIn t) (t .lines)) (sumsWithin t))
     (bothOf (leb (t .largest) (t .ode)) (placeIn (t .lines) (t .place))))
 
@@ -70,7 +70,7 @@ unfoldable pub joinOf : Totals → Totals → Joining
 joinOf a b =
     pick (fitTotals a)
     (pick (fitTotals b)
-    (pick (ltb 65535 (a .lines + b .lines)) joining.TooMany (joining.Joined (sumTotals a b))) joining.Unfit)
+    (pick (ltb mostLines (a .lines + b .lines)) joining.TooMany (joining.Joined (sumTotals a b))) joining.Unfit)
     joining.Unfit
 
 -- ---- what is joined further
@@ -116,14 +116,14 @@ butPlace joining.TooMany = joining.TooMany
 -- ---- 28, as 02 lists it
 
 pub data Unfit (t : Totals) : Type 0 where
-  lines : 65535 < t .lines → Unfit t
+  lines : mostLines < t .lines → Unfit t
   runs : (t .status0 + t .status1 + t .status2 + t .status3 + t .status5 + t .status7 ≡ t .lines → ⊥) → Unfit t
-  accepted : 10000000000 * t .lines < t .accepted → Unfit t
-  rejected : 10000000000 * t .lines < t .rejected → Unfit t
-  total : 10000000000 * t .lines < t .total → Unfit t
-  ode : 10000000000 * t .lines < t .ode → Unfit t
-  jac : 10000000000 * t .lines < t .jac → Unfit t
-  lu : 10000000000 * t .lines < t .lu → Unfit t
+  accepted : mostCount * t .lines < t .accepted → Unfit t
+  rejected : mostCount * t .lines < t .rejected → Unfit t
+  total : mostCount * t .lines < t .total → Unfit t
+  ode : mostCount * t .lines < t .ode → Unfit t
+  jac : mostCount * t .lines < t .jac → Unfit t
+  lu : mostCount * t .lines < t .lu → Unfit t
   largest : t .ode < t .largest → Unfit t
   above : t .lines < t .place → Unfit t
   nowhere : t .place ≡ 0 → 0 < t .lines → Unfit t

@@ -2,17 +2,13 @@
 ghost use Prim.Native.Nat.{_+_, _≤_, max};
 ghost use mathlib.Core.Path.{_≡_};
 ghost use lib.Dec.{eqb, ltb};
-ghost use Rattle.night_totals.specs.Entries.{bothOf};
+ghost use Rattle.night_totals.specs.Entries.{bothOf, mostLines};
 ghost use Rattle.night_join.specs.Join.{sumWithin, placeIn, fitTotals, joinOf};
 ghost use Rattle.night_join.specs.Words.{placeWord, sumWords};
+use night_totals::entry::MOST_COUNT;
+use night_totals::night::MOST_LINES;
 use night_totals::totals::Totals;
 use std::num::wrapping_add_u64;
-
-// The most lines of a night.
-const MOST_LINES: u64 = 65_535;
-
-// No count of a line is above it.
-const MOST_COUNT: u64 = 10_000_000_000;
 
 // What becomes of two totals: those of the lines one after the other; or a side is unfit, or there are too many lines.
 pub enum Joining {
@@ -56,7 +52,7 @@ fn summed(
 }
 
 fn within(lines: u64, sum: u64) -> bool
-    requires { ⌜ lines ≤ 65535 ⌝ }
+    requires { ⌜ lines ≤ mostLines ⌝ }
     ensures { λ r. ⌜ r ≡ sumWithin lines sum ⌝ }
 {
     sum <= MOST_COUNT * lines
@@ -78,7 +74,7 @@ fn all_within(
     jac: u64,
     lu: u64,
 ) -> bool
-    requires { ⌜ lines ≤ 65535 ⌝ }
+    requires { ⌜ lines ≤ mostLines ⌝ }
     ensures { λ r. ⌜ r ≡ bothOf (sumWithin lines accepted)
         (bothOf (sumWithin lines rejected)
         (bothOf (sumWithin lines total)
@@ -169,7 +165,7 @@ fn sum(a: Totals, b: Totals) -> Totals
 
 // Whether there are too many lines in all.
 fn beyond(first: u64, second: u64) -> bool
-    ensures { λ r. ⌜ r ≡ ltb 65535 (first + second) ⌝ }
+    ensures { λ r. ⌜ r ≡ ltb mostLines (first + second) ⌝ }
 {
     if MOST_LINES < first {
         return true;

@@ -32,8 +32,16 @@ bothOf a b = pick a b false
 unfoldable pub knownStatus : ℕ → Bool
 knownStatus s = pick (leb s 3) true (pick (eqb s 5) true (eqb s 7))
 
+-- no count of a line is above it
+abbrev pub mostCount : ℕ
+mostCount = 10000000000
+
+-- the most lines of a night
+abbrev pub mostLines : ℕ
+mostLines = 65535
+
 unfoldable pub smallCount : ℕ → Bool
-smallCount count = leb count 10000000000
+smallCount count = leb count mostCount
 
 unfoldable pub fitEntry : Entry → Bool
 fitEntry e =

@@ -6,7 +6,9 @@ use mathlib.Core.List.{List, [], _∷_}
 use lib.Dec.{eqb, ltb, leb}
 use lib.ListN.{length, getD, set, replicate}
 use Rattle.words.specs.Loop.{pick}
+use Rattle.bits.specs.Digit.{byte0, byte9}
 use Rattle.night_totals.specs.declared.filling.Filling.{Filling}
+use Rattle.night_totals.specs.Form.{slot}
 
 abbrev pub blankOf : Bool → Filling
 blankOf wrong = record { at = 0; begun = false; value = 0; filled = 0; values = replicate 16 0; wrong = wrong }
@@ -17,7 +19,7 @@ spoiltOf = blankOf true
 
 -- whether a number stands at a place of the form
 unfoldable pub numberedAt : List ℕ → ℕ → Bool
-numberedAt form at = pick (ltb at (length form)) (eqb (getD form at 0) 35) false
+numberedAt form at = pick (ltb at (length form)) (eqb (getD form at 0) slot) false
 
 -- the place behind
 abbrev pub onward : Filling → Filling
@@ -67,9 +69,10 @@ unfoldable pub behindOf : List ℕ → Filling → ℕ → Filling
 behindOf form q b = pick (q .begun) (passedOf form (storedOf q) b) spoiltOf
 
 unfoldable pub numberOf : List ℕ → Filling → ℕ → Filling
-numberOf form q b = pick (ltb b 48) (behindOf form q b) (pick (ltb 57 b) (behindOf form q b) (digitOf q (b - 48)))
+numberOf form q b =
+    pick (ltb b byte0) (behindOf form q b) (pick (ltb byte9 b) (behindOf form q b) (digitOf q (b - byte0)))
 
 unfoldable pub filledOf : List ℕ → Filling → ℕ → Filling
 filledOf form q b =
     pick (q .wrong) spoiltOf
-    (pick (eqb b 35) spoiltOf (pick (numberedAt form (q .at)) (numberOf form q b) (passedOf form q b)))
+    (pick (eqb b slot) spoiltOf (pick (numberedAt form (q .at)) (numberOf form q b) (passedOf form q b)))

@@ -7,7 +7,7 @@ use lib.Dec.{eqb, ltb, leb}
 use lib.ListN.{length, getD}
 use Rattle.words.specs.Loop.{pick}
 use Rattle.night_totals.specs.Filling.{blankOf, spoiltOf, filledOf}
-use Rattle.night_totals.specs.Entries.{lineForm, fitEntry}
+use Rattle.night_totals.specs.Entries.{lineForm, mostLines, fitEntry}
 use Rattle.night_totals.specs.declared.entry.Entry.{Entry}
 use Rattle.night_totals.specs.declared.filling.Filling.{Filling}
 use Rattle.night_totals.specs.declared.totals.Totals.{Totals}
@@ -85,7 +85,7 @@ startOf = nightAt (blankOf false) noTotals false
 
 -- a byte would begin a line too many
 unfoldable pub fullOf : Filling → Totals → Bool
-fullOf q t = pick (eqb (q .at) 0) (leb 65535 (t .lines)) false
+fullOf q t = pick (eqb (q .at) 0) (leb mostLines (t .lines)) false
 
 -- a line that has come whole is added, where it is fit
 unfoldable pub judgedOf : Totals → Filling → Night

@@ -1,36 +1,14 @@
 // Numbers put into lent memory with their digits.
 ghost use Prim.Native.Nat.{_+_, _≤_, _<_};
 ghost use mathlib.Core.Path.{_≡_};
-ghost use Rattle.sheet.specs.Digits.{byteOf, power, digits};
-ghost use Rattle.forecast_text.specs.Printed.{widthIn, numeralOf};
+ghost use Rattle.sheet.specs.Digits.{power, digits};
+ghost use Rattle.forecast_text.specs.Printed.{numeralOf};
 ghost use Rattle.forecast_text.specs.Put.{Put};
+use forecast_text::numerals::decimal_width;
+use forecast_text::numerals::digit_byte;
 
 // More bytes than anything is printed with.
 pub const ROOM: usize = 4096;
-
-// The byte of a hexadecimal digit.
-fn byte(digit: u64) -> u8
-    requires { ⌜ digit < 16 ⌝ }
-    ensures { λ r. ⌜ r ≡ byteOf digit ⌝ }
-{
-    if digit < 10 {
-        return (48 + digit) as u8;
-    }
-    (87 + digit) as u8
-}
-
-// How many decimal digits a number has.
-fn width(value: u64) -> usize
-    ensures { λ r. ⌜ r ≡ widthIn 19 value ⌝ }
-{
-    let mut left = value;
-    let mut n: usize = 1;
-    while 10 <= left {
-        left = left / 10;
-        n += 1;
-    }
-    n
-}
 
 // Puts a number that `width` digits of a base can spell, the last digit first.
 fn put_digits(out: &mut [u8; ROOM], at: usize, base: u64, width: usize, value: u64) -> usize
@@ -41,7 +19,7 @@ fn put_digits(out: &mut [u8; ROOM], at: usize, base: u64, width: usize, value: u
     let mut rest = value;
     while 0 < left {
         left -= 1;
-        out[at + left] = byte(rest % base);
+        out[at + left] = digit_byte(rest % base);
         rest = rest / base;
     }
     at + width
@@ -53,5 +31,5 @@ pub fn put_number(out: &mut [u8; ROOM], at: usize, value: u64) -> usize
     ensures { λ r. ⌜ Put at (numeralOf value) (now (out .entry)) (now (out .exit)) r ⌝ }
     ensures { λ r. ⌜ r ≤ at + 20 ⌝ }
 {
-    put_digits(out, at, 10, width(value), value)
+    put_digits(out, at, 10, decimal_width(value), value)
 }

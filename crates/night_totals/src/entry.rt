@@ -1,4 +1,8 @@
 // What a status line says.
+
+// No count of a line is above it.
+pub const MOST_COUNT: u64 = 10_000_000_000;
+
 pub struct Entry {
     pub status: u64,
     pub accepted: u64,

@@ -7,8 +7,9 @@ ghost use lib.ListN.{getD};
 ghost use Rattle.night_totals.specs.Filling.{blankOf, spoiltOf, numberedAt, passedOf, valuedOf, digitOf};
 ghost use Rattle.night_totals.specs.Filling.{storedOf, behindOf, numberOf, filledOf};
 use crate::filling::Filling;
+use bits::BYTE_0;
 
-pub const SLOT: u8 = 35;
+pub const SLOT: u8 = b'#';
 
 // The most numbers that a form has.
 pub const MOST_VALUES: usize = 16;
@@ -141,13 +142,13 @@ fn behind(form: &[u8], filling: Filling, byte: u8) -> Filling
 fn at_number(form: &[u8], filling: Filling, byte: u8) -> Filling
     ensures { λ r. ⌜ r ≡ numberOf (now (form .entry)) filling byte ⌝ }
 {
-    if byte < 48 {
+    if byte < b'0' {
         return behind(form, filling, byte);
     }
-    if 57 < byte {
+    if b'9' < byte {
         return behind(form, filling, byte);
     }
-    digit(filling, byte as u64 - 48)
+    digit(filling, byte as u64 - BYTE_0)
 }
 
 // One byte more.

@@ -3,9 +3,7 @@ ghost use mathlib.Core.Path.{_≡_};
 ghost use Rattle.night_totals.specs.Entries.{bothOf, knownStatus, smallCount, fitEntry};
 ghost use Rattle.night_totals.specs.Night.{entryFrom};
 use crate::entry::Entry;
-
-// No count is above it.
-const MOST_COUNT: u64 = 10_000_000_000;
+use crate::entry::MOST_COUNT;
 
 pub fn entry_from(values: [u64; 16]) -> Entry
     ensures { λ r. ⌜ r ≡ entryFrom values ⌝ }

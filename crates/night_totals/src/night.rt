@@ -13,7 +13,7 @@ use crate::totals::Totals;
 use std::num::wrapping_add_u64;
 
 // The most lines of a night.
-const MOST_LINES: u64 = 65_535;
+pub const MOST_LINES: u64 = 65_535;
 
 // How long the form of a status line is.
 const FORM: usize = 56;

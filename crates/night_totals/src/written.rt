@@ -7,7 +7,7 @@ ghost use lib.ListN.{getD, length};
 ghost use Rattle.words.specs.Loop.{pick};
 ghost use Rattle.forecast_text.specs.Printed.{numeralOf};
 ghost use Rattle.forecast_text.specs.Put.{Put};
-ghost use Rattle.night_totals.specs.Form.{spelt};
+ghost use Rattle.night_totals.specs.Form.{slot, spelt};
 use crate::digits::ROOM;
 use crate::digits::put_number;
 use crate::form::SLOT;
@@ -21,7 +21,7 @@ fn value_at(values: [u64; 16], place: usize) -> u64
 // A byte of the form, or the number that stands there.
 fn put_piece(out: &mut [u8; ROOM], at: usize, byte: u8, value: u64) -> usize
     requires { ⌜ at + 20 ≤ 4096 ⌝ }
-    ensures { λ r. ⌜ Put at (pick (eqb byte 35) (numeralOf value) (byte ∷ []))
+    ensures { λ r. ⌜ Put at (pick (eqb byte slot) (numeralOf value) (byte ∷ []))
         (now (out .entry)) (now (out .exit)) r ⌝ }
     ensures { λ r. ⌜ r ≤ at + 20 ⌝ }
 {
@@ -35,7 +35,7 @@ fn put_piece(out: &mut [u8; ROOM], at: usize, byte: u8, value: u64) -> usize
 // How many numbers have been put.
 fn counted(byte: u8, numbers: usize) -> usize
     requires { ⌜ numbers ≤ 200 ⌝ }
-    ensures { λ r. ⌜ r ≡ numbers + pick (eqb byte 35) 1 0 ⌝ }
+    ensures { λ r. ⌜ r ≡ numbers + pick (eqb byte slot) 1 0 ⌝ }
     ensures { λ r. ⌜ r ≤ numbers + 1 ⌝ }
 {
     if byte == SLOT { numbers + 1 } else { numbers }

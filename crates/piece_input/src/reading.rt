@@ -1,4 +1,5 @@
 // Standard input, read by read.
+ghost use Rattle.piece_input.specs.Came.{CameInto};
 use libc::STDIN_FILENO;
 
 pub const PIECE: usize = 4096;
@@ -13,14 +14,17 @@ pub enum Came {
     Failed,
 }
 
-pub fn read_piece(piece: &mut [u8; PIECE]) -> Came {
+pub fn read_piece(piece: &mut [u8; PIECE]) -> Came
+    ensures { λ r. ⌜ CameInto (now (piece .exit)) r ⌝ }
+{
     let room: &mut [u8] = piece;
     let got = libc::read(STDIN_FILENO, room);
     if got < 0 {
         return Came::Failed;
     }
-    if got == 0 {
+    let count = io::count(got, room);
+    if count == 0 {
         return Came::End;
     }
-    Came::Bytes(io::count(got, room))
+    Came::Bytes(count)
 }

@@ -12,11 +12,11 @@ use Rattle.state.specs.declared.talk.Answer.the-variants as answer
 use Rattle.state.specs.declared.talk.Reply.{Reply}
 use Rattle.state.specs.declared.talk.Verdict.the-variants as verdict
 use Rattle.state.specs.Memory.{Memory, Factors}
+use Rattle.state.specs.MemorySetters.{setFactors}
 use Rattle.solve_blocks.specs.declared.step.Call.{Call}
 use Rattle.solve_blocks.specs.declared.step.Step.{Step}
 use Rattle.solve_blocks.specs.declared.step.Step.the-variants as step
 use Rattle.solve_blocks.specs.Matrices.{tried, passesOf}
-use Rattle.solve_blocks.specs.MemorySetters.{setFactors}
 use Rattle.solve_blocks.specs.Advance.{Stepped, stepped, repliedOf, called, calledOf, advanceOutcome, advanceBy}
 use Rattle.solve_blocks.proofs.PassLaws.{passes-stopped}
 

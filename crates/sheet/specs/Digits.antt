@@ -6,15 +6,15 @@ use mathlib.Core.Bool.{Bool}
 use mathlib.Core.List.{List, [], _∷_}
 use lib.Dec.{eqb, ltb}
 use Rattle.words.specs.Loop.{pick}
-use Rattle.bits.specs.Digit.{digitOf}
+use Rattle.bits.specs.Digit.{byte0, tenBelowA, digitOf}
 use Rattle.sheet.specs.declared.digits.Spelt.{Spelt}
 use Rattle.sheet.specs.declared.digits.Spelt.the-variants.{Value, Wrong}
 
 -- ---- written
 
--- the byte of a digit: 48 is 0, 97 is a
+-- the byte of a digit
 unfoldable pub byteOf : ℕ → ℕ
-byteOf d = pick (ltb d 10) (48 + d) (87 + d)
+byteOf d = pick (ltb d 10) (byte0 + d) (tenBelowA + d)
 
 unfoldable pub power : ℕ → ℕ → ℕ
 power b zero = 1

@@ -5,6 +5,7 @@ use lib.Dec.{eqb, ltb}
 use lib.ListN.{length, take, drop}
 use Rattle.words.specs.Loop.{pick}
 use Rattle.sheet.specs.Digits.{spelledOf, baseOf, widthBy, foundOf}
+use Rattle.sheet.specs.Sheet.{lineFeed}
 use Rattle.sheet.specs.Kinds.{kindOf}
 use Rattle.sheet.specs.declared.digits.Spelt.{Spelt}
 use Rattle.sheet.specs.declared.digits.Spelt.the-variants.{Value, Wrong}
@@ -43,7 +44,7 @@ pieceAt s t = pick (t .good) (got (t .value) (drop (t .next) s)) wrong
 
 -- how many lines a mark ends
 unfoldable pub endsOf : ℕ → ℕ
-endsOf mark = pick (eqb mark 10) 1 0
+endsOf mark = pick (eqb mark lineFeed) 1 0
 
 -- numbers, how many lines had ended where they end, and what follows them; or how many had ended
 -- before one that is wrong

@@ -41,12 +41,15 @@ pub record Known (species : ℕ) (r : Reaction) : Type 0 where
   pub product1 : r .product1 ≤ species
   pub product2 : r .product2 ≤ species
 
+abbrev pub mostSteps : ℕ
+mostSteps = 9999999999
+
 pub record Valid (m : Model) : Type 0 where
   pub x0 : Bits (m .x0)
   pub xend : Bits (m .xend)
   pub rtol : Bits (m .rtol)
   pub atol : Bits (m .atol)
-  pub «max_steps» : m .«max_steps» ≤ 9999999999
+  pub «max_steps» : m .«max_steps» ≤ mostSteps
   pub some : 1 ≤ length (m .amounts)
   pub few : length (m .amounts) ≤ 32
   pub amounts : Every Bits (m .amounts)
@@ -55,12 +58,18 @@ pub record Valid (m : Model) : Type 0 where
 
 -- ---- the sheet of a model
 
+abbrev pub lineFeed : ℕ
+lineFeed = 10
+
+abbrev pub space : ℕ
+space = 32
+
 -- a text with LF, or a space, behind it
 abbrev pub line : List ℕ → List ℕ
-line text = text ++ (10 ∷ [])
+line text = text ++ (lineFeed ∷ [])
 
 abbrev pub field : List ℕ → List ℕ
-field text = text ++ (32 ∷ [])
+field text = text ++ (space ∷ [])
 
 abbrev pub ruleNumber : Rule → ℕ
 ruleNumber rule.Rust = 0

@@ -2,6 +2,9 @@
 ghost use mathlib.Core.Path.{_≡_};
 ghost use Rattle.sheet.specs.Kinds.{settingOf, reactionOf, kindOf, hexKind, decimalKind};
 
+// A sheet asks for no more steps.
+const MOST_STEPS: u64 = 9_999_999_999;
+
 // The least and greatest value of a number, how it is written, and the byte that ends it.
 pub struct Kind {
     pub hex: bool,
@@ -50,7 +53,7 @@ fn setting(i: usize) -> Kind
         return hexadecimal(b'\n');
     }
     if i == 5 {
-        return decimal(0, 9999999999, b'\n');
+        return decimal(0, MOST_STEPS, b'\n');
     }
     if i == 6 {
         return decimal(0, 1, b'\n');

@@ -1,4 +1,5 @@
 // Standard input, of which the first bytes are kept.
+ghost use Rattle.sheet_input.specs.Input.{KeptIn};
 use libc::STDIN_FILENO;
 use replay::word::within;
 use std::num::wrapping_add_usize;
@@ -25,10 +26,11 @@ fn came(got: isize, room: &[u8]) -> Piece {
     if got < 0 {
         return Piece::Failed;
     }
-    if got == 0 {
+    let count = io::count(got, room);
+    if count == 0 {
         return Piece::End;
     }
-    Piece::Bytes(io::count(got, room))
+    Piece::Bytes(count)
 }
 
 // One read behind the bytes that are kept already; where there is no more room, what comes is dropped.
@@ -44,7 +46,9 @@ fn read_some(kept: &mut [u8], done: usize) -> Piece {
 
 // Reads standard input to its end, and keeps its first bytes. After an error nothing is judged: to judge the part that
 // came would blame a line that isn't wrong.
-pub fn read_all(kept: &mut [u8; KEPT]) -> Input {
+pub fn read_all(kept: &mut [u8; KEPT]) -> Input
+    ensures { λ r. ⌜ KeptIn r ⌝ }
+{
     let mut done = 0;
     for _ in 0..MOST_READS {
         match read_some(kept, done) {

@@ -2,22 +2,12 @@
 // what asks something of its caller isn't offered to other crates.
 ghost use Prim.Native.Nat.{_+_, _≤_, _<_};
 ghost use mathlib.Core.Path.{_≡_};
-ghost use Rattle.sheet.specs.Digits.{byteOf, power, digits};
+ghost use Rattle.sheet.specs.Digits.{power, digits};
 ghost use Rattle.forecast_text.specs.Put.{Put};
+use forecast_text::numerals::digit_byte;
 
 // Seventeen bytes for each of the 361 numbers that a sheet may have are 6,137.
 pub const ROOM: usize = 6144;
-
-// The byte of a hexadecimal digit.
-fn byte(digit: u64) -> u8
-    requires { ⌜ digit < 16 ⌝ }
-    ensures { λ r. ⌜ r ≡ byteOf digit ⌝ }
-{
-    if digit < 10 {
-        return (48 + digit) as u8;
-    }
-    (87 + digit) as u8
-}
 
 // Puts a number that `width` digits of a base can spell, the last digit first.
 pub fn put_digits(out: &mut [u8; ROOM], at: usize, base: u64, width: usize, value: u64) -> usize
@@ -28,7 +18,7 @@ pub fn put_digits(out: &mut [u8; ROOM], at: usize, base: u64, width: usize, valu
     let mut rest = value;
     while 0 < left {
         left -= 1;
-        out[at + left] = byte(rest % base);
+        out[at + left] = digit_byte(rest % base);
         rest = rest / base;
     }
     at + width

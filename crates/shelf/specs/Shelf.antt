@@ -25,22 +25,29 @@ step coefficients xold h = record { coefficients = coefficients; xold = xold; h 
 unfoldable pub holds : Float → Float → Float → Bool
 holds x xold h = le (boundsOf xold h .left) x && le x (boundsOf xold h .right)
 
--- up to 48 steps are kept: when all are taken the oldest gives up its room
+-- so many steps are kept
+abbrev pub mostKept : ℕ
+mostKept = 48
+
+-- when all are taken the oldest gives up its room
 abbrev pub shelved : Step → List Step → List Step
-shelved s steps = take 48 (s ∷ steps)
+shelved s steps = take mostKept (s ∷ steps)
 
 -- ---- in memory
 
+abbrev pub lastPlace : ℕ
+lastPlace = 47
+
 -- the places stand in a ring
 unfoldable pub placeBefore : ℕ → ℕ
-placeBefore zero = 47
+placeBefore zero = lastPlace
 placeBefore (suc place) = place
 
 unfoldable pub placeAfter : ℕ → ℕ
-placeAfter place = pick (eqb place 47) 0 (place + 1)
+placeAfter place = pick (eqb place lastPlace) 0 (place + 1)
 
 unfoldable pub stepsAfter : ℕ → ℕ
-stepsAfter steps = pick (eqb steps 48) 48 (steps + 1)
+stepsAfter steps = pick (eqb steps mostKept) mostKept (steps + 1)
 
 abbrev pub shelf : ℕ → ℕ → Shelf
 shelf steps place = record { steps = steps; place = place }

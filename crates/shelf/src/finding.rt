@@ -2,7 +2,7 @@
 ghost use Prim.Native.Nat.{_*_, _≤_};
 ghost use mathlib.Core.Path.{_≡_};
 ghost use lib.ListN.{length};
-ghost use Rattle.shelf.specs.Shelf.{holds};
+ghost use Rattle.shelf.specs.Shelf.{mostKept, lastPlace, holds};
 ghost use Rattle.shelf.specs.Finding.{foundFrom};
 use crate::places::place_before;
 use dense::bounds;
@@ -23,7 +23,7 @@ fn within(x: f64, xold: f64, h: f64) -> bool
 
 // Goes back from the newest step, one by one.
 pub fn find(x: f64, ends: &[f64], place: usize, steps: usize) -> Found
-    requires { ⌜ (length (now ends) ≡ 96) × (place ≤ 47) ⌝ }
+    requires { ⌜ (length (now ends) ≡ mostKept * 2) × (place ≤ lastPlace) ⌝ }
     ensures { λ r. ⌜ r ≡ foundFrom x (now (ends .entry)) place steps ⌝ }
 {
     let mut at = place;

@@ -2,17 +2,14 @@
 ghost use mathlib.Core.Path.{_≡_};
 ghost use Rattle.shelf.specs.Refusals.{roomFits, shelfFits};
 use crate::answers::Shelf;
+use crate::places::LAST;
+use crate::places::MOST;
 
 // How many doubles 48 steps have for one amount: four coefficients each.
 const AN_AMOUNT: usize = 192;
 
 // How many doubles the ends of 48 steps are.
 const ENDS: usize = 96;
-
-// The most steps that are kept, and the last place.
-const MOST: usize = 48;
-
-const LAST: usize = 47;
 
 // Whether the two parts are as long as 48 steps of n amounts are. No product is formed, which might not fit.
 pub fn room_fits(n: usize, coefficients: usize, ends: usize) -> bool

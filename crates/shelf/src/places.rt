@@ -1,11 +1,11 @@
 // The 48 places of the shelf stand in a ring.
 ghost use Prim.Native.Nat.{_≤_};
 ghost use mathlib.Core.Path.{_≡_};
-ghost use Rattle.shelf.specs.Shelf.{placeBefore, placeAfter, stepsAfter};
+ghost use Rattle.shelf.specs.Shelf.{mostKept, lastPlace, placeBefore, placeAfter, stepsAfter};
 
-const LAST: usize = 47;
+pub const LAST: usize = 47;
 
-const MOST: usize = 48;
+pub const MOST: usize = 48;
 
 pub fn place_before(place: usize) -> usize
     ensures { λ r. ⌜ r ≡ placeBefore place ⌝ }
@@ -17,7 +17,7 @@ pub fn place_before(place: usize) -> usize
 }
 
 pub fn place_after(place: usize) -> usize
-    requires { ⌜ place ≤ 47 ⌝ }
+    requires { ⌜ place ≤ lastPlace ⌝ }
     ensures { λ r. ⌜ r ≡ placeAfter place ⌝ }
 {
     if place == LAST {
@@ -28,7 +28,7 @@ pub fn place_after(place: usize) -> usize
 
 // One more step, and never over 48.
 pub fn steps_after(steps: usize) -> usize
-    requires { ⌜ steps ≤ 48 ⌝ }
+    requires { ⌜ steps ≤ mostKept ⌝ }
     ensures { λ r. ⌜ r ≡ stepsAfter steps ⌝ }
 {
     if steps == MOST {

@@ -32,7 +32,8 @@ use Rattle.account.proofs.Sound.{passes, in-kind, everywhere, kept}
 use Rattle.account.proofs.Journals.{Sound}
 use Rattle.shelf.specs.Shelf.{Step, step}
 use Rattle.shelf_kept.specs.Kept.{stepHeld, accepts, modifies, stepsAccepted, unreported, reportedIn}
-use Rattle.shelf_kept.proofs.Ways.{isAccepted, isLater, isBegun, isFirst, Comes, Goes, goes-closed}
+use Rattle.shelf_kept.proofs.Ways.{wayOf, isAccepted, isLater, isBegun, isFirst}
+use Rattle.shelf_kept.proofs.Ways.{Comes, Goes, goes-closed}
 
 -- ---- the host writes no coefficients
 
@@ -94,7 +95,7 @@ pub record Told (j : Journal) : Type 0 where
 -- ---- by stage
 
 pub reports-due : (s : Stage) → isAccepted s ≡ false → askingAt s .report && isBegun s ≡ due s
-unfolding askingAt isBegun isAccepted isLater
+unfolding askingAt isBegun isAccepted isLater wayOf
 reports-due stage.FirstDerivative e = refl
 reports-due stage.FirstReport e = refl
 reports-due stage.FirstDerivativeAgain e = refl
@@ -110,7 +111,7 @@ reports-due stage.DerivativeAgain e = refl
 reports-due (stage.Ended t) e = refl
 
 begins : (s : Stage) → askingAt s .report || isBegun s ≡ not (isFirst s)
-unfolding askingAt isBegun isFirst
+unfolding askingAt isBegun isFirst wayOf
 begins stage.FirstDerivative = refl
 begins stage.FirstReport = refl
 begins stage.FirstDerivativeAgain = refl
@@ -137,7 +138,7 @@ or-true true e = refl
 or-true false e = e
 
 not-both : (s : Stage) → isLater s ≡ true → isAccepted s ≡ false
-unfolding isLater isAccepted
+unfolding isLater isAccepted wayOf
 not-both stage.FirstDerivative e = refl
 not-both stage.FirstReport e = refl
 not-both stage.FirstDerivativeAgain e = refl
@@ -153,7 +154,7 @@ not-both stage.DerivativeAgain e = refl
 not-both (stage.Ended t) e = refl
 
 is-accepted : (s : Stage) → isAccepted s ≡ true → s ≡ stage.Accepted
-unfolding isAccepted
+unfolding isAccepted wayOf
 is-accepted stage.FirstDerivative e = absurd (false-true e)
 is-accepted stage.FirstReport e = absurd (false-true e)
 is-accepted stage.FirstDerivativeAgain e = absurd (false-true e)
@@ -218,7 +219,7 @@ module _ (o : Opening) (j : Journal) (a : Action) (s : Sound o j) (fair : Fair (
   -- at an acceptance nothing is modified, and the report takes the step over
   accepted-put : isAccepted (r .stage) ≡ true → (before ≡ stepHeld (j .point) ∷ putsIn (j .turns))
       × (putsIn (here ∷ j .turns) ≡ putsIn (j .turns))
-  unfolding putsIn isAccepted askingAt
+  unfolding putsIn isAccepted askingAt wayOf
   accepted-put on =
       let at : r .stage ≡ stage.Accepted = is-accepted (r .stage) on in
       let quiet : askingAt (r .stage) .report ≡ false = ap (λ t. askingAt t .report) at in

@@ -22,12 +22,12 @@ use Rattle.shelf.specs.Ask.{answerOf, askOf}
 use Rattle.shelf.proofs.Theorems.{ask-answer}
 use Rattle.shelf_kept.specs.Kept.{stepHeld, stepsAccepted, unreported, reportedIn}
 use Rattle.shelf_kept.specs.Kept.{Beside, beside, putWith, besideAfter, besideNow}
-use Rattle.shelf_kept.proofs.Ways.{isAccepted, isLater, isBegun}
+use Rattle.shelf_kept.proofs.Ways.{wayOf, isAccepted, isLater, isBegun}
 use Rattle.shelf_kept.proofs.Accepted.{putsIn, due, reports-due, Told, told-next}
 use Rattle.shelf_kept.proofs.Shelves.{Shelves, shelves-empty, shelves-put, shelves-turn, shelves-reported}
 
 told-first : (o : Opening) (j : Journal) → Starts (openOf o) j → Told j
-unfolding Starts stepsAccepted putsIn unreported reportedIn isAccepted isLater isBegun pick
+unfolding Starts stepsAccepted putsIn unreported reportedIn isAccepted isLater isBegun pick wayOf
 told-first o j s =
     let p = opens o j s in
     rw (s .2)

@@ -12,9 +12,8 @@ use Rattle.shelf.specs.Ask.{answerOf, askOf}
 use Rattle.shelf_kept.specs.Kept.{stepsAccepted, unreported, beside, putWith, besideAfter, besideNow}
 use Rattle.shelf_kept.proofs.Journals.{kept-proof, answers-proof, pending-proof, pending-answers-proof}
 
--- What stands on the shelf of a host that puts the held step there at each report after the first and empties it when
--- it replies 'modified' is, in order, the newest 48 of the steps accepted since the last modified point: at every point
--- of every journal, but between an acceptance and its report.
+-- A host's shelf (a held step put at each report after the first, emptied at a reply 'modified') keeps, in order, the
+-- newest 48 of the steps accepted since the last modified point, but between an acceptance and its report.
 pub shelf-keeps : (o : Opening) (j : Journal) → JournalOf o j → (coefficients ends : List Float)
     → Room (o .n) (length coefficients) (length ends) → unreported (j .turns) ≡ false
     → keptOf (besideNow (beside emptyShelf coefficients ends) j .shelf) (o .n)

@@ -14,66 +14,46 @@ use Rattle.solve_blocks.proofs.Rules.{attempt, failing, newton, estimate, judgi
 use Rattle.account.specs.Reading.{meansOf, later, laterAll}
 use Rattle.shelf_kept.specs.Kept.{accepts}
 
--- past an acceptance; at a report that is not the first; past the first report's request
-unfoldable pub isAccepted : Stage → Bool
-isAccepted stage.FirstDerivative = false
-isAccepted stage.FirstReport = false
-isAccepted stage.FirstDerivativeAgain = false
-isAccepted stage.Jacobian = false
-isAccepted (stage.Column c) = false
-isAccepted stage.Newton1 = false
-isAccepted stage.Newton2 = false
-isAccepted stage.Newton3 = false
-isAccepted stage.Refinement = false
-isAccepted stage.Accepted = true
-isAccepted stage.Report = false
-isAccepted stage.DerivativeAgain = false
-isAccepted (stage.Ended s) = false
+-- where a stage stands: at the first derivative; past the first report's request; past an acceptance; at a report that
+-- is not the first
+pub record Way : Type 0 where
+  pub first : Bool
+  pub begun : Bool
+  pub accepted : Bool
+  pub later : Bool
 
-unfoldable pub isLater : Stage → Bool
-isLater stage.FirstDerivative = false
-isLater stage.FirstReport = false
-isLater stage.FirstDerivativeAgain = false
-isLater stage.Jacobian = false
-isLater (stage.Column c) = false
-isLater stage.Newton1 = false
-isLater stage.Newton2 = false
-isLater stage.Newton3 = false
-isLater stage.Refinement = false
-isLater stage.Accepted = false
-isLater stage.Report = true
-isLater stage.DerivativeAgain = false
-isLater (stage.Ended s) = false
+abbrev way : Bool → Bool → Bool → Bool → Way
+way f b a l = record { first = f; begun = b; accepted = a; later = l }
 
-unfoldable pub isBegun : Stage → Bool
-isBegun stage.FirstDerivative = false
-isBegun stage.FirstReport = false
-isBegun stage.FirstDerivativeAgain = true
-isBegun stage.Jacobian = true
-isBegun (stage.Column c) = true
-isBegun stage.Newton1 = true
-isBegun stage.Newton2 = true
-isBegun stage.Newton3 = true
-isBegun stage.Refinement = true
-isBegun stage.Accepted = true
-isBegun stage.Report = true
-isBegun stage.DerivativeAgain = true
-isBegun (stage.Ended s) = true
+abbrev working : Way
+working = way false true false false
+
+unfoldable pub wayOf : Stage → Way
+wayOf stage.FirstDerivative = way true false false false
+wayOf stage.FirstReport = way false false false false
+wayOf stage.FirstDerivativeAgain = working
+wayOf stage.Jacobian = working
+wayOf (stage.Column c) = working
+wayOf stage.Newton1 = working
+wayOf stage.Newton2 = working
+wayOf stage.Newton3 = working
+wayOf stage.Refinement = working
+wayOf stage.Accepted = way false true true false
+wayOf stage.Report = way false true false true
+wayOf stage.DerivativeAgain = working
+wayOf (stage.Ended s) = working
 
 unfoldable pub isFirst : Stage → Bool
-isFirst stage.FirstDerivative = true
-isFirst stage.FirstReport = false
-isFirst stage.FirstDerivativeAgain = false
-isFirst stage.Jacobian = false
-isFirst (stage.Column c) = false
-isFirst stage.Newton1 = false
-isFirst stage.Newton2 = false
-isFirst stage.Newton3 = false
-isFirst stage.Refinement = false
-isFirst stage.Accepted = false
-isFirst stage.Report = false
-isFirst stage.DerivativeAgain = false
-isFirst (stage.Ended s) = false
+isFirst s = wayOf s .first
+
+unfoldable pub isBegun : Stage → Bool
+isBegun s = wayOf s .begun
+
+unfoldable pub isAccepted : Stage → Bool
+isAccepted s = wayOf s .accepted
+
+unfoldable pub isLater : Stage → Bool
+isLater s = wayOf s .later
 
 -- one event more
 past : (es : List Event) (e : Event) (b : Bool) → laterAll (es ++ e ∷ []) b ≡ later e (laterAll es b)
@@ -152,7 +132,7 @@ module _ (s₀ : Stage) where
   to s a b c w = record { accepted = w .quiet ∙ sym a; later = b ∙ w .away; begun = c ∙ w .past }
 
   pub goes-closed : (p : Reply) (mass jac : List Float) → Closed p mass jac Goes
-  unfolding Goes isAccepted isLater isBegun isFirst meansOf
+  unfolding Goes wayOf isAccepted isLater isBegun isFirst meansOf
   goes-closed p mass jac =
       record {
         first-filled = λ w.

@@ -9,12 +9,12 @@ use Rattle.words.proofs.Branch.{pick-all}
 use Rattle.state.specs.declared.settings.Mass.{Mass}
 use Rattle.state.specs.declared.run.Run.{Run}
 use Rattle.state.specs.Memory.{Factors, factors}
+use Rattle.state.specs.MemorySetters.{setFactors}
 use Rattle.solve_blocks.specs.declared.step.Step.{Step}
 use Rattle.solve_blocks.specs.declared.step.Step.the-variants as step
 use Rattle.solve_blocks.specs.Setters.{_▸_, inCounts, inNotes, oneLu, setLatest}
 use Rattle.solve_blocks.specs.Events.{Event, Logged, logged, quiet, andThen}
 use Rattle.solve_blocks.specs.Entries.{Three, three}
-use Rattle.solve_blocks.specs.MemorySetters.{setFactors}
 use Rattle.solve_blocks.specs.Matrices.{failedOf, builtOf, Tried, tried, complexTriedOf, realTriedOf, triedOf}
 use Rattle.solve_blocks.specs.Matrices.{passesOn, runOf, passAt, passesOf}
 use Rattle.solve_blocks.specs.Advance.{Stepped, stepped, passedOf}

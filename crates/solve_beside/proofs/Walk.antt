@@ -21,6 +21,7 @@ use Rattle.state.specs.declared.run.Stage.the-variants as stage
 use Rattle.state.specs.declared.talk.Reply.{Reply}
 use Rattle.state.specs.declared.talk.Verdict.the-variants.{Passed}
 use Rattle.state.specs.Memory.{Memory, memory, amounts, Newton, Differences}
+use Rattle.state.specs.MemorySetters.{setCont, setYCont, setF12, setNewton, setDifferences, setColumn}
 use Rattle.opening.specs.Rows.{verdictOf}
 use Rattle.opening.specs.Admission.{admissionRows}
 use Rattle.solve_blocks.specs.declared.step.Heard.{Heard}
@@ -37,7 +38,6 @@ use Rattle.solve_blocks.specs.Newton.{RoundDone, roundOf, Resumed}
 use Rattle.solve_blocks.specs.Judge.{Judged, Estimated}
 use Rattle.solve_blocks.specs.Report.{askReport, reportedOf}
 use Rattle.solve_blocks.specs.Jacobian.{Asking, askJacobianBy, Columned}
-use Rattle.solve_blocks.specs.MemorySetters.{setCont, setYCont, setF12, setNewton, setDifferences, setColumn}
 use Rattle.solve_blocks.specs.Advance.{Stepped, stepped, inMemory, Called, called, startedOf, returnedOf, concludeOf}
 use Rattle.solve_blocks.specs.Advance.{repliedOf, passedOf, calledOf}
 use Rattle.solve_blocks.specs.Needs.{StepFit}

@@ -8,9 +8,9 @@ use Rattle.state.specs.declared.settings.Rule.{Rule}
 use Rattle.state.specs.declared.settings.Source.{Source}
 use Rattle.state.specs.declared.run.Run.{Run}
 use Rattle.state.specs.Memory.{Memory, given}
+use Rattle.state.specs.MemorySetters.{setGiven}
 use Rattle.solve_blocks.specs.declared.step.Call.{Call}
 use Rattle.solve_blocks.specs.Matrices.{call}
-use Rattle.solve_blocks.specs.MemorySetters.{setGiven}
 use Rattle.solve_blocks.specs.Advance.{Called, called}
 
 pub record Changes : Type 0 where

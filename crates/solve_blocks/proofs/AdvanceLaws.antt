@@ -19,6 +19,9 @@ use Rattle.state.specs.declared.talk.Reply.{Reply}
 use Rattle.state.specs.declared.talk.Verdict.{Verdict}
 use Rattle.state.specs.declared.talk.Verdict.the-variants as verdict
 use Rattle.state.specs.Memory.{Memory, memory, amounts, Newton, Factors, Differences}
+use Rattle.state.specs.MemorySetters.{setScal, setCont, setYCont, setF12}
+use Rattle.state.specs.MemorySetters.{setNewton, setFactors, setDifferences}
+use Rattle.state.specs.MemorySetters.{setColumn}
 use Rattle.opening.specs.Rows.{verdictOf}
 use Rattle.opening.specs.Admission.{admissionRows}
 use Rattle.solve_blocks.specs.declared.step.Call.{Call}
@@ -35,9 +38,6 @@ use Rattle.solve_blocks.specs.Newton.{roundDone, roundOf, resumed, again
 use Rattle.solve_blocks.specs.Judge.{judged, estimated, estimateOf, refinedOf}
 use Rattle.solve_blocks.specs.Report.{askFirstReport, askReport, reportedOf, arrivedOf}
 use Rattle.solve_blocks.specs.Jacobian.{asking, askJacobianOf, columned, columnOf}
-use Rattle.solve_blocks.specs.MemorySetters.{setScal, setCont, setYCont, setF12}
-use Rattle.solve_blocks.specs.MemorySetters.{setNewton, setFactors, setDifferences}
-use Rattle.solve_blocks.specs.MemorySetters.{setColumn}
 use Rattle.solve_blocks.specs.Advance.{Stepped, stepped, startedOf, returnedOf}
 use Rattle.solve_blocks.specs.Advance.{concludeOf, repliedOf, receivedOf, called, calledOf}
 use Rattle.solve_blocks.specs.Advance.{advanceOutcome, advanceBy, advanceOf}

@@ -14,6 +14,8 @@ use Rattle.state.specs.declared.talk.Reply.{Reply}
 use Rattle.state.specs.declared.talk.Verdict.{Verdict}
 use Rattle.state.specs.declared.talk.Verdict.the-variants as verdict
 use Rattle.state.specs.Memory.{Memory, memory, amounts}
+use Rattle.state.specs.MemorySetters.{setScal, setCont, setYCont, setF12}
+use Rattle.state.specs.MemorySetters.{setNewton, setFactors, setDifferences, setColumn}
 use Rattle.opening.specs.Rows.{verdictOf}
 use Rattle.opening.specs.Admission.{admissionRows}
 use Rattle.solve_blocks.specs.declared.step.Call.{Call}
@@ -23,8 +25,6 @@ use Rattle.solve_blocks.specs.declared.step.Round.{Round}
 use Rattle.solve_blocks.specs.declared.step.Round.the-variants as round
 use Rattle.solve_blocks.specs.declared.step.Step.{Step}
 use Rattle.solve_blocks.specs.declared.step.Step.the-variants as step
-use Rattle.solve_blocks.specs.MemorySetters.{setScal, setCont, setYCont, setF12}
-use Rattle.solve_blocks.specs.MemorySetters.{setNewton, setFactors, setDifferences, setColumn}
 use Rattle.solve_blocks.specs.Events.{Logged, logged, quiet, andThen}
 use Rattle.solve_blocks.specs.Scale.{scaledOf}
 use Rattle.solve_blocks.specs.Matrices.{endedOf, passesOf}

@@ -1,6 +1,5 @@
 -- In order of reading.
 pub mod Setters
-pub mod MemorySetters
 pub mod Events
 pub mod Entries
 pub mod Scale

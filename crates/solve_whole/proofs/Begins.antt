@@ -19,12 +19,12 @@ use Rattle.state.specs.declared.talk.Place.the-variants as place
 use Rattle.state.specs.declared.talk.Reply.{Reply}
 use Rattle.state.specs.declared.talk.Request.the-variants as request
 use Rattle.state.specs.Memory.{Memory}
+use Rattle.state.specs.MemorySetters.{setFactors, setColumn, setDifferences}
 use Rattle.solve_blocks.specs.declared.step.Step.the-variants as step
 use Rattle.solve_blocks.specs.Setters.{_▸_, atStage}
 use Rattle.solve_blocks.specs.Matrices.{call, Tried, tried, triedOf, passesOf, passAt}
 use Rattle.solve_blocks.specs.Jacobian.{Columned, columned, askJacobianBy}
 use Rattle.solve_blocks.specs.Jacobian.{askColumnOf, columnAt, columnOf, perturbation}
-use Rattle.solve_blocks.specs.MemorySetters.{setFactors, setColumn, setDifferences}
 use Rattle.solve_blocks.specs.Advance.{Stepped, stepped, jacobianOf, repliedOf, calledOf}
 use Rattle.solve_blocks.proofs.PassLaws.{passed, passes-core}
 use Rattle.history.specs.Host.{isEnd, wrote, filled}

@@ -7,6 +7,7 @@ use Rattle.words.specs.Constants.{«1·0»}
 use Rattle.words.specs.Loop.{loop}
 use Rattle.state.specs.declared.run.Run.{Run}
 use Rattle.state.specs.Memory.{Memory}
+use Rattle.state.specs.MemorySetters.{setCont, setYCont}
 use Rattle.solve_blocks.specs.declared.step.Round.the-variants as round
 use Rattle.solve_blocks.specs.declared.step.Step.the-variants as step
 use Rattle.solve_blocks.specs.Events.{Logged}
@@ -14,7 +15,6 @@ use Rattle.solve_blocks.specs.Setters.{_▸_, inCounts, oneLu}
 use Rattle.solve_blocks.specs.Entries.{three}
 use Rattle.solve_blocks.specs.Estimate.{solvedFirst, errorOf, plusAt, sumAt}
 use Rattle.solve_blocks.specs.Judge.{Judged, judgedOf, testedOf, estimateOf, refinedOf, askAccepted, askRefinement}
-use Rattle.solve_blocks.specs.MemorySetters.{setCont, setYCont}
 use Rattle.solve_blocks.specs.Advance.{Stepped, stepped, repliedOf, concludeOf}
 use Rattle.history.specs.Host.{isEnd}
 use Rattle.solve_whole.specs.Talk.{Host, World, onMemory, ask}

@@ -9,10 +9,10 @@ use lib.Ieee.{Float}
 use Rattle.words.specs.Loop.{loop}
 use Rattle.words.proofs.Branch.{pick-all, pick-yes, pick-no}
 use Rattle.state.specs.Memory.{Memory}
+use Rattle.state.specs.MemorySetters.{setFactors}
 use Rattle.solve_blocks.specs.declared.step.Step.{Step}
 use Rattle.solve_blocks.specs.declared.step.Step.the-variants as step
 use Rattle.solve_blocks.specs.Matrices.{Tried, tried, triedOf, passesOn, runOf, passesOf}
-use Rattle.solve_blocks.specs.MemorySetters.{setFactors}
 use Rattle.solve_blocks.specs.Advance.{stepped, calledOf}
 use Rattle.solve_blocks.proofs.PassLaws.{passed, passes-core}
 use Rattle.solve_whole.proofs.RunSound.{Sound, Out, Past, tried-past}

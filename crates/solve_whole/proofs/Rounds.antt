@@ -17,6 +17,7 @@ use Rattle.state.specs.declared.run.Stage.the-variants as stage
 use Rattle.state.specs.declared.run.Status.the-variants as status
 use Rattle.state.specs.declared.talk.Place.the-variants as place
 use Rattle.state.specs.Memory.{memory, amounts}
+use Rattle.state.specs.MemorySetters.{setCont, setNewton}
 use Rattle.solve_blocks.specs.declared.step.Round.{Round}
 use Rattle.solve_blocks.specs.declared.step.Round.the-variants as round
 use Rattle.solve_blocks.specs.declared.step.Step.the-variants as step
@@ -25,7 +26,6 @@ use Rattle.solve_blocks.specs.Setters.{_▸_}
 use Rattle.solve_blocks.specs.Matrices.{failedOf, passesOf, passAt}
 use Rattle.solve_blocks.specs.Attempt.{Begun, askStageOf, askFirstOf, beganOf, attemptOf}
 use Rattle.solve_blocks.specs.Newton.{Resumed, againOf, roundOf}
-use Rattle.solve_blocks.specs.MemorySetters.{setCont, setNewton}
 use Rattle.solve_blocks.specs.Advance.{stepped, repliedOf, concludeOf, calledOf}
 use Rattle.history.specs.Host.{isEnd}
 use Rattle.solve_whole.specs.Talk.{Host, World, world, onMemory, ask}

@@ -29,6 +29,8 @@ use Rattle.state.specs.declared.talk.Reply.{Reply}
 use Rattle.state.specs.declared.talk.Reply.the-variants as reply
 use Rattle.state.specs.declared.talk.Request.the-variants as request
 use Rattle.state.specs.Memory.{Memory}
+use Rattle.state.specs.MemorySetters.{setScal, setCont, setYCont, setF12, setNewton, setFactors, setDifferences}
+use Rattle.state.specs.MemorySetters.{setColumn}
 use Rattle.solve_blocks.specs.declared.step.Call.{Call}
 use Rattle.solve_blocks.specs.declared.step.Round.{Round}
 use Rattle.solve_blocks.specs.declared.step.Round.the-variants as round
@@ -45,8 +47,6 @@ use Rattle.solve_blocks.specs.Newton.{roundOf}
 use Rattle.solve_blocks.specs.Estimate.{defectOf, sides, sidesOf, solvedFirst, errorOf, plusAt, sumAt}
 use Rattle.solve_blocks.specs.Judge.{moved, movedOf, quotOf, acceptedOf, askAccepted, rejectedOf, askRefinement}
 use Rattle.solve_blocks.specs.Report.{askFirstReport, askReport, askModified, arrivedOf}
-use Rattle.solve_blocks.specs.MemorySetters.{setScal, setCont, setYCont, setF12, setNewton, setFactors, setDifferences}
-use Rattle.solve_blocks.specs.MemorySetters.{setColumn}
 use Rattle.solve_blocks.specs.Advance.{rescaled}
 use Rattle.solve_whole.specs.Talk.{Host, World, world, onMemory, ask, replyOf}
 

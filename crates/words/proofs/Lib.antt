@@ -4,4 +4,5 @@ pub mod Branch
 pub mod Loops
 pub mod Grid
 pub mod Table
-pub mod ConstantTheorems
+pub mod ConstantLaws
+pub mod Theorems

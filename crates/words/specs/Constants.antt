@@ -1,5 +1,5 @@
 -- The numbers in the Rust's text and in 01, the method's coefficients aside. Each is named as it is written there,
--- with · for the point, which no name may hold, and is the double nearest to it (proofs/ConstantTheorems.antt).
+-- with · for the point, which no name may hold, and is the double nearest to it (proofs/Theorems.antt).
 use Prim.Native.Nat.{ℕ, _+_, _-_, _*_, _^_}
 use mathlib.Core.Bool.{Bool, _&&_}
 use mathlib.Core.List.{List, [], _∷_}

@@ -1,12 +1,12 @@
 -- `put_digits` meets its contract: with the digits that are left to put, memory is what it is to be.
 use Prim.Native.Nat.{_≤_, _<_}
 use mathlib.Core.Path.{_≡_, refl, _∙_}
-use native.Mathlib.Nat.{mod-lt}
 use native.Mathlib.Omega.{arith}
+use borrow.Author.Needs.{needs}
 use lib.ListN.{length, length-set}
 use lib.Seq.{sets}
 use Rattle.sheet.specs.Digits.{power, digits}
-use Rattle.forecast_text.proofs.DigitLaws.{digit-turn, digits-put}
+use Rattle.forecast_text.proofs.DigitLaws.{last-byte, digit-turn, digits-put}
 use Rattle.csv.proofs.digits.put_digits.Statement.{statement}
 use Rattle.csv.proofs.digits.put_digits.Tie as tie
 
@@ -26,13 +26,11 @@ loop-holds c = (refl, omega arith, c .before .pre .3, refl)
 sub-left : tie.Need-sub-left Inv-loop μ-loop
 sub-left c = omega arith
 
-rem-byte : tie.Need-rem-byte Inv-loop μ-loop
-rem-byte c = omega arith
+rem-digit-byte : tie.Need-rem-digit-byte Inv-loop μ-loop
+rem-digit-byte c = omega arith
 
-byte-requires : tie.Need-byte-requires Inv-loop μ-loop
-byte-requires c κs =
-    let some : 0 < c .before .before .before .args .base = omega arith in
-    omega (arith, mod-lt (c .before .loop .rest) some)
+digit-byte-requires : tie.Need-digit-byte-requires Inv-loop μ-loop
+digit-byte-requires c κs = search needs
 
 add-out : tie.Need-add-out Inv-loop μ-loop
 add-out c = omega arith
@@ -53,7 +51,8 @@ loop-again c =
     (c .before .before .loop .rest) (start .args .at) (c .before .before .loop .out)
     (c .before .loop-test .taken) (c .before .before .loop .inv .2) in
     let inv = c .before .before .loop .inv in
-    (simp length-set (omega arith), omega arith, t .fits, rw (c .byte .ensures) (t .is ∙ inv .3))
+    let byte = last-byte (c .before .before .loop .rest) (start .args .base) (omega arith) (omega arith) in
+    (simp length-set (omega arith), omega arith, t .fits, rw (c .digit-byte .ensures ∙ byte) (t .is ∙ inv .3))
 
 add-result : tie.Need-add-result Inv-loop μ-loop
 add-result c = omega arith
@@ -73,8 +72,8 @@ put-digits-spec =
     μ-loop
     loop-holds
     sub-left
-    rem-byte
-    byte-requires
+    rem-digit-byte
+    digit-byte-requires
     add-out
     slice-write-out
     div-rest

@@ -38,11 +38,7 @@ pub elchepur-read-sheet-spec : {M : Type 1} → statement M
 elchepur-read-sheet-spec =
     tie.close
     (tie.spec
-    (λ c κs. search needs)
-    (λ c. search needs)
-    (λ c κs. search needs)
-    (λ c κs. search needs)
-    (λ c. search needs)
+    (λ c κs. search needs) (λ c. search needs) (λ c κs. search needs) (λ c κs. search needs) (λ c. search needs)
     (λ c. search needs)
     returns
     returns-2

@@ -11,14 +11,14 @@ put-digits-requires c κs = (
   omega (arith, width-few 19 (c .before .before .args .value)),
   omega arith,
   omega arith,
-  rw (c .width .ensures) (width-spells 19 _ (omega (arith, twenty))),
+  rw (c .decimal-width .ensures) (width-spells 19 _ (omega (arith, twenty))),
 )
 
 returns : tie.Need-returns
 returns c =
     let value = c .before .before .before .args .value in (
-      rw (c .before .width .ensures) at (c .put-digits .ensures),
-      omega (arith, length-digits 10 (c .before .width .result) value, width-few 19 value),
+      rw (c .before .decimal-width .ensures) at (c .put-digits .ensures),
+      omega (arith, length-digits 10 (c .before .decimal-width .result) value, width-few 19 value),
     )
 
 pub put-number-spec : {M : Type 1} → statement M

@@ -4,7 +4,7 @@ use native.Mathlib.Omega.{arith}
 use lib.ListN.{length}
 use borrow.Author.Needs.{needs}
 use Rattle.model.specs.Answers.{Derivation}
-use Rattle.model.proofs.DerivativeTheorems.{accepted}
+use Rattle.model.proofs.Theorems.{accepted}
 use Rattle.model.proofs.PlanLaws.{fitting-plan, planned-derivative}
 use Rattle.model.proofs.planned.derivative_by_plan.Statement.{statement}
 use Rattle.model.proofs.planned.derivative_by_plan.Tie as tie

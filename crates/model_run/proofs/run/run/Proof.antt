@@ -3,7 +3,7 @@
 use mathlib.Core.Path.{_∙_}
 use borrow.Author.Needs.{needs}
 use Rattle.model_run.proofs.Room.{square-fits}
-use Rattle.model_run.proofs.NoneRefused.{task-none-refused}
+use Rattle.model_run.proofs.NoneRefused.{none-refused-proof}
 use Rattle.model_run.proofs.TaskLaws.{run-refused, run-ran}
 use Rattle.model_run.proofs.run.run.Statement.{statement}
 use Rattle.model_run.proofs.run.run.Tie as tie
@@ -24,7 +24,7 @@ ran-requires c κs =
     let o = c .before .before .before in
     let a = start o .args in (
       search needs,
-      task-none-refused (a .task) (a .rates .now) (a .species .now) _ _ _ (o .opened .ensures)
+      none-refused-proof (a .task) (a .rates .now) (a .species .now) _ _ _ (o .opened .ensures)
           (c .before .run .given .1),
     )
 

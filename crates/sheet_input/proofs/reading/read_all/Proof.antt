@@ -1,11 +1,12 @@
--- `read_all` is safe and ends: its reads are counted. Assumes nothing.
+-- `read_all` meets its contract, and ends: its reads are counted.
 use borrow.Author.Needs.{needs}
-use Prim.Native.Nat.{_-_}
+use Prim.Native.Nat.{_-_, _≤_}
+use Rattle.sheet_input.specs.Input.{room}
 use Rattle.sheet_input.proofs.reading.read_all.Statement.{statement}
 use Rattle.sheet_input.proofs.reading.read_all.Tie as tie
 
 abbrev Inv-loop : tie.InvT-loop
-Inv-loop kept₀ done₀ counter₀ kept done counter = Unit {0}
+Inv-loop kept₀ done₀ counter₀ kept done counter = done ≤ room
 
 abbrev μ-loop : tie.MeasureT-loop
 μ-loop kept₀ done₀ counter₀ kept done counter = 18446744073709551615 - counter
@@ -15,16 +16,6 @@ read-all-spec =
     tie.close
     (tie.spec
     Inv-loop μ-loop
-    (λ c. search needs)
-    (λ c κs. search needs)
-    (λ c. search needs)
-    (λ c κs. search needs)
-    (λ c κs. search needs)
-    (λ c. search needs)
-    (λ c. search needs)
-    (λ c. search needs)
-    (λ c. search needs)
-    (λ c. search needs)
-    (λ c. search needs)
-    (λ c. search needs)
-    (λ c. search needs))
+    (λ c. search needs) (λ c κs. search needs) (λ c. search needs) (λ c κs. search needs) (λ c κs. search needs)
+    (λ c. search needs) (λ c. search needs) (λ c. search needs) (λ c. search needs) (λ c. search needs)
+    (λ c. search needs) (λ c. search needs) (λ c. search needs))

@@ -1,11 +1,11 @@
 -- `put_digits` meets its contract: with the digits that are left to put, memory is what it is to be.
 use Prim.Native.Nat.{_≤_, _<_}
 use mathlib.Core.Path.{_≡_, refl, _∙_}
-use native.Mathlib.Nat.{mod-lt}
 use native.Mathlib.Omega.{arith}
+use borrow.Author.Needs.{needs}
 use lib.Seq.{sets}
 use Rattle.sheet.specs.Digits.{power, digits}
-use Rattle.forecast_text.proofs.DigitLaws.{digit-turn, digits-put}
+use Rattle.forecast_text.proofs.DigitLaws.{last-byte, digit-turn, digits-put}
 use Rattle.sheet_write.proofs.digits.put_digits.Statement.{statement}
 use Rattle.sheet_write.proofs.digits.put_digits.Tie as tie
 
@@ -24,13 +24,11 @@ loop-holds c = (omega arith, c .pre .3, refl)
 sub-left : tie.Need-sub-left Inv-loop μ-loop
 sub-left c = omega arith
 
-rem-byte : tie.Need-rem-byte Inv-loop μ-loop
-rem-byte c = omega arith
+rem-digit-byte : tie.Need-rem-digit-byte Inv-loop μ-loop
+rem-digit-byte c = omega arith
 
-byte-requires : tie.Need-byte-requires Inv-loop μ-loop
-byte-requires c κs =
-    let some : 0 < c .before .before .args .base = omega arith in
-    omega (arith, mod-lt (c .before .loop .rest) some)
+digit-byte-requires : tie.Need-digit-byte-requires Inv-loop μ-loop
+digit-byte-requires c κs = search needs
 
 add-out : tie.Need-add-out Inv-loop μ-loop
 add-out c = omega arith
@@ -49,7 +47,9 @@ loop-again c =
     let t = digit-turn (c .before .before .before .args .base) (omega arith) (c .before .before .loop .left)
     (c .before .before .loop .rest) (c .before .before .before .args .at) (c .before .before .loop .out)
     (c .before .loop-test .taken) (c .before .before .loop .inv .1) in
-    (omega arith, t .fits, rw (c .byte .ensures) (t .is ∙ c .before .before .loop .inv .2))
+    let byte = last-byte (c .before .before .loop .rest) (c .before .before .before .args .base) (omega arith)
+    (omega arith) in
+    (omega arith, t .fits, rw (c .digit-byte .ensures ∙ byte) (t .is ∙ c .before .before .loop .inv .2))
 
 add-result : tie.Need-add-result Inv-loop μ-loop
 add-result c = omega arith
@@ -66,8 +66,8 @@ put-digits-spec =
     μ-loop
     loop-holds
     sub-left
-    rem-byte
-    byte-requires
+    rem-digit-byte
+    digit-byte-requires
     add-out
     element-write-out
     div-rest

@@ -102,55 +102,58 @@ returns-4 c =
     (said (at-if3 .before .fits4 .ensures) (not-false _ (at-if3 .if3 .left)))
     (said (rw (at-list .list-reactions .ensures) at (at-fits5 .fits5 .ensures)) (not-true _ (c .if4 .taken)))
 
-write-parts-requires : tie.Need-write-parts-requires
-write-parts-requires c κs =
-    let at-if4 = c .before .before .before .before .before in
+-- ---- past the last test
+
+abbrev list-at : tie.After-write-parts-arg → tie.After-list-reactions
+list-at c = c .before .before .before .before .before .before
+
+abbrev settings-at : tie.After-write-parts-arg → tie.After-settings-of
+settings-at c = list-at c .before .before .before .before .before .before .before .before .before .before .before
+
+abbrev start-at : tie.After-write-parts-arg → tie.Start
+start-at c = settings-at c .before .before
+
+right-at : (c : tie.After-write-parts-arg) → Right (start-at c .args .heading) (start-at c .args .amounts .now)
+    (start-at c .args .rates .now) (start-at c .args .species .now)
+right-at c =
+    let at-if4 = c .before .before in
     let at-list = at-if4 .before .before .before .before in
     let at-if3 = at-list .before .before in
     let at-if2 = at-if3 .before .before .before in
     let at-if1 = at-if2 .before .before .before in
     let at-settings-of = at-if1 .before .before .before in
-    let args = at-settings-of .before .before .args in
-    let right : Right (args .heading) (args .amounts .now) (args .rates .now) (args .species .now) = record {
+    record {
       settings = said (rw (at-settings-of .settings-of .ensures) at (at-if1 .before .fits2 .ensures))
           (not-false _ (at-if1 .if1 .left));
       count = said (at-if2 .before .fits3 .ensures) (not-false _ (at-if2 .if2 .left));
       amounts = said (at-if3 .before .fits4 .ensures) (not-false _ (at-if3 .if3 .left));
       reactions = said (rw (at-list .list-reactions .ensures) at (at-if4 .before .fits5 .ensures))
           (not-false _ (at-if4 .if4 .left));
-    } in (
+    }
+
+write-parts-requires : tie.Need-write-parts-requires
+write-parts-requires c κs =
+    let at-arg = c .before .before .before in
+    let args = start-at at-arg .args in (
       (
-        ap length (at-settings-of .settings-of .ensures),
-        omega (arith, c .before .before .before .write-parts-arg .given),
+        ap length (settings-at at-arg .settings-of .ensures),
+        omega (arith, at-arg .write-parts-arg .given),
         refl,
-        omega (arith, at-if4 .before .before .before .listed2 .given),
+        omega (arith, at-arg .before .before .before .before .before .listed2 .given),
       ),
-      rw (at-settings-of .settings-of .ensures, at-list .list-reactions .ensures)
-          (right-fits (args .heading) (args .amounts .now) (args .rates .now) (args .species .now) right),
+      rw (settings-at at-arg .settings-of .ensures, list-at at-arg .list-reactions .ensures)
+          (right-fits (args .heading) (args .amounts .now) (args .rates .now) (args .species .now) (right-at at-arg)),
     )
 
 returns-5 : tie.Need-returns-5
 returns-5 c =
-    let at-if4 = c .before .before .before .before .before .before .before .before in
-    let at-list = at-if4 .before .before .before .before in
-    let at-if3 = at-list .before .before in
-    let at-if2 = at-if3 .before .before .before in
-    let at-if1 = at-if2 .before .before .before in
-    let at-settings-of = at-if1 .before .before .before in
-    let args = at-settings-of .before .before .args in
-    let right : Right (args .heading) (args .amounts .now) (args .rates .now) (args .species .now) = record {
-      settings = said (rw (at-settings-of .settings-of .ensures) at (at-if1 .before .fits2 .ensures))
-          (not-false _ (at-if1 .if1 .left));
-      count = said (at-if2 .before .fits3 .ensures) (not-false _ (at-if2 .if2 .left));
-      amounts = said (at-if3 .before .fits4 .ensures) (not-false _ (at-if3 .if3 .left));
-      reactions = said (rw (at-list .list-reactions .ensures) at (at-if4 .before .fits5 .ensures))
-          (not-false _ (at-if4 .if4 .left));
-    } in
+    let at-arg = c .before .before .before .before .before .before in
+    let args = start-at at-arg .args in
     outcome-held (args .heading) (args .amounts .now) (args .rates .now) (args .species .now) (args .out .now)
-    (right-held (args .heading) (args .amounts .now) (args .rates .now) (args .species .now) right) _
+    (right-held (args .heading) (args .amounts .now) (args .rates .now) (args .species .now) (right-at at-arg)) _
     (parts-model (args .heading) (args .amounts .now) (args .rates .now) (args .species .now)
-    (at-settings-of .settings-of .result) (at-list .list-reactions .last .1 .1 .1 .0)
-    (at-settings-of .settings-of .ensures) (at-list .list-reactions .ensures))
+    (settings-at at-arg .settings-of .result) (list-at at-arg .list-reactions .last .1 .1 .1 .0)
+    (settings-at at-arg .settings-of .ensures) (list-at at-arg .list-reactions .ensures))
     (c .before .before .write-parts .ensures .0) (c .before .before .write-parts .ensures .1)
 
 pub write-spec : {M : Type 1} → statement M

@@ -25,6 +25,6 @@ split b p q t =
     let upper = leb (2 * p * unitsInOne) ((units b + units (b + 1)) * q) in
     record { lower = and-l lower upper t; upper = and-r lower upper t }
 
-pub constant-right : (k : ℕ) → k < 23 → Right (getD constants k (constant nan 0 1))
+pub constant-right-proof : (k : ℕ) → k < 23 → Right (getD constants k (constant nan 0 1))
 unfolding right
-constant-right k h = split _ _ _ (at-each right (constant nan 0 1) constants tested k h)
+constant-right-proof k h = split _ _ _ (at-each right (constant nan 0 1) constants tested k h)

@@ -1,8 +1,9 @@
--- The memory of a run with some of its parts exchanged. Its groups stand in crates/state/specs/Memory.antt.
+-- The memory of a run with some of its parts exchanged. Its groups stand in Memory.antt, the setters of a run in
+-- crates/solve_blocks/specs/Setters.antt.
 use mathlib.Core.List.{List}
 use lib.Ieee.{Float}
 use Rattle.state.specs.Memory.{Memory, Amounts, Newton, Given, Factors, Differences}
 use Rattle.state.specs.Memory.{memory, amounts, newton, given, differences}
 
 -- ---- a group
 

@@ -1,5 +1,5 @@
--- What a user learns of `derivative`, stated of its definition: when the work is done, that a refusal writes nothing,
--- and that the target keeps its length.
+-- When the work of `derivative` is done, that a refusal writes nothing, and that the target keeps its length: proofs of
+-- Theorems.antt.
 use Prim.Native.Nat.{ℕ, _*_, _≤_, _<_}
 use mathlib.Core.Path.{_≡_, refl, sym, _∙_}
 use mathlib.Core.List.{List}
@@ -20,28 +20,25 @@ module _ (reactions : ℕ) (y rates : List Float) (species : List ℕ) (dy : Lis
   abbrev fits : Type 0
   fits = Fit reactions (length y) (length rates) (length species) (length dy)
 
-  -- Where lengths and species fit, as they do for every sheet that was read, nothing is refused.
-  pub accepted : fits → ((k : ℕ) → k < 4 * reactions → getD species k 0 ≤ length y)
+  pub accepted-proof : fits → ((k : ℕ) → k < 4 * reactions → getD species k 0 ≤ length y)
       → outcome ≡ derivation Done (derivativeOf y (reactionsOf rates species reactions))
   unfolding derivedOf
-  accepted f known =
+  accepted-proof f known =
       pick-yes _ _ (fitting reactions (length y) (length rates) (length species) (length dy) f)
       ∙ pick-no _ _ (none-unknown (length y) species (4 * reactions) known)
 
-  -- What isn't done wrote nothing.
-  pub refused-kept : (outcome .answer ≡ Done → ⊥) → outcome .dy ≡ dy
+  pub refused-kept-proof : (outcome .answer ≡ Done → ⊥) → outcome .dy ≡ dy
   unfolding derivedOf
-  refused-kept =
+  refused-kept-proof =
       pick-all (λ (o : Derivation). (o .answer ≡ Done → ⊥) → o .dy ≡ dy)
       (lengthsFit reactions (length y) (length rates) (length species) (length dy)) _ _
       (λ _. pick-all (λ (o : Derivation). (o .answer ≡ Done → ⊥) → o .dy ≡ dy)
       (unknown (length y) species (4 * reactions)) _ _ (λ _ _. refl) (λ _ refused. absurd (refused refl)))
       (λ _ _. refl)
 
-  -- A target keeps its length.
-  pub length-kept : length (outcome .dy) ≡ length dy
+  pub length-kept-proof : length (outcome .dy) ≡ length dy
   unfolding derivedOf
-  length-kept =
+  length-kept-proof =
       pick-all (λ (o : Derivation). length (o .dy) ≡ length dy)
       (lengthsFit reactions (length y) (length rates) (length species) (length dy)) _ _
       (λ e. pick-all (λ (o : Derivation). length (o .dy) ≡ length dy)

@@ -1,8 +1,8 @@
--- `width` meets its contract: each division by ten drops a digit.
+-- `decimal_width` meets its contract: each division by ten drops a digit.
 use native.Mathlib.Omega.{arith}
 use Rattle.forecast_text.proofs.DigitLaws.{Wide, wide-first, wide-next, wide-last}
-use Rattle.forecast_text.proofs.digits.width.Statement.{statement}
-use Rattle.forecast_text.proofs.digits.width.Tie as tie
+use Rattle.forecast_text.proofs.numerals.decimal_width.Statement.{statement}
+use Rattle.forecast_text.proofs.numerals.decimal_width.Tie as tie
 
 abbrev Inv-loop : tie.InvT-loop
 Inv-loop value left₀ n₀ left n = Wide value n left
@@ -25,5 +25,5 @@ loop-again c = wide-next (c .before .loop .inv) (c .loop-test .taken)
 returns : tie.Need-returns Inv-loop μ-loop
 returns c = wide-last (c .before .loop .inv) (c .loop-test .left)
 
-pub width-spec : {M : Type 1} → statement M
-width-spec = tie.close (tie.spec Inv-loop μ-loop loop-holds add-n loop-less loop-again returns)
+pub decimal-width-spec : {M : Type 1} → statement M
+decimal-width-spec = tie.close (tie.spec Inv-loop μ-loop loop-holds add-n loop-less loop-again returns)

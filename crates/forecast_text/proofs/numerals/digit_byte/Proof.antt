@@ -1,11 +1,11 @@
--- `byte` meets its contract.
+-- `digit_byte` meets its contract.
 use mathlib.Core.Path.{refl}
 use borrow.Author.Needs.{needs}
 use borrow.Author.Tests.{lt-ltb, le-ltb}
 use Rattle.words.proofs.Branch.{yes, no}
 use Rattle.sheet.specs.Digits.{byteOf}
-use Rattle.night_totals.proofs.digits.byte.Statement.{statement}
-use Rattle.night_totals.proofs.digits.byte.Tie as tie
+use Rattle.forecast_text.proofs.numerals.digit_byte.Statement.{statement}
+use Rattle.forecast_text.proofs.numerals.digit_byte.Tie as tie
 
 returns : tie.Need-returns
 unfolding byteOf
@@ -15,7 +15,7 @@ returns-2 : tie.Need-returns-2
 unfolding byteOf
 returns-2 c = no _ _ _ (le-ltb _ _ (c .if1 .left)) refl
 
-pub byte-spec : {M : Type 1} → statement M
-byte-spec =
+pub digit-byte-spec : {M : Type 1} → statement M
+digit-byte-spec =
     tie.close
     (tie.spec (λ c. search needs) (λ c. search needs) returns (λ c. search needs) (λ c. search needs) returns-2)

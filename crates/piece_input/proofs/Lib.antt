@@ -1,0 +1,2 @@
+-- One outcome for an input.
+pub mod Determinism

@@ -1,0 +1,2 @@
+-- What a read may come to.
+pub mod Came

@@ -1,0 +1,2 @@
+-- What reading to the end may come to.
+pub mod Input
