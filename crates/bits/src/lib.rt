@@ -1,5 +1,7 @@
 // A double and its 64 bits, and the digits that bits are written with. All patterns of NaN stand for the one NaN, whose
 // pattern is 0x7ff8_0000_0000_0000.
+#![tactic(auto)]
+
 ghost use Rattle.std.specs.Prelude.{◌≡◌};
 ghost use Rattle.std.specs.Float.Ieee.{of_bits};
 ghost use Rattle.std.specs.Float.{binary64};

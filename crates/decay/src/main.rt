@@ -1,6 +1,8 @@
 // The program `decay`: reads a sheet on standard input and prints the run, or why it was refused (01,
 // 'Sheet and program'). The bytes that it prints are the value of `print` for what `forecast` answers; here
 // is only reading and writing.
+#![tactic(auto)]
+
 use forecast::forecast;
 use forecast_text::print;
 use libc::STDOUT_FILENO;

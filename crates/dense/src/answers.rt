@@ -1,7 +1,7 @@
 // What the two functions answer. specs/Answers.antt gives document 01's number for each case.
 
 // The answer of an interpolation.
-#[derive(Drop)]
+#[derive(Clone, Copy)]
 pub enum Interpolated {
     // The target's first n entries hold the interpolated amounts.
     Done,
@@ -10,7 +10,7 @@ pub enum Interpolated {
 }
 
 // The two ends of a step.
-#[derive(Drop)]
+#[derive(Clone, Copy)]
 pub struct Bounds {
     pub left: f64,
     pub right: f64,

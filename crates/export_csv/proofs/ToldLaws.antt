@@ -2,8 +2,8 @@
 use Prim.Native.Nat.{ℕ}
 use mathlib.Core.Path.{◌≡◌, ap, ◌∙◌}
 use mathlib.Core.List.{List}
-use Rattle.csv.specs.declared.answers.Exported.{Exported}
-use Rattle.csv.specs.Table.{Export, export, exported_number}
+use Rattle.csv_table.specs.declared.answers.Exported.{Exported}
+use Rattle.csv_table.specs.Table.{Export, export, exported_number}
 use Rattle.export_csv.specs.Told.{exported_length, told, told_of}
 
 pub told-by : (answer : Exported) (buffer : List ℕ) (before : ℕ) (e : Export) {number written : ℕ}

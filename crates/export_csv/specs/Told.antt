@@ -1,9 +1,9 @@
 -- What programs in C are told of a line: document 02's number, the buffer, and the line's length. A refusal leaves the
 -- last as it was too.
 use Rattle.std.specs.Prelude.{ℕ, List}
-use Rattle.csv.specs.declared.answers.Exported.{Exported}
-use Rattle.csv.specs.declared.answers.Exported.TheVariants.{Written, RefusedOrder, RefusedRoom}
-use Rattle.csv.specs.Table.{Export, exported_number}
+use Rattle.csv_table.specs.declared.answers.Exported.{Exported}
+use Rattle.csv_table.specs.declared.answers.Exported.TheVariants.{Written, RefusedOrder, RefusedRoom}
+use Rattle.csv_table.specs.Table.{Export, exported_number}
 
 abbrev pub exported_length : Exported → ℕ → ℕ
 exported_length (Written n) before = n

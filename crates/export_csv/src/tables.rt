@@ -1,11 +1,11 @@
 // The two lines of a table, with document 02's number as the answer and the line's length beside it.
 ghost use Rattle.std.specs.Prelude.{◌≡◌};
-ghost use Rattle.csv.specs.Table.{header_of, record_of};
+ghost use Rattle.csv_table.specs.Table.{header_of, record_of};
 ghost use Rattle.export_csv.specs.Told.{told, told_of, exported_length};
-ghost use Rattle.csv.specs.Table.{exported_number};
+ghost use Rattle.csv_table.specs.Table.{exported_number};
 
-use csv::answers::Exported;
-use csv::table::{put_header, put_record};
+use csv_table::answers::Exported;
+use csv_table::table::{put_header, put_record};
 
 // The number of an answer.
 fn number(answer: Exported) -> u64

@@ -2,13 +2,13 @@
 use state::talk::{IntegrationResult, Refusal};
 
 // The end of a run: its result, and how many amounts there are.
-#[derive(Drop)]
+#[derive(Clone, Copy)]
 pub struct Reached {
     pub result: IntegrationResult,
     pub species: usize,
 }
 
-#[derive(Drop)]
+#[derive(Clone, Copy)]
 pub enum Ending {
     // The run ended; the status in its result says how.
     Ended(Reached),
@@ -22,7 +22,7 @@ pub enum Ending {
 
 // The amounts at the point reached stand beside the ending, since the prover covers no enum that holds an array. Where
 // no run ended they say nothing.
-#[derive(Drop)]
+#[derive(Clone, Copy)]
 pub struct Forecast {
     pub ending: Ending,
     pub amounts: [f64; 32],

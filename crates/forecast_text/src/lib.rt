@@ -1,4 +1,6 @@
 // The answer to a sheet: what became of it, and the bytes that `decay` prints of that (01, 'Sheet and program').
+#![tactic(auto)]
+
 mod digits;
 pub mod ending;
 mod lines;

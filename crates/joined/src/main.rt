@@ -1,6 +1,8 @@
 // The program `joined`: reads any number of totals on standard input, as `totals` prints them, and prints them joined
 // from left to right, or why they were refused (02, [13]). The bytes that it prints are the value of `print` for what
 // `told` answers; here is only reading and writing.
+#![tactic(auto)]
+
 use night_chain::chain::Chain;
 use night_chain::{fed, print, start, told};
 use piece_input::reading::{Came, MOST_READS, PIECE};

@@ -1,7 +1,7 @@
 // What the routines answer. specs/Answers.antt gives document 01's number for each case.
 
 // The answer of a decomposition.
-#[derive(Drop)]
+#[derive(Clone, Copy)]
 pub enum Decomposed {
     // The matrix holds the factors, and the first n - 1 pivots (for n = 1 the only one) the rows exchanged.
     Done,
@@ -14,7 +14,7 @@ pub enum Decomposed {
 }
 
 // The answer of a solve.
-#[derive(Drop)]
+#[derive(Clone, Copy)]
 pub enum Solved {
     // The right side now holds the solution.
     Done,

@@ -9,7 +9,7 @@ ghost use Rattle.matrix.specs.Complex.{square_complex, reciprocal_complex, over_
 use crate::entry::{at, put};
 use scalar::abs;
 
-#[derive(Drop)]
+#[derive(Clone, Copy)]
 pub struct Complex {
     pub re: f64,
     pub im: f64,

@@ -1,6 +1,8 @@
 // LU decomposition and solution of real and complex systems of order 1 to 32: the four routines of lu.rs and linear.rs.
 // A matrix is a flat row-major slice with n. Each offered function equals a definition of specs/ for every input, so
 // none asks anything of its caller.
+#![tactic(auto)]
+
 pub mod answers;
 mod complex;
 mod elimination;

@@ -1,6 +1,6 @@
 // What the derivative of a model answers. specs/Answers.antt gives document 01's number for each case.
 
-#[derive(Drop)]
+#[derive(Clone, Copy)]
 pub enum Derived {
     // The target holds the derivative.
     Done,

@@ -21,7 +21,7 @@ use state::talk::{Place, Request};
 const BUDGET: u64 = 268_435_456;
 
 // A run, and the request of it that is open.
-#[derive(Drop)]
+#[derive(Clone, Copy)]
 pub struct Pending {
     pub run: Run,
     pub request: Request,

@@ -12,7 +12,7 @@ use state::settings::Settings;
 use state::talk::{Opened, Refusal};
 
 // What a run is opened with, the amounts by value, and how many reactions there are. Both tolerances are scalars.
-#[derive(Drop)]
+#[derive(Clone, Copy)]
 pub struct Task {
     pub settings: Settings,
     pub n: usize,
@@ -25,13 +25,13 @@ pub struct Task {
 }
 
 // The opening was refused, or the run as it stood at its end.
-#[derive(Drop)]
+#[derive(Clone, Copy)]
 pub enum Finish {
     Refused(Refusal),
     Ran(Run),
 }
 
-#[derive(Drop)]
+#[derive(Clone, Copy)]
 pub struct TaskOutcome {
     pub finish: Finish,
     pub amounts: [f64; 32],

@@ -15,7 +15,7 @@ const FORM: usize = 138;
 
 const LINE_END: u8 = 10;
 
-#[derive(Drop)]
+#[derive(Clone, Copy)]
 pub struct Chain {
     // The totals that have begun.
     pub filling: Filling,
@@ -26,7 +26,7 @@ pub struct Chain {
 }
 
 // What became of all totals: they are joined, or the first wrong line, or a refused join.
-#[derive(Drop)]
+#[derive(Clone, Copy)]
 pub enum Answer {
     Joined(Totals),
     Malformed(u64),

@@ -10,7 +10,7 @@ use night_totals::totals::Totals;
 use std::num::wrapping_add_u64;
 
 // What becomes of two totals: those of the lines one after the other; or a side is unfit, or there are too many lines.
-#[derive(Drop)]
+#[derive(Clone, Copy)]
 pub enum Joining {
     Joined(Totals),
     Unfit,

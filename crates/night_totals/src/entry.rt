@@ -3,7 +3,7 @@
 // No count of a line is above it.
 pub const MOST_COUNT: u64 = 10_000_000_000;
 
-#[derive(Drop)]
+#[derive(Clone, Copy)]
 pub struct Entry {
     pub status: u64,
     pub accepted: u64,

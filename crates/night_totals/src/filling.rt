@@ -1,5 +1,5 @@
 // How far a text of a fixed form has come.
-#[derive(Drop)]
+#[derive(Clone, Copy)]
 pub struct Filling {
     // The place in the form.
     pub at: usize,

@@ -1,5 +1,7 @@
 // The totals of a night: reads status lines as `decay` prints them, in pieces of any size, and gives the runs per
 // status, the sums of the six counts, and the largest ode with the number of its first line (02, [12]).
+#![tactic(auto)]
+
 mod adding;
 mod digits;
 pub mod entry;

@@ -15,7 +15,7 @@ pub const MOST_LINES: u64 = 65_535;
 // How long the form of a status line is.
 const FORM: usize = 56;
 
-#[derive(Drop)]
+#[derive(Clone, Copy)]
 pub struct Night {
     // The line that has begun.
     pub filling: Filling,
@@ -26,7 +26,7 @@ pub struct Night {
 }
 
 // What became of the lines: their totals, the first wrong line, or that there are too many.
-#[derive(Drop)]
+#[derive(Clone, Copy)]
 pub enum Outcome {
     Totals(Totals),
     Malformed(u64),

@@ -1,5 +1,5 @@
 // The totals of status lines.
-#[derive(Drop)]
+#[derive(Clone, Copy)]
 pub struct Totals {
     pub lines: u64,
     // How many lines have each status.

@@ -15,7 +15,7 @@ use state::talk::{Refusal, Reply, Verdict};
 
 // What is open at a stage: whether the run has ended, whether a report is asked, and the column of a
 // difference Jacobian, else 0.
-#[derive(Drop)]
+#[derive(Clone, Copy)]
 pub struct Asking {
     pub ended: bool,
     pub report: bool,

@@ -10,14 +10,14 @@ use state::run::Tolerances;
 use state::settings::{Number, Rule};
 
 // A relative and an absolute tolerance.
-#[derive(Drop)]
+#[derive(Clone, Copy)]
 pub struct Pair {
     pub rtol: f64,
     pub atol: f64,
 }
 
 // The run's tolerances, and rtol[0] after all turns.
-#[derive(Drop)]
+#[derive(Clone, Copy)]
 pub struct Conversion {
     pub tolerances: Tolerances,
     pub tolst: f64,

@@ -9,7 +9,7 @@ pub const PIECE: usize = 4096;
 pub const MOST_READS: u64 = 0xffff_ffff_ffff_ffff;
 
 // What a read came to: bytes, the end of the input, or an error.
-#[derive(Drop)]
+#[derive(Clone, Copy)]
 pub enum Came {
     Bytes(usize),
     End,

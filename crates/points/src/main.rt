@@ -1,11 +1,13 @@
 // The program `points`: reads a sheet on standard input and prints the points of its run as CSV, or, of a sheet that is
 // refused, what `decay` prints. The lines are those that `put_header` and `put_report` put, the points those where
 // `next_report` stops; here is only reading, room for a run, and writing.
+#![tactic(auto)]
+
 ghost use Rattle.std.specs.Prelude.{◌≤◌, ◌≡◌, length};
 ghost use Rattle.state.specs.Memory.{zeros, noughts};
 
-use csv::answers::Exported;
-use csv::table::put_header;
+use csv_table::answers::Exported;
+use csv_table::table::put_header;
 use forecast::forecast;
 use forecast::task::{amounts_from, rates_from};
 use forecast_text::print;

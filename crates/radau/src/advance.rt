@@ -11,7 +11,7 @@ use state::run::Run;
 use state::talk::{Answer, Reply, Verdict};
 
 // A reply of the host to the run that it answers.
-#[derive(Drop)]
+#[derive(Clone, Copy)]
 pub struct Resumed {
     pub run: Run,
     pub reply: Reply,

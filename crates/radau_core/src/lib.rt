@@ -1,5 +1,7 @@
 // The solver where a run stands: `solve` (radau.rs) from one call of the host to the next, on two lent arrays that hold
 // the run and are changed in place. Its definitions, and the laws that its proofs cite, stand in `solve_blocks`.
+#![tactic(auto)]
+
 pub mod advance;
 mod attempt;
 mod control;

@@ -21,7 +21,7 @@ use scalar::{inverse_root, max, min, power, sqrt};
 use state::settings::Rule;
 
 // The verdict on a round, and whether its increments are taken: the pace is judged without the vectors.
-#[derive(Drop)]
+#[derive(Clone, Copy)]
 struct Pace {
     round: Round,
     taken: bool,

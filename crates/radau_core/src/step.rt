@@ -2,13 +2,13 @@
 // its places.
 use state::talk::{Place, Request};
 
-#[derive(Drop)]
+#[derive(Clone, Copy)]
 pub struct Call {
     pub request: Request,
     pub place: Place,
 }
 
-#[derive(Drop)]
+#[derive(Clone, Copy)]
 pub enum Step {
     Asked(Call),
     Main,
@@ -16,14 +16,14 @@ pub enum Step {
     Attempt,
 }
 
-#[derive(Drop)]
+#[derive(Clone, Copy)]
 pub enum Round {
     Newton,
     Estimate,
     Over(Step),
 }
 
-#[derive(Drop)]
+#[derive(Clone, Copy)]
 pub enum Heard {
     Asked(Call),
     Reported,

@@ -8,7 +8,7 @@ use std::num::wrapping_add_u64;
 pub const ROWS: usize = 32;
 
 // `seen` counts all cases, `malformed` those that could not be read, and `missed` these and those that differ.
-#[derive(Drop)]
+#[derive(Clone, Copy)]
 pub struct Counts {
     pub agree: [u64; ROWS],
     pub differ: [u64; ROWS],

@@ -9,7 +9,7 @@ use std::num::wrapping_add_u64;
 
 // How many values were compared, how many of them differ, the place of the first that does, what it is and was to be,
 // and whether what a value was to be could not be read.
-#[derive(Drop)]
+#[derive(Clone, Copy)]
 pub struct Found {
     pub values: u64,
     pub differ: u64,

@@ -3,6 +3,8 @@
 // anything of its caller, and each result is settled by a definition of specs/. Of what is read specs/Read.antt says
 // what is made of it and what of a lent block stays; which bytes come from standard input, and which go to standard
 // output, no contract can say.
+#![tactic(auto)]
+
 pub mod count;
 pub mod found;
 pub mod memory;

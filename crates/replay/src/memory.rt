@@ -8,7 +8,7 @@ pub const COEFFICIENTS: usize = 133;
 
 pub const MATRIX: usize = 1090;
 
-#[derive(Drop)]
+#[derive(Clone, Copy)]
 pub struct Amounts {
     pub y: [f64; VECTOR],
     pub f0: [f64; VECTOR],
@@ -16,7 +16,7 @@ pub struct Amounts {
     pub cont: [f64; COEFFICIENTS],
 }
 
-#[derive(Drop)]
+#[derive(Clone, Copy)]
 pub struct Newton {
     pub z1: [f64; VECTOR],
     pub z2: [f64; VECTOR],
@@ -26,7 +26,7 @@ pub struct Newton {
     pub f3: [f64; VECTOR],
 }
 
-#[derive(Drop)]
+#[derive(Clone, Copy)]
 pub struct Given {
     pub rtol: [f64; VECTOR],
     pub atol: [f64; VECTOR],
@@ -34,7 +34,7 @@ pub struct Given {
     pub jac: [f64; MATRIX],
 }
 
-#[derive(Drop)]
+#[derive(Clone, Copy)]
 pub struct Factors {
     pub e1: [f64; MATRIX],
     pub e2r: [f64; MATRIX],
@@ -43,14 +43,14 @@ pub struct Factors {
     pub ip2: [usize; VECTOR],
 }
 
-#[derive(Drop)]
+#[derive(Clone, Copy)]
 pub struct Differences {
     pub y_perturbed: [f64; VECTOR],
     pub f_perturbed: [f64; VECTOR],
     pub f_origin: [f64; VECTOR],
 }
 
-#[derive(Drop)]
+#[derive(Clone, Copy)]
 pub struct Memory {
     pub amounts: Amounts,
     pub newton: Newton,

@@ -7,7 +7,7 @@ ghost use Rattle.replay.specs.Read.{WordRead, after_of, WordsRead, BlockRead};
 use bits::digit;
 use libc::STDIN_FILENO;
 
-#[derive(Drop)]
+#[derive(Clone, Copy)]
 pub enum Word {
     Value(u64),
     Wrong,
@@ -15,7 +15,7 @@ pub enum Word {
 }
 
 // Whether a block of words was read, or standard input is wrong there or has ended before it.
-#[derive(Drop)]
+#[derive(Clone, Copy)]
 pub enum Reading {
     Good,
     Malformed,

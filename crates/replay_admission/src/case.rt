@@ -79,7 +79,7 @@ const XOUT_GIVEN: u64 = 262_144;
 
 const MADE_HERE: u64 = 524_288;
 
-#[derive(Drop)]
+#[derive(Clone, Copy)]
 pub struct Case {
     pub words: [u64; WORDS],
     pub reading: Reading,

@@ -1,6 +1,8 @@
 // Hands forged states of runs, with replies of every kind, to `admission`, and compares each verdict with what the case
 // says. It tells the first cases that do not agree, and then gives a summary, a line for each kind of case.
 // tests/replays/replay_admission.py makes the cases from document 01's words.
+#![tactic(auto)]
+
 mod call;
 mod case;
 

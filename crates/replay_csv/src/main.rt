@@ -1,8 +1,10 @@
 // Makes a table of the points of standard input, each a line of four words: the bits of x and of three amounts.
 // tests/replays/replay_csv.py, which writes them, makes the table that is to come of it by other means.
+#![tactic(auto)]
+
 use bits::double;
-use csv::answers::Exported;
-use csv::table::{put_header, put_record};
+use csv_table::answers::Exported;
+use csv_table::table::{put_header, put_record};
 use libc::STDOUT_FILENO;
 use replay::word::{Reading, read_block, within};
 

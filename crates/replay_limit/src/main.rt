@@ -3,6 +3,8 @@
 // same bytes, and where it ended with 2 no count of the second is below the first's. It tells the first pairs that do
 // not agree, and then gives a summary. tests/replays/replay_limit.py, which writes the pairs, says how the answers
 // were made.
+#![tactic(auto)]
+
 use forecast::forecast;
 use forecast_text::ending::Ending;
 use forecast_text::print;

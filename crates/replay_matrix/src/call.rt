@@ -6,7 +6,7 @@ use matrix::{Decomposed, Solved};
 use replay::word::within;
 
 // Document 01's number, and 0 where the routine did its work; with 17 the column.
-#[derive(Drop)]
+#[derive(Clone, Copy)]
 pub struct Answered {
     pub answer: u64,
     pub column: u64,

@@ -5,7 +5,7 @@ use replay::word::{Word, spelled};
 
 // The head of a case: which routine, what it is to answer, whether the matrix and the pivots are those that the case
 // before left, the order n, and how many entries of each part of the memory the routine is lent.
-#[derive(Drop)]
+#[derive(Clone, Copy)]
 pub struct Case {
     pub letter: u8,
     pub wanted: u64,
@@ -18,7 +18,7 @@ pub struct Case {
     pub pivots: usize,
 }
 
-#[derive(Drop)]
+#[derive(Clone, Copy)]
 pub enum Head {
     Good(Case),
     Malformed,

@@ -1,6 +1,8 @@
 // Replays the answers of standard input: fills the memory as each case says, calls its routine, and compares the answer
 // and all that the routine may write, bit by bit, with what the case says. It tells the first value of the first cases
 // that do not agree, and then gives a summary, a line for each routine and one for the refusals.
+#![tactic(auto)]
+
 mod call;
 mod kind;
 mod line;

@@ -10,7 +10,7 @@ use replay::word::{quarter, within};
 use state::talk::Opened;
 
 // What the call answered, and the memory after it.
-#[derive(Drop)]
+#[derive(Clone, Copy)]
 pub struct CaseOutcome {
     pub answer: Opened,
     pub memory: Memory,

@@ -51,7 +51,7 @@ pub const WANTED_NIND2: usize = 49;
 pub const WANTED_NIND3: usize = 50;
 
 // What an opening is asked with, beside memory.
-#[derive(Drop)]
+#[derive(Clone, Copy)]
 pub struct Ask {
     pub settings: Settings,
     pub n: usize,
@@ -60,7 +60,7 @@ pub struct Ask {
     pub tolerances: Tolerances,
 }
 
-#[derive(Drop)]
+#[derive(Clone, Copy)]
 pub struct Case {
     pub words: [u64; WORDS],
     pub pairs: [u64; PAIRS],

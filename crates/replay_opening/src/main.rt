@@ -1,6 +1,8 @@
 // Opens a run for each case of standard input, and compares the answer and all 22 parts of the lent memory, bit by bit,
 // with what the case says. It tells the first value of the first cases that do not agree, and then gives a summary, a
 // line for the accepted openings and one for each row of document 01's table.
+#![tactic(auto)]
+
 mod answer;
 mod call;
 mod case;

@@ -25,7 +25,7 @@ const IP1: usize = 17;
 const IP2: usize = 18;
 
 // What a part holds before the call: the patterns start with `first` and rise by `step`, but for one place.
-#[derive(Drop)]
+#[derive(Clone, Copy)]
 pub struct Contents {
     pub first: u64,
     pub step: u64,

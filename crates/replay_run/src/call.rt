@@ -11,7 +11,7 @@ use state::settings::Settings;
 use state::talk::{Answer, Opened, Place, Request};
 
 // What an opening is asked with.
-#[derive(Drop)]
+#[derive(Clone, Copy)]
 pub struct Ask {
     pub settings: Settings,
     pub x0: f64,
@@ -20,14 +20,14 @@ pub struct Ask {
 }
 
 // The request that is open, or that a call was refused.
-#[derive(Drop)]
+#[derive(Clone, Copy)]
 pub enum Talk {
     Asked(Run, Request, Place),
     Refused,
 }
 
 // What a call led to, and the memory after it.
-#[derive(Drop)]
+#[derive(Clone, Copy)]
 pub struct CallOutcome {
     pub talk: Talk,
     pub memory: Memory,

@@ -2,6 +2,8 @@
 // advance. Every request, with all 22 parts of memory as they are handed out, and every result is compared with what
 // the Rust asked. It tells the first that do not agree, and then gives a summary, a line for each kind of request, for
 // each status, for each reply, and for the runs.
+#![tactic(auto)]
+
 mod call;
 mod memory;
 mod stored;

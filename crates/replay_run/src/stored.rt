@@ -29,13 +29,13 @@ pub const FLOATS: usize = 2;
 // The words of the longest request.
 pub const ASKED: usize = 20;
 
-#[derive(Drop)]
+#[derive(Clone, Copy)]
 pub struct Opening {
     pub words: [u64; OPENING],
     pub reading: Reading,
 }
 
-#[derive(Drop)]
+#[derive(Clone, Copy)]
 pub struct Asked {
     pub words: [u64; ASKED],
     pub good: bool,

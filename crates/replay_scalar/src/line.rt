@@ -3,7 +3,7 @@
 use bits::double;
 use replay::word::{Word, spelled};
 
-#[derive(Drop)]
+#[derive(Clone, Copy)]
 pub struct Vector {
     pub letter: u8,
     pub digits: u64,
@@ -13,7 +13,7 @@ pub struct Vector {
     pub answer: u64,
 }
 
-#[derive(Drop)]
+#[derive(Clone, Copy)]
 pub enum Decoded {
     Good(Vector),
     Malformed,

@@ -1,6 +1,8 @@
 // Replays the vectors of standard input: calls each line's routine at the line's operands, and compares
 // the result, bit by bit, with the line's answer. It writes the first lines that do not agree, each with
 // what the routine gave, and then a summary, a line for each routine.
+#![tactic(auto)]
+
 mod line;
 mod routine;
 

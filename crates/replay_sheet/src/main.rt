@@ -2,6 +2,8 @@
 // once more through its model, which is to give the same bytes, or the answer where it is no sheet. It tells the first
 // that do not agree in both, and then gives a summary, a line for each status and each refusal.
 // tests/replays/replay_sheet.py, which writes the sheets, says how the answers were made.
+#![tactic(auto)]
+
 mod record;
 
 use forecast::forecast;

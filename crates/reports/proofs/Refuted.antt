@@ -15,8 +15,8 @@ use Rattle.history.specs.Host.{is_end}
 use Rattle.sheet.specs.Digits.{byte_of, power, digits, width_of}
 use Rattle.sheet.specs.Reader.{over}
 use Rattle.forecast_text.specs.Printed.{text}
-use Rattle.csv.specs.NumberText.{trimmed, pointed, exponent_text, magnitude_text, sign_text}
-use Rattle.csv.specs.Table.{amounts_text, line_of, ordered_of, record_of}
+use Rattle.csv_table.specs.NumberText.{trimmed, pointed, exponent_text, magnitude_text, sign_text}
+use Rattle.csv_table.specs.Table.{amounts_text, line_of, ordered_of, record_of}
 use Rattle.reports.specs.declared.line.Line.TheVariants.{Put}
 use Rattle.reports.specs.Line.{Noted, noted, line_at}
 use Rattle.reports.specs.Step.{is_told}

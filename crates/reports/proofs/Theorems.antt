@@ -10,8 +10,8 @@ use lib.ListN.{length}
 use Rattle.state.specs.declared.talk.Request.TheVariants.{Report}
 use Rattle.state.specs.Memory.{noughts}
 use Rattle.sheet.specs.Reader.{over, read_of}
-use Rattle.csv.specs.Table.{export, header_text, record_text, header_of}
-use Rattle.csv.specs.declared.answers.Exported.TheVariants.{Written}
+use Rattle.csv_table.specs.Table.{export, header_text, record_text, header_of}
+use Rattle.csv_table.specs.declared.answers.Exported.TheVariants.{Written}
 use Rattle.forecast_text.specs.declared.ending.Reached.{Reached}
 use Rattle.forecast.specs.Account.{Accounts}
 use Rattle.reports.specs.declared.beginning.Begun.{Begun}

@@ -15,10 +15,10 @@ use Rattle.state.specs.declared.talk.Request.TheVariants.{Report}
 use Rattle.opening.specs.Opening.{open_of}
 use Rattle.sheet.specs.Reader.{Read, accepted, malformed, too_long, heading_of, amounts_left, over, read_of}
 use Rattle.sheet.proofs.Accepted.{accepted-sound}
-use Rattle.csv.specs.Table.{Export, export, ordered_of, line_of, header_text, record_text, header_of}
-use Rattle.csv.specs.declared.answers.Exported.TheVariants.{Written}
-use Rattle.csv.proofs.LineLaws.{ordered}
-use Rattle.csv.proofs.Theorems.{header-few, record-few}
+use Rattle.csv_table.specs.Table.{Export, export, ordered_of, line_of, header_text, record_text, header_of}
+use Rattle.csv_table.specs.declared.answers.Exported.TheVariants.{Written}
+use Rattle.csv_table.proofs.LineLaws.{ordered}
+use Rattle.csv_table.proofs.Theorems.{header-few, record-few}
 use Rattle.model_run.specs.Budget.{opening_of}
 use Rattle.model_run.specs.declared.run.Task.{Task}
 use Rattle.forecast.specs.Told.{task_from}

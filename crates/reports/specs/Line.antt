@@ -2,7 +2,7 @@
 use Rattle.std.specs.Prelude.{ℕ, List, Float}
 use Rattle.state.specs.declared.talk.Request.{Request}
 use Rattle.state.specs.declared.talk.Request.TheVariants as request
-use Rattle.csv.specs.Table.{record_of}
+use Rattle.csv_table.specs.Table.{record_of}
 use Rattle.reports.specs.declared.line.Line.{Line}
 use Rattle.reports.specs.declared.line.Line.TheVariants as line
 

@@ -11,7 +11,7 @@ use state::run::Run;
 use state::talk::{Opened, Place, Request};
 
 // A run, and the request of it that is open.
-#[derive(Drop)]
+#[derive(Clone, Copy)]
 pub struct Pending {
     pub run: Run,
     pub request: Request,
@@ -19,7 +19,7 @@ pub struct Pending {
 }
 
 // A run that was opened: how many amounts and reactions it has, and its first request.
-#[derive(Drop)]
+#[derive(Clone, Copy)]
 pub struct Begun {
     pub n: usize,
     pub reactions: usize,
@@ -27,7 +27,7 @@ pub struct Begun {
 }
 
 // A refused sheet has no points: what is told of it is its forecast.
-#[derive(Drop)]
+#[derive(Clone, Copy)]
 pub enum Beginning {
     Begun(Begun),
     Refused,

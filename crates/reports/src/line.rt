@@ -2,12 +2,12 @@
 ghost use Rattle.std.specs.Prelude.{◌≡◌};
 ghost use Rattle.reports.specs.Line.{noted, line_at};
 
-use csv::answers::Exported;
-use csv::table::put_record;
+use csv_table::answers::Exported;
+use csv_table::table::put_record;
 use state::talk::Request;
 
 // What was put of a report; of any other request there is nothing to put.
-#[derive(Drop)]
+#[derive(Clone, Copy)]
 pub enum Line {
     Put(Exported),
     Nothing,

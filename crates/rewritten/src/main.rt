@@ -1,5 +1,7 @@
 // The program `rewritten`: reads a sheet on standard input and prints the same sheet, through model and writer, or why
 // it was refused. The bytes that it prints are what `rewrite` puts; here is only reading and writing.
+#![tactic(auto)]
+
 use libc::STDOUT_FILENO;
 use replay::word::within;
 use sheet_input::read_all;

@@ -66,7 +66,7 @@ const TABLE: [f64; 27] = [
 ];
 
 // What stands at a place of the table.
-#[derive(Drop)]
+#[derive(Clone, Copy)]
 pub enum Entry {
     Value(f64),
     Outside,

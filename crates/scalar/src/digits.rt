@@ -3,14 +3,14 @@ ghost use Rattle.std.specs.Prelude.{◌≡◌, ◌<◌, ◌≤◌, ◌+◌, ◌*
 ghost use Rattle.scalar.specs.Steps.{Digits, Near, Remains};
 
 // A root so far, and what is left of the number beyond its square.
-#[derive(Drop)]
+#[derive(Clone, Copy)]
 pub struct Cut {
     pub q: u64,
     pub rem: u64,
 }
 
 // What a number has beyond the square of a guess, where that is small.
-#[derive(Drop)]
+#[derive(Clone, Copy)]
 pub enum Beyond {
     Small(u64),
     Other,

@@ -1,5 +1,7 @@
 // The scalar routines: everything under 'Arithmetic, operation by operation' of document 01, and the coefficients of
 // radau.rs. Each offered function equals a definition of specs/ for every input, so none asks anything of its caller.
+#![tactic(auto)]
+
 pub mod coefficients;
 mod digits;
 mod guesses;

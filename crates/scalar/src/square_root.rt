@@ -48,7 +48,7 @@ fn root_pattern(b: u64) -> u64
 }
 
 // A number and its place: m * 2^w.
-#[derive(Drop)]
+#[derive(Clone, Copy)]
 pub struct Scaled {
     pub m: u64,
     pub w: u64,

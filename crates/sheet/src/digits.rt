@@ -4,7 +4,7 @@ ghost use Rattle.sheet.specs.Digits.{spelled_of, found_of};
 
 use bits::digit;
 
-#[derive(Drop)]
+#[derive(Clone, Copy)]
 pub enum Spelt {
     Value(u64),
     Wrong,

@@ -6,7 +6,7 @@ ghost use Rattle.sheet.specs.Kinds.{setting_of, reaction_of, kind_of, hex_kind, 
 const MOST_STEPS: u64 = 9_999_999_999;
 
 // The least and greatest value of a number, how it is written, and the byte that ends it.
-#[derive(Drop)]
+#[derive(Clone, Copy)]
 pub struct Kind {
     pub hex: bool,
     pub low: u64,
@@ -15,7 +15,7 @@ pub struct Kind {
 }
 
 // The parts of a sheet in order. The number of species ends the settings.
-#[derive(Drop)]
+#[derive(Clone, Copy)]
 pub enum Phase {
     Settings,
     Amounts,

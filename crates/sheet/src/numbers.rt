@@ -7,7 +7,7 @@ use crate::kind::{Kind, Phase, kind_at};
 use crate::spelling::{base, width_by};
 
 // A number, and where what follows it begins; or a number that is wrong.
-#[derive(Drop)]
+#[derive(Clone, Copy)]
 pub struct Token {
     pub good: bool,
     pub value: u64,
@@ -16,7 +16,7 @@ pub struct Token {
 
 // Where the reader stands: whether all was right so far, where the next number begins, and how many
 // lines have ended before it.
-#[derive(Drop)]
+#[derive(Clone, Copy)]
 pub struct Progress {
     pub good: bool,
     pub at: usize,

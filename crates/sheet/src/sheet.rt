@@ -13,7 +13,7 @@ use state::settings::Rule;
 pub const MOST_BYTES: usize = 4096;
 
 // The settings of a sheet, floats by their bits, and how many species and reactions it has.
-#[derive(Drop)]
+#[derive(Clone, Copy)]
 pub struct Heading {
     pub x0: u64,
     pub xend: u64,
@@ -25,7 +25,7 @@ pub struct Heading {
     pub reactions: usize,
 }
 
-#[derive(Drop)]
+#[derive(Clone, Copy)]
 pub enum Reading {
     Read(Heading),
     Malformed(usize),

@@ -12,14 +12,14 @@ pub const KEPT: usize = 4097;
 const MOST_READS: u64 = 0xffff_ffff_ffff_ffff;
 
 // What a read came to: bytes that are kept, the end of the input, or an error.
-#[derive(Drop)]
+#[derive(Clone, Copy)]
 enum Piece {
     Bytes(usize),
     End,
     Failed,
 }
 
-#[derive(Drop)]
+#[derive(Clone, Copy)]
 pub enum Input {
     Bytes(usize),
     Unreadable,

@@ -13,7 +13,7 @@ use crate::numbers::{fits, put_numbers};
 use sheet::kind::Phase;
 use sheet::sheet::Heading;
 
-#[derive(Drop)]
+#[derive(Clone, Copy)]
 pub enum Writing {
     // The sheet stands in the first bytes, which are as many as this.
     Written(usize),

@@ -1,14 +1,14 @@
 // The shelf's own state, and what its functions answer. specs/Answers.antt gives the number of each case.
 
 // How many steps are kept, and the place, of 48, that the next one takes.
-#[derive(Drop)]
+#[derive(Clone, Copy)]
 pub struct Shelf {
     pub steps: usize,
     pub place: usize,
 }
 
 // The answer of putting a step on the shelf.
-#[derive(Drop)]
+#[derive(Clone, Copy)]
 pub enum Placing {
     // The step is kept; this is the shelf from now on.
     Kept(Shelf),
@@ -19,7 +19,7 @@ pub enum Placing {
 }
 
 // The answer of asking at a point.
-#[derive(Drop)]
+#[derive(Clone, Copy)]
 pub enum Asking {
     // The target holds the amounts there.
     Answered,

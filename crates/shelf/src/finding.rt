@@ -7,7 +7,7 @@ use crate::places::place_before;
 use dense::bounds;
 
 // The place of a step, or none.
-#[derive(Drop)]
+#[derive(Clone, Copy)]
 pub enum Found {
     At(usize),
     Nothing,

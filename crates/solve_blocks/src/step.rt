@@ -3,14 +3,14 @@ use state::run::Run;
 use state::talk::{Place, Request};
 
 // A call of the host: the run at the stage that waits for the reply, what is asked, and where.
-#[derive(Drop)]
+#[derive(Clone, Copy)]
 pub struct Call {
     pub run: Run,
     pub request: Request,
     pub place: Place,
 }
 
-#[derive(Drop)]
+#[derive(Clone, Copy)]
 pub enum Step {
     Asked(Call),
     // The top of 'main.
@@ -22,7 +22,7 @@ pub enum Step {
 }
 
 // Past a round of the Newton iteration.
-#[derive(Drop)]
+#[derive(Clone, Copy)]
 pub enum Round {
     // The top of 'newton.
     Newton(Run),
@@ -33,7 +33,7 @@ pub enum Round {
 }
 
 // Past a report.
-#[derive(Drop)]
+#[derive(Clone, Copy)]
 pub enum Heard {
     Asked(Call),
     Reported(Run),

@@ -1,5 +1,7 @@
 // The state of a run: its settings, what it holds between two requests, what it and its host say to each other with
 // the documents' numbers for it, the result of a run that has ended, and the test of pivots.
+#![tactic(auto)]
+
 pub mod numbers;
 pub mod parts;
 pub mod run;

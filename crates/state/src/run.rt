@@ -7,7 +7,7 @@ use crate::settings::{Number, Settings};
 use crate::talk::{Blame, IntegrationResult, Result};
 
 // How a run ended (status.rs); the Rust's other two statuses never come.
-#[derive(Drop)]
+#[derive(Clone, Copy)]
 pub enum Status {
     Success,
     UserInterrupt,
@@ -17,7 +17,7 @@ pub enum Status {
 }
 
 // The request that is open, one stage for each.
-#[derive(Drop)]
+#[derive(Clone, Copy)]
 pub enum Stage {
     FirstDerivative,
     FirstReport,
@@ -42,14 +42,14 @@ pub enum Stage {
 }
 
 // Both tolerances are scalars, converted at opening, or lists in lent memory.
-#[derive(Drop)]
+#[derive(Clone, Copy)]
 pub enum Tolerances {
     Scalars(f64, f64),
     Lists,
 }
 
 // n amounts, of which the first nind1 have index 1, the next nind2 index 2 and the last nind3 index 3.
-#[derive(Drop)]
+#[derive(Clone, Copy)]
 pub struct Shape {
     pub n: usize,
     pub nind1: usize,
@@ -58,7 +58,7 @@ pub struct Shape {
 }
 
 // What opening fixes for the whole run.
-#[derive(Drop)]
+#[derive(Clone, Copy)]
 pub struct Fixed {
     pub tolerances: Tolerances,
     pub newton_tol: f64,
@@ -68,7 +68,7 @@ pub struct Fixed {
     pub hmin: f64,
 }
 
-#[derive(Drop)]
+#[derive(Clone, Copy)]
 pub struct Counts {
     pub ode: usize,
     pub jac: usize,
@@ -79,7 +79,7 @@ pub struct Counts {
 }
 
 // The flags and counters of `solve`, apart from its floats: what an account of a run leans on.
-#[derive(Drop)]
+#[derive(Clone, Copy)]
 pub struct Control {
     pub first: bool,
     pub last: bool,
@@ -93,7 +93,7 @@ pub struct Control {
 }
 
 // The floats of `solve` that live from one request to the next.
-#[derive(Drop)]
+#[derive(Clone, Copy)]
 pub struct Numbers {
     pub x: f64,
     pub xold: f64,
@@ -112,7 +112,7 @@ pub struct Numbers {
 }
 
 // A decomposition that found no pivot: of which matrix, and in which column, counted from 0.
-#[derive(Drop)]
+#[derive(Clone, Copy)]
 pub enum Singular {
     // There was none.
     None,
@@ -123,7 +123,7 @@ pub enum Singular {
 }
 
 // The strides of a run: |h| of each accepted attempt, with the h held when it was accepted. A NaN is passed over.
-#[derive(Drop)]
+#[derive(Clone, Copy)]
 pub enum Strides {
     // There was none, or nothing but NaN.
     None,
@@ -132,14 +132,14 @@ pub enum Strides {
 }
 
 // What a run keeps for its result alone: no decision reads it but refusal 13's test of the strides.
-#[derive(Drop)]
+#[derive(Clone, Copy)]
 pub struct Notes {
     // The latest of the whole run, whatever was accepted since.
     pub singular: Singular,
     pub strides: Strides,
 }
 
-#[derive(Drop)]
+#[derive(Clone, Copy)]
 pub struct Run {
     // As given: refusal 13 tests them again.
     pub settings: Settings,

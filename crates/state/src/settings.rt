@@ -4,41 +4,41 @@ ghost use Rattle.std.specs.Prelude.{◌≡◌};
 ghost use Rattle.state.specs.Settings.{defaults_of};
 
 // The Rust's Option<Float>.
-#[derive(Drop)]
+#[derive(Clone, Copy)]
 pub enum Number {
     Absent,
     Given(f64),
 }
 
 // The Rust's Option<usize>.
-#[derive(Drop)]
+#[derive(Clone, Copy)]
 pub enum Whole {
     Absent,
     Given(usize),
 }
 
 // The mass matrix: the identity, or the n by n matrix that stands in the part `mass` at opening.
-#[derive(Drop)]
+#[derive(Clone, Copy)]
 pub enum Mass {
     Identity,
     Full,
 }
 
 // Who makes the Jacobian: the host, or this solver by differences.
-#[derive(Drop)]
+#[derive(Clone, Copy)]
 pub enum Source {
     Host,
     Differences,
 }
 
 // Which text decides where the Rust departs from the book.
-#[derive(Drop)]
+#[derive(Clone, Copy)]
 pub enum Rule {
     Rust,
     Book,
 }
 
-#[derive(Drop)]
+#[derive(Clone, Copy)]
 pub struct Settings {
     pub max_steps: usize,
     pub uround: f64,

@@ -1,7 +1,7 @@
 // What a run and its host say to each other.
 use crate::run::{Counts, Run, Singular, Status};
 
-#[derive(Drop)]
+#[derive(Clone, Copy)]
 pub enum Request {
     // The derivative at x; the place beside it says where the amounts stand and which part to fill.
     Derivative(f64),
@@ -13,7 +13,7 @@ pub enum Request {
 }
 
 // The parts of a derivative request: where the amounts stand, and which part to fill.
-#[derive(Drop)]
+#[derive(Clone, Copy)]
 pub enum Place {
     // The request asks for no derivative.
     Nowhere,
@@ -27,7 +27,7 @@ pub enum Place {
     YPerturbedToFPerturbed,
 }
 
-#[derive(Drop)]
+#[derive(Clone, Copy)]
 pub enum Reply {
     // A derivative or Jacobian was filled in.
     Filled,
@@ -40,7 +40,7 @@ pub enum Reply {
 }
 
 // A float that may be refused, in the order in which they are tested.
-#[derive(Drop)]
+#[derive(Clone, Copy)]
 pub enum Value {
     X0,
     Xend,
@@ -59,7 +59,7 @@ pub enum Value {
 }
 
 // Why a call is refused; specs/Numbers.antt gives document 01's number for each.
-#[derive(Drop)]
+#[derive(Clone, Copy)]
 pub enum Refusal {
     Order,
     Length,
@@ -81,28 +81,28 @@ pub enum Refusal {
 }
 
 // Whether a call passes the tests that stand before its work.
-#[derive(Drop)]
+#[derive(Clone, Copy)]
 pub enum Verdict {
     Passed,
     Refused(Refusal),
 }
 
 // The answer to an opening.
-#[derive(Drop)]
+#[derive(Clone, Copy)]
 pub enum Opened {
     Asked(Run, Request, Place),
     Refused(Refusal),
 }
 
 // The answer to an advance. A refusal hands the run back as it came.
-#[derive(Drop)]
+#[derive(Clone, Copy)]
 pub enum Answer {
     Asked(Run, Request, Place),
     Refused(Run, Refusal),
 }
 
 // What a result tells of a singular decomposition: only one with the status 5 does.
-#[derive(Drop)]
+#[derive(Clone, Copy)]
 pub enum Blame {
     // The status is another.
     Untold,
@@ -111,7 +111,7 @@ pub enum Blame {
 }
 
 // What `solve` returns (methods/mod.rs, IntegrationResult), with the point reached, the blame and the strides.
-#[derive(Drop)]
+#[derive(Clone, Copy)]
 pub struct IntegrationResult {
     pub h: f64,
     pub x: f64,
@@ -123,7 +123,7 @@ pub struct IntegrationResult {
     pub largest: f64,
 }
 
-#[derive(Drop)]
+#[derive(Clone, Copy)]
 pub enum Result {
     Ended(IntegrationResult),
     NotEnded,

@@ -1,5 +1,7 @@
 // The program `totals`: reads status lines on standard input and prints their totals, or why they were refused (02,
 // [12]). The bytes that it prints are the value of `print` for what `told` answers; here is only reading and writing.
+#![tactic(auto)]
+
 use night_totals::night::Night;
 use night_totals::{fed, print, start, told};
 use piece_input::reading::{Came, MOST_READS, PIECE};

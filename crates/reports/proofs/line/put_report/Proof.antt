@@ -7,8 +7,8 @@ use borrow.Author.Rules.{rules}
 use lib.Ieee.{Float}
 use Rattle.state.specs.declared.talk.Request.{Request}
 use Rattle.state.specs.declared.talk.Request.TheVariants as request
-use Rattle.csv.specs.declared.answers.Exported.{Exported}
-use Rattle.csv.specs.Table.{Export, export, record_of}
+use Rattle.csv_table.specs.declared.answers.Exported.{Exported}
+use Rattle.csv_table.specs.Table.{Export, export, record_of}
 use Rattle.reports.specs.declared.line.Line.TheVariants as line
 use Rattle.reports.specs.Line.{noted, line_at}
 use Rattle.reports.proofs.line.put_report.Statement.{statement}
