@@ -22,6 +22,15 @@ def plain(word):
     return word.replace("-", "_")
 
 
+def bare(word):
+    """A goal's old name, with what port.py put before it taken off."""
+    word = plain(word)
+    for was, now in (("overflow_", ""), ("element_bounds_", "bounds_"), ("nonzero_", "")):
+        if word.startswith(was):
+            word = now + word[len(was):]
+    return word
+
+
 def contracts(root):
     """For each function of src/, by its path, the names of its `ensures` clauses and of its `requires` clauses."""
     found = {}
@@ -54,6 +63,13 @@ def split(text):
     """The top-level declarations: a list of (first name, text)."""
     blocks, block = [], []
     for line in text.split("\n"):
+        if line.startswith("use "):
+            if block and not (len(block) == 1 and block[0][0] == "--"):
+                blocks.append(block)
+                block = []
+            blocks.append((block if block else []) + [("use", line)])
+            block = []
+            continue
         if line and not line[0].isspace() and not line.startswith(("--", "unfolding", ")", "}")):
             words = line.split()
             name = next((w for w in words if w not in ("abbrev", "pub", "unfoldable", "record", "data")), "")
@@ -76,7 +92,7 @@ def split(text):
             continue
         block.append((block[0][0] if block else "", line))
     blocks.append(block)
-    return [(b[0][0], "\n".join(t for _, t in b).rstrip() + "\n") for b in blocks if b]
+    return [(b[-1][0] if b[-1][0] == "use" else b[0][0], "\n".join(t for _, t in b).rstrip() + "\n") for b in blocks if b]
 
 
 class Function:
@@ -85,15 +101,31 @@ class Function:
         self.places = {p[0]: p for p in entry["places"]}
         self.new_place = {p[0]: n for p, n in zip(entry["places"], entry["places_by_name"])}
         self.needs = entry["needs"]
+        self.arms = {p[0]: a for p, a in zip(entry["places"], entry["arms"])}
         self.place_of = {}
         for (old, new), at in zip(entry["needs"], entry["asked_at"]):
-            self.place_of[plain(old)] = at[0]
+            self.place_of[bare(old)] = at[0]
 
     def chain(self, place):
         while place:
             p = self.places[place]
             yield p
             place = p[1]
+
+    def arm(self, place, rest):
+        """What an arm of a match has for an old step: the new segments and how many old ones they stand for."""
+        best = None
+        for p in self.chain(place):
+            arm = self.arms.get(p[0])
+            if not arm:
+                continue
+            name, _, fields = arm
+            for new, step, path in fields:
+                if new.endswith("-own") or plain(step) != plain(rest[0]):
+                    continue
+                if rest[1:1 + len(path)] == path and (best is None or len(path) + 1 > best[1]):
+                    best = ([name, new], len(path) + 1, p)
+        return best
 
     def up(self, place, count):
         for _ in range(count):
@@ -165,11 +197,24 @@ class Turner:
                     return spread(root + ".requires", names) if len(rest) == 1 else root + "." + ".".join(rest)
                 return ".".join([root, "requires", names[got[0]]] + rest[1 + got[1]:])
             return ".".join([root] + rest)
-        if head in ("args", "ranges", "type_inv", "type-inv", "auto", "captures", "utf8"):
+        if head in ("args", "ranges", "type_inv", "type-inv", "auto", "captures", "utf8", "well-formed"):
             if len(rest) > 1 and head != "auto":
                 rest[1] = plain(rest[1])
             rest[0] = plain(head)
             return ".".join([root] + rest)
+        arm = self.f.arm(place, rest)
+        if arm:
+            tail = rest[arm[1]:]
+            if arm[0][1] == "ensures":
+                call = next((q for q in self.f.chain(arm[2][0]) if q[3]), None)
+                names = self.f.clauses.get(call[3], ([], []))[0] if call else []
+                if len(names) > 1 and all(names):
+                    got = index(tail, len(names))
+                    if got is None and not tail:
+                        return spread(".".join([root] + arm[0]), names)
+                    if got is not None:
+                        tail = [names[got[0]]] + tail[got[1]:]
+            return ".".join([root] + arm[0] + tail)
         p = self.f.step(here, head) or self.f.step(place, head)
         if not p:
             return root + "".join("." + s for s in segs)
@@ -351,8 +396,8 @@ def convert(root, crate, rel, entry, clauses):
             continue
         m = re.match(rf"(?:pub )?({SEG}) : tie\.Need-({SEG})((?: {SEG})*)\s*$", first)
         if m:
-            old = plain(m[2])
-            pair = next((p for p in f.needs if plain(p[0]) == old), None)
+            old = bare(m[2])
+            pair = next((p for p in f.needs if bare(p[0]) == old), None)
             if not pair:
                 notes.append(f"{rel}: no goal {m[2]}")
                 continue
@@ -371,12 +416,42 @@ def convert(root, crate, rel, entry, clauses):
                 turner.roots.setdefault(w, place) if re.search(rf"(?<![\w'.-]){w}\.(before|if|loop)", value) else None
             value = turner.body(value)
             value, ways = turner.branches(value)
-            names = next((v for k, v in entry["asked"].items() if plain(k) == old), None)
+            names = next((v for k, v in entry["asked"].items() if bare(k) == old), None)
             if names and len(names) > 1:
                 value = as_record(value, names)
             answers.append((pair[1], eq[1], value, unfolding, comment, ways, m[1]))
             continue
         helpers.append((name, body, comment))
+    local, order = {}, []
+    for name, body, comment in helpers:
+        sig, _, rest = body.partition("\n")
+        while rest and not re.match(rf"(unfolding|{re.escape(name)}\b)", rest):
+            line, _, rest = rest.partition("\n")
+            sig += " " + line.strip()
+        m0 = re.match(rf"(?:abbrev )?(?:pub )?{re.escape(name)} : \(?(?:({SEG}) : )?tie\.({SEG})((?: invariant-{SEG}| decreases-{SEG})*)\)? → (.*)$", sig)
+        if not m0 or "tie." in m0[4]:
+            continue
+        unf = [l for l in rest.split("\n") if l.startswith("unfolding")]
+        rest = "\n".join(l for l in rest.split("\n") if not l.startswith("unfolding"))
+        eqs = re.findall(rf"(?m)^{re.escape(name)}\s", rest)
+        eq = re.match(rf"{re.escape(name)}\s+({SEG})((?:\s+{SEG})*)\s*=\s*(.*)$", rest, re.S)
+        old = next((p for p in f.places if plain(p) == plain(m0[2])), None)
+        if len(eqs) != 1 or not eq or not old:
+            continue
+        turner = Turner(f, old, {eq[1]: old})
+        value = turner.body(eq[3].rstrip())
+        value, ways = turner.branches(value)
+        kind = m0[4]
+        if m0[1]:
+            kind = Turner(f, old, {m0[1]: old}).body(kind)
+            kind = re.sub(rf"(?<![\w'.-]){re.escape(m0[1])}(?=\.)", "c", kind)
+        value = re.sub(rf"(?<![\w'.-]){re.escape(eq[1])}(?![\w'-])", "c", value)
+        if eq[2].split():
+            value = f"λ {' '.join(eq[2].split())}. {value.strip()}"
+        local[name] = (kind, value, unf, ways)
+        order.append(name)
+    helpers = [h for h in helpers if h[0] not in local]
+
     # helpers
     kept = []
     for name, body, comment in helpers:
@@ -404,6 +479,44 @@ def convert(root, crate, rel, entry, clauses):
         body = sig + "\n" + rest
         body = re.sub(rf"tie\.({SEG})(?: invariant-{SEG} decreases-{SEG})*", typed, body)
         kept.append((name, body, comment, ways))
+    def used_in(text):
+        found, todo = set(), [text]
+        while todo:
+            t = todo.pop()
+            for n in order:
+                if n not in found and re.search(rf"(?<![\w'.-]){re.escape(n)}(?![\w'-])", t):
+                    found.add(n)
+                    todo += [local[n][0], local[n][1]]
+        return [n for n in order if n in found]
+
+    def applied(text):
+        for n in order:
+            root = rf"(?:\w+|{SEG})"
+            text = re.sub(rf"\({re.escape(n)} ({root})((?:\.before)*)\)", n, text)
+            text = re.sub(rf"(?<![\w'.-]){re.escape(n)} ({root})((?:\.before)*)(?![\w'.-])", n, text)
+        return text
+
+    def with_lets(text, c, unfolding):
+        names = used_in(text)
+        if not names:
+            return text, unfolding, set()
+        lets, ways = "", set()
+        for n in names:
+            kind, value, unf, w = local[n]
+            kind, value = applied(kind), applied(value)
+            if c != "c":
+                kind = re.sub(r"(?<![\w'.-])c(?=\.)", c, kind)
+                value = re.sub(r"(?<![\w'.-])c(?![\w'-])", c, value)
+            lets += f"\n    let {n} : {kind.strip()} = {value.strip()} in"
+            unfolding = unfolding + [u for u in unf if u not in unfolding]
+            ways |= w
+        return lets + "\n    " + applied(text).strip(), unfolding, ways
+
+    done = []
+    for new, c, value, unfolding, comment, ways, old in answers:
+        value, unfolding, more = with_lets(value, c, unfolding)
+        done.append((new, c, value, unfolding, comment, ways | more, old))
+    answers = done
     renamed = {a[6]: a[0] for a in answers if a[6] != a[0]}
 
     def rename(text):

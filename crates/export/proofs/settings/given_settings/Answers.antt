@@ -1,0 +1,31 @@
+-- `given_settings` meets its contract: field by field.
+use Rattle.words.specs.Words.{◌!◌}
+use Rattle.radau_core.specs.Choices.{flag_of}
+use Rattle.radau_core.specs.Places.{◌#◌}
+use borrow.Author.Rules.{rules}
+use Rattle.export.proofs.settings.given_settings.Goals as goal
+
+pub returns : goal.returns
+returns c = let w = c.args.w.now in
+    let x = c.args.x.now in
+    λ i.
+    record {
+      max_steps = w # 0;
+      uround = x ! 0;
+      safety_factor = x ! 1;
+      scale_min = x ! 2;
+      scale_max = x ! 3;
+      max_step = c.number.ensures i;
+      min_step = c.number-2.ensures i;
+      newton_maxiter = w # 1;
+      newton_tol = c.number-3.ensures i;
+      predictive = flag_of (w # 2);
+      nind1 = c.whole.ensures i;
+      nind2 = c.whole-2.ensures i;
+      nind3 = c.whole-3.ensures i;
+      mass = c.mass.ensures i;
+      source = c.source.ensures i;
+      first_step = c.number-4.ensures i;
+      dense_output = flag_of (w # 3);
+      rule = c.rule.ensures i;
+    }

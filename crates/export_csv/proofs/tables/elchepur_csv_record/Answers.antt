@@ -1,0 +1,7 @@
+-- `elchepur_csv_record` meets its contract.
+use borrow.Author.Rules.{rules}
+use Rattle.export_csv.proofs.ToldLaws.{told-by}
+use Rattle.export_csv.proofs.tables.elchepur_csv_record.Goals as goal
+
+pub returns : goal.returns
+returns c = told-by _ _ _ _ c.put_record-answer.ensures c.length.ensures c.number.ensures

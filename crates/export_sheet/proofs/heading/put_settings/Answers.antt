@@ -1,0 +1,8 @@
+-- `put_settings` meets its contract.
+use Rattle.export_sheet.proofs.BorderLaws.{sets_over}
+use Rattle.export_sheet.specs.Border.{setting_words}
+use borrow.Author.Rules.{rules}
+use Rattle.export_sheet.proofs.heading.put_settings.Goals as goal
+
+pub returns : goal.returns
+returns c = rw c.rule_number.ensures (sets_over (setting_words c.args.heading) c.args.settings.now)

@@ -1,0 +1,8 @@
+-- `elchepur_totals_start` meets its contract.
+use mathlib.Core.Path.{ap, ◌∙◌}
+use Rattle.export_totals.specs.Record.{words_of}
+use borrow.Author.Rules.{rules}
+use Rattle.export_totals.proofs.nights.elchepur_totals_start.Goals as goal
+
+pub returns : goal.returns
+returns c = c.words_of.ensures ∙ ap words_of c.start.ensures

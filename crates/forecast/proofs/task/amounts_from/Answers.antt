@@ -1,0 +1,6 @@
+-- `amounts_from` meets its contract.
+use borrow.Author.Rules.{rules}
+use Rattle.forecast.proofs.task.amounts_from.Goals as goal
+
+pub returns : goal.returns
+returns c = c.doubles.ensures

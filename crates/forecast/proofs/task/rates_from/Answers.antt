@@ -1,0 +1,6 @@
+-- `rates_from` meets its contract.
+use borrow.Author.Rules.{rules}
+use Rattle.forecast.proofs.task.rates_from.Goals as goal
+
+pub returns : goal.returns
+returns c = c.doubles.ensures

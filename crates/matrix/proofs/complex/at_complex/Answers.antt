@@ -1,0 +1,8 @@
+-- `at_complex` meets its contract.
+use borrow.Author.Rules.{rules}
+use Rattle.matrix.specs.Complex.{at_complex}
+use Rattle.matrix.proofs.complex.at_complex.Goals as goal
+
+pub returns : goal.returns
+unfolding at_complex
+returns c = cc

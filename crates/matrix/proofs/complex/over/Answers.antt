@@ -1,0 +1,8 @@
+-- `over` meets its contract.
+use borrow.Author.Rules.{rules}
+use Rattle.matrix.specs.Complex.{over_complex}
+use Rattle.matrix.proofs.complex.over.Goals as goal
+
+pub returns : goal.returns
+unfolding over_complex
+returns c = cc

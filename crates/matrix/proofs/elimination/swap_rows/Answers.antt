@@ -1,0 +1,20 @@
+-- `swap_rows` meets its contract.
+use Prim.Native.Nat.{◌-◌, ◌+◌}
+use mathlib.Core.Path.{refl}
+use native.Mathlib.Omega.{arith}
+use borrow.Author.Rules.{rules}
+use Rattle.words.specs.Grid.{Square}
+use Rattle.words.proofs.Loops.{Ran, begun, turned, ended}
+use Rattle.matrix.specs.Elimination.{swapped}
+use Rattle.matrix.specs.Lu.{real}
+use Rattle.matrix.proofs.elimination.swap_rows.Goals as goal
+
+pub loop-j-init : goal.loop-j-init
+loop-j-init c = begun (omega arith) c.requires.square refl
+
+pub loop-j-preserved : goal.loop-j-preserved
+loop-j-preserved c = turned c.loop-j.invariant (omega arith) (omega arith)
+    c.swap.ensures
+
+pub returns : goal.returns
+returns c = ended c.loop-j.invariant c.loop-j-test.false

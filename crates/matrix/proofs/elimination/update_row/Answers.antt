@@ -1,0 +1,31 @@
+-- `update_row` meets its contract.
+use Prim.Native.Nat.{◌-◌, ◌+◌}
+use mathlib.Core.Path.{◌≡◌, refl, sym, ◌∙◌}
+use mathlib.Core.List.{List}
+use native.Mathlib.Omega.{arith}
+use lib.Ieee.{Float}
+use borrow.Author.Rules.{rules}
+use Rattle.words.specs.Grid.{Square, at}
+use Rattle.words.proofs.Loops.{Ran, begun, turned, ended}
+use Rattle.matrix.specs.Lu.{real}
+use Rattle.matrix.specs.Reordered.{added_of, cell_at}
+use Rattle.matrix.proofs.Cells.{real-lawful}
+use Rattle.matrix.proofs.Rows.{row-turn, row-early}
+use Rattle.matrix.proofs.elimination.update_row.Goals as goal
+
+pub loop-j-init : goal.loop-j-init
+loop-j-init c = begun (omega arith) (c.requires.square, sym c.at-x.ensures) refl
+
+pub loop-j-preserved : goal.loop-j-preserved
+loop-j-preserved c = let r = row-turn real Square added_of real-lawful _ _ (omega arith) _ _ (omega arith) (omega arith)
+    c.loop-j.invariant.kept.1
+    c.at.ensures
+    c.at-in-loop-j.ensures c.added-y.ensures
+    c.put.ensures in
+    turned c.loop-j.invariant
+    (omega arith) (omega arith, r.0) r.1
+
+pub returns : goal.returns
+returns c = ended c.loop-j.invariant c.loop-j-test.false
+    ∙ row-early real Square added_of real-lawful _ _ (omega arith) _ _ (omega arith) _
+    c.requires.idle_from

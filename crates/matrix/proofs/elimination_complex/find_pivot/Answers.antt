@@ -1,0 +1,27 @@
+-- `find_pivot` meets its contract.
+use Prim.Native.Nat.{◌-◌, ◌+◌, ◌<◌}
+use mathlib.Core.Path.{ap}
+use mathlib.Core.Logic.{⊎_elim}
+use native.Mathlib.Omega.{arith}
+use borrow.Author.Rules.{rules}
+use Rattle.words.proofs.Loops.{Ran, begun, turned, ended}
+use Rattle.words.proofs.Branch.{yes, no}
+use Rattle.matrix.specs.Complex.{parts, at_complex, size_complex}
+use Rattle.matrix.specs.Elimination.{Best, best, better_at, pivot_row}
+use Rattle.matrix.specs.LuComplex.{complex_kind}
+use Rattle.matrix.proofs.elimination_complex.find_pivot.Goals as goal
+use Rattle.matrix.proofs.elimination_complex.find_pivot.Goals.{else-val-max_val, then-val-max_val}
+
+pub loop-i-init : goal.loop-i-init
+loop-i-init c = begun (omega arith) (omega arith) (cc)
+
+pub loop-i-preserved : goal.loop-i-preserved
+unfolding better_at
+loop-i-preserved c = elim c.if-val-max_val.branch [ then-val-max_val w ↦ turned c.loop-i.invariant (omega arith) (omega arith) (yes _ _ _ (cc) (cc)) | else-val-max_val w ↦ turned c.loop-i.invariant (omega arith) (omega arith) (no _ _ _ (cc) (cc)) ]
+
+pub returns : goal.returns
+unfolding pivot_row
+returns c = record {
+  value = ap (λ (b : Best). b.row) (ended c.loop-i.invariant c.loop-i-test.false);
+  upper_bound = omega arith;
+}

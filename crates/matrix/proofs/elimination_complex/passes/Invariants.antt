@@ -1,0 +1,19 @@
+-- What each loop of `passes` keeps.
+use Prim.Native.Nat.{◌-◌}
+use mathlib.Core.Path.{◌≡◌, refl}
+use native.Mathlib.Omega.{arith}
+use lib.ListN.{length}
+use borrow.Author.Rules.{rules}
+use borrow.Author.Tests.{not-true, not-false}
+use Rattle.words.specs.Grid.{Square}
+use Rattle.words.proofs.Loops.{Ran, begun, turned, ended, stopped}
+use Rattle.matrix.specs.Answers.{nowhere}
+use Rattle.matrix.specs.Complex.{Parts, parts}
+use Rattle.matrix.specs.Elimination.{Work, work, pass_at}
+use Rattle.matrix.specs.LuComplex.{complex_kind, is_zero_complex}
+use Rattle.matrix.proofs.Passes.{went_on, stopped-at, still, ends-within, ends-zero, ends-done}
+use Rattle.matrix.proofs.elimination_complex.passes.Given as goal
+
+abbrev pub invariant-loop-k : goal.invariant-loop-k
+invariant-loop-k l = Ran (pass_at complex_kind l.n) (λ (w : Work Parts). Square l.n w.a.re × Square l.n w.a.im × (length w.ip ≡ l.n)) 0
+    l.nm1 l.k (work (parts l.initial.ar l.initial.ai) l.initial.ip nowhere) (work (parts l.ar l.ai) l.ip nowhere)

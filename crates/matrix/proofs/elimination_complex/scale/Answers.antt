@@ -1,0 +1,27 @@
+-- `scale` meets its contract.
+use Prim.Native.Nat.{◌-◌, ◌+◌}
+use mathlib.Core.Path.{refl}
+use native.Mathlib.Omega.{arith}
+use borrow.Author.Rules.{rules}
+use Rattle.words.specs.Grid.{Square}
+use Rattle.words.proofs.Loops.{Ran, begun, turned, ended}
+use Rattle.matrix.specs.Complex.{Parts, parts}
+use Rattle.matrix.specs.Elimination.{scaled_at}
+use Rattle.matrix.specs.LuComplex.{complex_kind, multiplier_complex}
+use Rattle.matrix.proofs.elimination_complex.scale.Goals as goal
+
+pub loop-i-init : goal.loop-i-init
+loop-i-init c = begun (omega arith) c.requires.square refl
+
+pub loop-i-preserved : goal.loop-i-preserved
+unfolding scaled_at multiplier_complex
+loop-i-preserved c = turned c.loop-i.invariant
+    (omega arith) (omega arith) (rw (
+      c.put_complex.ensures,
+      c.negated.ensures,
+      c.times.ensures,
+      c.at_complex-x.ensures,
+    ))
+
+pub returns : goal.returns
+returns c = ended c.loop-i.invariant c.loop-i-test.false

@@ -1,0 +1,14 @@
+-- What each loop of `update` keeps.
+use Prim.Native.Nat.{◌-◌, ◌+◌}
+use mathlib.Core.Path.{refl}
+use native.Mathlib.Omega.{arith}
+use borrow.Author.Rules.{rules}
+use Rattle.words.specs.Grid.{Square}
+use Rattle.words.proofs.Loops.{Ran, begun, turned, ended}
+use Rattle.matrix.specs.Complex.{Parts, parts}
+use Rattle.matrix.specs.Reordered.{multiplied_at}
+use Rattle.matrix.proofs.elimination_complex.update.Given as goal
+
+abbrev pub invariant-loop-i : goal.invariant-loop-i
+invariant-loop-i l = Ran (multiplied_at l.n l.k l.j l.t) (λ (a : Parts). Square l.n a.re × Square l.n a.im)
+    (l.k + 1) l.n l.i (parts l.initial.ar l.initial.ai) (parts l.ar l.ai)

@@ -1,0 +1,20 @@
+-- `solve_row` meets its contract.
+use Prim.Native.Nat.{◌-◌}
+use mathlib.Core.Path.{refl}
+use native.Mathlib.Omega.{arith}
+use borrow.Author.Rules.{rules}
+use Rattle.words.proofs.Loops.{Ran, begun, turned, ended, Any}
+use Rattle.words.specs.Words.{◌!◌}
+use Rattle.matrix.specs.Reordered.{real_entries, sum_at, row_solved_at}
+use Rattle.matrix.proofs.substitution.solve_row.Goals as goal
+
+pub loop-kb-init : goal.loop-kb-init
+loop-kb-init c = begun (omega arith) tt refl
+
+pub loop-kb-preserved : goal.loop-kb-preserved
+unfolding sum_at
+loop-kb-preserved c = turned c.loop-kb.invariant (omega arith) tt (cc)
+
+pub returns : goal.returns
+unfolding row_solved_at
+returns c = rw (c.at-2.ensures, ended c.loop-kb.invariant c.loop-kb-test.false)

@@ -1,0 +1,31 @@
+-- `forward_phase` meets its contract.
+use Prim.Native.Nat.{◌-◌}
+use mathlib.Core.Path.{refl}
+use native.Mathlib.Omega.{arith}
+use borrow.Author.Rules.{rules}
+use Rattle.words.proofs.Loops.{Ran, begun, turned, ended, Long}
+use Rattle.matrix.specs.Complex.{Parts, parts}
+use Rattle.matrix.specs.Substitution.{forward_at}
+use Rattle.matrix.specs.LinearComplex.{complex_side}
+use Rattle.matrix.proofs.substitution_complex.forward_phase.Goals as goal
+
+pub loop-k-init : goal.loop-k-init
+loop-k-init c = begun (omega arith) (refl, refl) refl
+
+pub forward_step-requires : goal.forward_step-requires
+forward_step-requires c = record {
+  square = search rules;
+  br_len = omega (
+    arith,
+    c.requires.by_index
+        c.loop-k.k (omega arith),
+  );
+}
+
+pub loop-k-preserved : goal.loop-k-preserved
+unfolding forward_at
+loop-k-preserved c = turned c.loop-k.invariant (omega arith)
+    (omega arith) c.forward_step.ensures
+
+pub returns : goal.returns
+returns c = ended c.loop-k.invariant c.loop-k-test.false

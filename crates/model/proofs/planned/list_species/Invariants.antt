@@ -1,0 +1,11 @@
+-- What each loop of `list_species` keeps.
+use Prim.Native.Nat.{ℕ, ◌-◌, ◌≤◌}
+use mathlib.Core.Path.{◌≡◌, subst}
+use native.Mathlib.Nat.{le_antisymm}
+use native.Mathlib.Omega.{arith}
+use Rattle.model.specs.Plan.{Lists}
+use Rattle.model.proofs.PlanLaws.{lists-none}
+use Rattle.model.proofs.planned.list_species.Given as goal
+
+abbrev pub invariant-loop-k : goal.invariant-loop-k
+invariant-loop-k l = (l.k ≤ l.count) × Lists l.species l.number l.at l.initial.terms l.k l.terms l.to

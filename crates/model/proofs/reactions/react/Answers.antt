@@ -1,0 +1,8 @@
+-- `react` meets its contract.
+use borrow.Author.Rules.{rules}
+use Rattle.model.specs.Model.{speed_of, reacted}
+use Rattle.model.proofs.reactions.react.Goals as goal
+
+pub returns : goal.returns
+unfolding reacted speed_of
+returns c = cc

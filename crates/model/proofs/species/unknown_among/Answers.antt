@@ -1,0 +1,18 @@
+-- `unknown_among` meets its contract.
+use Prim.Native.Nat.{◌-◌}
+use mathlib.Core.Bool.{false}
+use mathlib.Core.Path.{refl}
+use native.Mathlib.Omega.{arith}
+use Rattle.words.proofs.Loops.{Ran, begun, turned, ended, Any}
+use Rattle.model.specs.Derivative.{unknown_at}
+use Rattle.model.proofs.species.unknown_among.Goals as goal
+
+pub loop-k-init : goal.loop-k-init
+loop-k-init c = begun (omega arith) tt refl
+
+pub loop-k-preserved : goal.loop-k-preserved
+unfolding unknown_at
+loop-k-preserved c = turned c.loop-k.invariant (omega arith) tt refl
+
+pub returns : goal.returns
+returns c = ended c.loop-k.invariant c.loop-k-test.false

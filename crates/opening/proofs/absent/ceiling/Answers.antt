@@ -1,0 +1,6 @@
+-- `ceiling` meets its contract.
+use borrow.Author.Rules.{rules}
+use Rattle.opening.proofs.absent.ceiling.Goals as goal
+
+pub returns : goal.returns
+returns c = rw (c.or_else.ensures, c.abs.ensures)

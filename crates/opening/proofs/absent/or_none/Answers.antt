@@ -1,0 +1,12 @@
+-- `or_none` meets its contract.
+use borrow.Author.Rules.{rules}
+use Rattle.state.specs.Settings.{or_none}
+use Rattle.opening.proofs.absent.or_none.Goals as goal
+
+pub returns-in-Absent : goal.returns-in-Absent
+unfolding or_none
+returns-in-Absent c = rw c.in-Absent.is
+
+pub returns-in-Given : goal.returns-in-Given
+unfolding or_none
+returns-in-Given c = rw c.in-Given.is

@@ -1,0 +1,6 @@
+-- `clear_differences` meets its contract.
+use borrow.Author.Rules.{rules}
+use Rattle.opening.proofs.clear.clear_differences.Goals as goal
+
+pub returns : goal.returns
+returns c = rw (c.zero.ensures, c.zero-2.ensures, c.zero-3.ensures)

@@ -1,0 +1,8 @@
+-- `shape` meets its contract.
+use borrow.Author.Rules.{rules}
+use Rattle.opening.specs.Opening.{shape_of}
+use Rattle.opening.proofs.first.shape.Goals as goal
+
+pub returns : goal.returns
+unfolding shape_of
+returns c = rw (c.nind1.ensures, c.or_none-three.ensures, c.or_none-two.ensures)

@@ -1,0 +1,506 @@
+-- `replied` meets its contract, stage by stage.
+use Prim.Native.Nat.{ℕ, ◌*◌}
+use mathlib.Core.Path.{◌≡◌, refl, sym, ◌∙◌}
+use native.Mathlib.Omega.{arith}
+use lib.ListN.{length}
+use borrow.Author.Rules.{rules}
+use Rattle.state.specs.declared.run.Run.{Run}
+use Rattle.state.specs.declared.run.Stage.TheVariants.{FirstDerivativeAgain}
+use Rattle.state.specs.Memory.{Memory, memory, amounts, Newton, newton, given}
+use Rattle.state.specs.Memory.{Factors, factors, Differences, differences}
+use Rattle.solve_blocks.proofs.AdvanceLaws.{first-derivative, first-report, first-again, jacobian-made}
+use Rattle.solve_blocks.proofs.AdvanceLaws.{column-made, newton-1, newton-2, newton-3, refinement}
+use Rattle.solve_blocks.proofs.AdvanceLaws.{accepted-there, report-answered, derivative-again, ended-already}
+use Rattle.solve_blocks.proofs.RepliedLaws.{heard-asks, again-heard, round-asks, column-asks, square-at}
+use Rattle.radau_core.specs.Places.{◌#◌, run_at, call_at, step_at, round_at, heard_at}
+use Rattle.radau_core.proofs.PlaceLaws as place
+use Rattle.radau_core.proofs.advance.replied.Goals as goal
+
+same : (a b n : ℕ) → a ≡ n → b ≡ n → a ≡ b
+same a b n e f = e ∙ sym f
+
+four : (a b n : ℕ) → a ≡ 4 * n → b ≡ n → a ≡ 4 * b
+four a b n e f = omega (arith, e, f)
+
+pub reported-heard-requires : goal.reported-heard-requires
+reported-heard-requires c = record {
+  sized = c.before.before.before.before.before.before.before.before.before.before.before.before.before.before.before.before.before.before.before.before.before.before.before.before.before.before.pre.0;
+  doubles_bound = omega (arith, c.before.before.before.before.before.before.before.before.before.before.before.before.before.before.before.before.before.before.before.before.before.before.before.before.before.before.pre.1.0.0);
+}
+
+pub started-requires : goal.started-requires
+started-requires c = let start = c.before.before.before.before.before.before.before.before.before.before.before.before.before.before.before.before.before.before.before.before.before.before.before.before.before.before.before.before.before.before.before in
+    let m = start.pre.1.1 in
+    let a = start.args in
+    let n = a.words.now # 16 in
+    let y = length a.y.now in (
+      heard-asks start.pre.1.0.0 FirstDerivativeAgain a.reply y c.reported-heard.ensures.doubles_after m.y,
+      same (length a.rtol.now) y n m.rtol m.y,
+      same (length a.atol.now) y n m.atol m.y,
+      same (length a.scal.now) y n m.scal m.y,
+    )
+
+pub started-requires-in-2 : goal.started-requires-in-2
+started-requires-in-2 c = let start = c.before.before.before.before.before.before.before.before.before.before.before.before.before.before.before.before.before.before.before.before.before.before.before.before.before.before.before.before in
+    let m = start.pre.1.1 in
+    let a = start.args in
+    let n = a.words.now # 16 in
+    let y = length a.y.now in (
+      again-heard start.pre.1.0.0 y m.y,
+      same (length a.rtol.now) y n m.rtol m.y,
+      same (length a.atol.now) y n m.atol m.y,
+      same (length a.scal.now) y n m.scal m.y,
+    )
+
+pub column-requires : goal.column-requires
+column-requires c =
+    let part_at : ℕ = c.args.words.now # 1 in
+    let start = c.before.before.before.before.before.before.before.before.before.before.before.before.before.before.before.before.before.before.before.before.before.before.before.before.before.before.before.before.before.before in let m = start.pre.1.1 in
+    let f = start.pre.1.0.0 in record {
+      sized = start.pre.0;
+      bound = (
+        f.low,
+        column-asks start.pre.1.0.1 (place.at-column part_at c.in-4.is),
+        m.y,
+        m.y_perturbed,
+        m.f_perturbed,
+        m.f_origin,
+        m.jac,
+      );
+    }
+
+pub ask_stage-requires : goal.ask_stage-requires
+ask_stage-requires c = let start = c.before.before.before.before.before.before.before.before.before.before.before.before.before.before.before.before.before.before.before.before.before.before.before.before.before.before.before.before.before.before.before in
+    let m = start.pre.1.1 in record {
+      sized = start.pre.0;
+      fit = omega (arith, start.pre.1.0.0);
+      y_len = (m.y, m.newton.z2, m.cont);
+    }
+
+pub ask_stage-requires-in-6 : goal.ask_stage-requires-in-6
+ask_stage-requires-in-6 c = let start = c.before.before.before.before.before.before.before.before.before.before.before.before.before.before.before.before.before.before.before.before.before.before.before.before.before.before.before.before.before.before in
+    let m = start.pre.1.1 in record {
+      sized = start.pre.0;
+      fit = omega (arith, start.pre.1.0.0);
+      y_len = (m.y, m.newton.z3, m.cont);
+    }
+
+pub round-verdict-requires : goal.round-verdict-requires
+round-verdict-requires c = let m = c.before.before.before.before.before.before.before.before.before.before.before.before.before.before.before.before.before.before.before.before.before.before.before.before.before.before.before.before.before.before.before.before.before.pre.1.1 in
+    record {
+      sized = c.before.before.before.before.before.before.before.before.before.before.before.before.before.before.before.before.before.before.before.before.before.before.before.before.before.before.before.before.before.before.before.before.before.pre.0;
+      fit = (omega (arith, c.before.before.before.before.before.before.before.before.before.before.before.before.before.before.before.before.before.before.before.before.before.before.before.before.before.before.before.before.before.before.before.before.before.pre.1.0.0), c.before.before.before.before.before.before.before.before.before.before.before.before.before.before.before.before.before.before.before.before.before.before.before.before.before.before.before.before.before.before.before.before.before.pre.1.0.1.rounds, m.mass, m.scal);
+      newton_long = m.newton;
+    }
+
+pub conclude-requires : goal.conclude-requires
+conclude-requires c =
+    let newton-at : Newton = let a = c.args in newton a.z1.now a.z2.now a.z3.now a.f1.now a.f2.now a.f3.now in
+    let factors-at : Factors = let a = c.args in factors a.e1.now a.e2r.now a.e2i.now a.ip1.now a.ip2.now in
+    let start = c.before.before.before.before.before.before.before.before.before.before.before.before.before.before.before.before.before.before.before.before.before.before.before.before.before.before.before.before.before.before.before.before.before.before.before.before.before.before.before.before.before.before.before.before.before.before.before.before.before.before.before.before.before.before.before.before in
+    let m = start.pre.1.1 in
+    let a = start.args in
+    let n = a.words.now # 16 in
+    let y = length a.y.now in
+    let k = c.round-verdict in record {
+      sized = k.ensures.0;
+      round_fit = (
+        round-asks start.pre.1.0.0 a.mass.now a.scal.now factors-at
+            start.pre.1.0.1.rounds k.ensures.1 m.y,
+        square-at {a = a.mass.now} y m.y m.mass,
+        same (length a.f0.now) y n m.f0 m.y,
+        same (length a.scal.now) y n m.scal m.y,
+        four (length a.cont.now) y n m.cont m.y,
+      );
+      z1_len = (
+        same (length k.last.1.1.1.1.1.1.1.1.1.0) y n
+            (k.kept.1.1.1.1.1.1.1.1.1.0 ∙ m.newton.z1) m.y,
+        same (length k.last.1.1.1.1.1.1.1.1.1.1.0) y n
+            (k.kept.1.1.1.1.1.1.1.1.1.1.0 ∙ m.newton.z2) m.y,
+        same (length k.last.1.1.1.1.1.1.1.1.1.1.1.0) y n
+            (k.kept.1.1.1.1.1.1.1.1.1.1.1.0 ∙ m.newton.z3) m.y,
+        same (length k.last.1.1.1.1.1.1.1.1.1.1.1.1.0) y n
+            (k.kept.1.1.1.1.1.1.1.1.1.1.1.1.0 ∙ m.newton.f1) m.y,
+        same (length k.last.1.1.1.1.1.1.1.1.1.1.1.1.1.0) y n
+            (k.kept.1.1.1.1.1.1.1.1.1.1.1.1.1.0 ∙ m.newton.f2) m.y,
+      );
+    }
+
+pub refined-requires : goal.refined-requires
+refined-requires c = let start = c.before.before.before.before.before.before.before.before.before.before.before.before.before.before.before.before.before.before.before.before.before.before.before.before.before.before.before.before.before.before.before.before.before.before in
+    let m = start.pre.1.1 in
+    let z = m.newton in record {
+      sized = start.pre.0;
+      fit = (omega (arith, start.pre.1.0.0), m.scal, m.y, m.cont);
+      z1_len = (
+        z.z1,
+        z.z2,
+        z.z3,
+        z.f1,
+        z.f2,
+      );
+    }
+
+pub scaled-requires : goal.scaled-requires
+scaled-requires c = let start = c.before.before.before.before.before.before.before.before.before.before.before.before.before.before.before.before.before.before.before.before.before.before.before.before.before.before.before.before.before.before in
+    let m = start.pre.1.1 in (m.rtol, m.atol, m.y, m.scal)
+
+pub ask_report-requires : goal.ask_report-requires
+ask_report-requires c = let start = c.before.before.before.before.before.before.before.before.before.before.before.before.before.before.before.before.before.before.before.before.before.before.before.before.before.before.before.before.before.before.before.before.before.before.before in
+    start.pre.0
+
+pub reported-heard-requires-in-10 : goal.reported-heard-requires-in-10
+reported-heard-requires-in-10 c = record {
+  sized = c.before.before.before.before.before.before.before.before.before.before.before.before.before.before.before.before.before.before.before.before.before.before.before.before.before.before.pre.0;
+  doubles_bound = omega (arith, c.before.before.before.before.before.before.before.before.before.before.before.before.before.before.before.before.before.before.before.before.before.before.before.before.before.before.pre.1.0.0);
+}
+
+pub returned-requires : goal.returned-requires
+returned-requires c = c.reported-heard-in-10.ensures.sized_2
+
+pub arrived-requires : goal.arrived-requires
+arrived-requires c = c.before.before.before.before.before.before.before.before.before.before.before.before.before.before.before.before.before.before.before.before.before.before.before.before.before.before.pre.0
+
+pub ended-requires : goal.ended-requires
+ended-requires c = c.before.before.before.before.before.before.before.before.before.before.before.before.before.before.before.before.before.before.before.before.before.before.before.before.before.before.before.before.pre.0
+
+pub ask_first_report-requires : goal.ask_first_report-requires
+ask_first_report-requires c = c.before.before.before.before.before.before.before.before.before.before.before.before.before.before.before.before.before.before.before.before.before.before.before.before.before.before.pre.0
+
+pub shape_of-scal-in-1 : goal.shape_of-scal-in-1
+shape_of-scal-in-1 c = c.started.auto.1.1.1.1.1.1.0
+
+pub shape_of-scal-in-2 : goal.shape_of-scal-in-2
+shape_of-scal-in-2 c = c.started-in-2.auto.1.1.1.1.1.1.0
+
+pub shape_of-jac : goal.shape_of-jac
+shape_of-jac c = c.column.auto.1.1.1.1.1.1.1.0
+
+pub shape_of-y_perturbed : goal.shape_of-y_perturbed
+shape_of-y_perturbed c = c.column.auto.1.1.1.1.0
+
+pub shape_of-cont-in-5 : goal.shape_of-cont-in-5
+shape_of-cont-in-5 c = c.ask_stage.auto.1.1.1.1.1.1.1.0
+
+pub shape_of-cont-in-6 : goal.shape_of-cont-in-6
+shape_of-cont-in-6 c = c.ask_stage-in-6.auto.1.1.1.1.1.1.1.0
+
+pub shape_of-y-in-7 : goal.shape_of-y-in-7
+shape_of-y-in-7 c = c.conclude.auto.1.1.1.1.1.1.1.1.0
+
+pub shape_of-cont-in-7 : goal.shape_of-cont-in-7
+shape_of-cont-in-7 c = c.conclude.auto.1.1.1.1.1.1.1.1.1.0
+
+pub shape_of-z1-in-7 : goal.shape_of-z1-in-7
+shape_of-z1-in-7 c = c.round-verdict.kept.1.1.1.1.1.1.1.1.1.0
+
+pub shape_of-z2-in-7 : goal.shape_of-z2-in-7
+shape_of-z2-in-7 c = c.round-verdict.kept.1.1.1.1.1.1.1.1.1.1.0
+
+pub shape_of-z3-in-7 : goal.shape_of-z3-in-7
+shape_of-z3-in-7 c = c.round-verdict.kept.1.1.1.1.1.1.1.1.1.1.1.0
+
+pub shape_of-f1-in-7 : goal.shape_of-f1-in-7
+shape_of-f1-in-7 c = c.conclude.auto.1.1.1.1.1.1.1.1.1.1.1.1.1.0 ∙ c.round-verdict.kept.1.1.1.1.1.1.1.1.1.1.1.1.0
+
+pub shape_of-f2-in-7 : goal.shape_of-f2-in-7
+shape_of-f2-in-7 c = c.conclude.auto.1.1.1.1.1.1.1.1.1.1.1.1.1.1.0 ∙ c.round-verdict.kept.1.1.1.1.1.1.1.1.1.1.1.1.1.0
+
+pub shape_of-f3 : goal.shape_of-f3
+shape_of-f3 c = c.round-verdict.kept.1.1.1.1.1.1.1.1.1.1.1.1.1.1.0
+
+pub shape_of-y-in-8 : goal.shape_of-y-in-8
+shape_of-y-in-8 c = c.refined.auto.1.1.1.1.1.0
+
+pub shape_of-cont-in-8 : goal.shape_of-cont-in-8
+shape_of-cont-in-8 c = c.refined.auto.1.1.1.1.1.1.0
+
+pub shape_of-scal-in-9 : goal.shape_of-scal-in-9
+shape_of-scal-in-9 c = c.scaled.auto.1.1.1.1.1.0
+
+pub returns-in-1 : goal.returns-in-1
+returns-in-1 c =
+    let run-at : Run = run_at c.args.words.now c.args.doubles.now in
+    let newton-at : Newton = let a = c.args in newton a.z1.now a.z2.now a.z3.now a.f1.now a.f2.now a.f3.now in
+    let factors-at : Factors = let a = c.args in factors a.e1.now a.e2r.now a.e2i.now a.ip1.now a.ip2.now in
+    let differences-at : Differences = let a = c.args in differences a.y-perturbed.now a.f-perturbed.now a.f-origin.now in
+    let memory-at : Memory = let a = c.args in
+    memory
+    (amounts a.y.now a.f0.now a.scal.now a.cont.now)
+    newton-at
+    (given a.rtol.now a.atol.now a.mass.now a.jac.now)
+    factors-at
+    differences-at in
+    let part_at : ℕ = c.args.words.now # 1 in
+    let start = c.before.before.before.before.before.before.before.before.before.before.before.before.before.before.before.before.before.before.before.before.before.before.before.before.before.before.before.before.before.before.before.before.before.before in
+    let a = start.args in record {
+      sized_2 = c.reported-heard.ensures.sized_2;
+      f_origin_after = first-report run-at start.args.reply memory-at (heard_at c.reported-heard.result
+          (run_at c.reported-heard.new.0 c.reported-heard.new.1.0)) _
+          (place.at-first-report part_at c.in-1.is) c.reported-heard.ensures.doubles_after
+          (c.started.ensures a.f0.now a.cont.now a.mass.now a.jac.now
+          newton-at factors-at differences-at);
+    }
+
+pub returns-in-2 : goal.returns-in-2
+returns-in-2 c =
+    let run-at : Run = run_at c.args.words.now c.args.doubles.now in
+    let newton-at : Newton = let a = c.args in newton a.z1.now a.z2.now a.z3.now a.f1.now a.f2.now a.f3.now in
+    let factors-at : Factors = let a = c.args in factors a.e1.now a.e2r.now a.e2i.now a.ip1.now a.ip2.now in
+    let differences-at : Differences = let a = c.args in differences a.y-perturbed.now a.f-perturbed.now a.f-origin.now in
+    let memory-at : Memory = let a = c.args in
+    memory
+    (amounts a.y.now a.f0.now a.scal.now a.cont.now)
+    newton-at
+    (given a.rtol.now a.atol.now a.mass.now a.jac.now)
+    factors-at
+    differences-at in
+    let part_at : ℕ = c.args.words.now # 1 in
+    let start = c.before.before.before.before.before.before.before.before.before.before.before.before.before.before.before.before.before.before.before.before.before.before.before.before.before.before.before.before.before.before.before in
+    let a = start.args in record {
+      sized_2 = start.pre.0;
+      f_origin_after = first-again run-at start.args.reply memory-at (place.at-first-derivative-again (part_at
+          start) c.in-2.is)
+          (c.started-in-2.ensures a.f0.now a.cont.now a.mass.now a.jac.now
+          newton-at factors-at differences-at);
+    }
+
+pub returns-in-3 : goal.returns-in-3
+returns-in-3 c =
+    let run-at : Run = run_at c.args.words.now c.args.doubles.now in
+    let newton-at : Newton = let a = c.args in newton a.z1.now a.z2.now a.z3.now a.f1.now a.f2.now a.f3.now in
+    let factors-at : Factors = let a = c.args in factors a.e1.now a.e2r.now a.e2i.now a.ip1.now a.ip2.now in
+    let differences-at : Differences = let a = c.args in differences a.y-perturbed.now a.f-perturbed.now a.f-origin.now in
+    let memory-at : Memory = let a = c.args in
+    memory
+    (amounts a.y.now a.f0.now a.scal.now a.cont.now)
+    newton-at
+    (given a.rtol.now a.atol.now a.mass.now a.jac.now)
+    factors-at
+    differences-at in
+    let part_at : ℕ = c.args.words.now # 1 in
+    let start = c.before.before.before.before.before.before.before.before.before.before.before.before.before.before.before.before.before.before.before.before.before.before.before.before in record {
+      sized_2 = start.pre.0;
+      f_origin_after = jacobian-made run-at start.args.reply memory-at (place.at-jacobian (part_at
+          start) c.in-3.is);
+    }
+
+pub returns-in-4 : goal.returns-in-4
+returns-in-4 c =
+    let run-at : Run = run_at c.args.words.now c.args.doubles.now in
+    let newton-at : Newton = let a = c.args in newton a.z1.now a.z2.now a.z3.now a.f1.now a.f2.now a.f3.now in
+    let factors-at : Factors = let a = c.args in factors a.e1.now a.e2r.now a.e2i.now a.ip1.now a.ip2.now in
+    let differences-at : Differences = let a = c.args in differences a.y-perturbed.now a.f-perturbed.now a.f-origin.now in
+    let memory-at : Memory = let a = c.args in
+    memory
+    (amounts a.y.now a.f0.now a.scal.now a.cont.now)
+    newton-at
+    (given a.rtol.now a.atol.now a.mass.now a.jac.now)
+    factors-at
+    differences-at in
+    let part_at : ℕ = c.args.words.now # 1 in
+    let start = c.before.before.before.before.before.before.before.before.before.before.before.before.before.before.before.before.before.before.before.before.before.before.before.before.before.before.before.before.before.before.before.before.before.before.before in record {
+      sized_2 = c.column.ensures.sized_2;
+      f_origin_after = column-made run-at start.args.reply memory-at (step_at c.column.result (run_at
+          c.column.new.0 c.column.new.1.0))
+          c.column.new.1.1.1.1.0 c.column.new.1.1.1.1.1.1.1.0 (place.at-column
+          part_at c.in-4.is) c.column.ensures.jac_after;
+    }
+
+pub returns-in-5 : goal.returns-in-5
+returns-in-5 c =
+    let run-at : Run = run_at c.args.words.now c.args.doubles.now in
+    let newton-at : Newton = let a = c.args in newton a.z1.now a.z2.now a.z3.now a.f1.now a.f2.now a.f3.now in
+    let factors-at : Factors = let a = c.args in factors a.e1.now a.e2r.now a.e2i.now a.ip1.now a.ip2.now in
+    let differences-at : Differences = let a = c.args in differences a.y-perturbed.now a.f-perturbed.now a.f-origin.now in
+    let memory-at : Memory = let a = c.args in
+    memory
+    (amounts a.y.now a.f0.now a.scal.now a.cont.now)
+    newton-at
+    (given a.rtol.now a.atol.now a.mass.now a.jac.now)
+    factors-at
+    differences-at in
+    let part_at : ℕ = c.args.words.now # 1 in
+    let start = c.before.before.before.before.before.before.before.before.before.before.before.before.before.before.before.before.before.before.before.before.before.before.before.before.before.before.before.before.before.before.before.before.before.before in record {
+      sized_2 = c.ask_stage.ensures.sized_2;
+      f_origin_after = newton-1 run-at start.args.reply memory-at (call_at c.ask_stage.result
+          (run_at c.ask_stage.new.0 c.ask_stage.new.1.0))
+          c.ask_stage.new.1.1.1.1.1.1.1.0 (place.at-newton-1 part_at c.in-5.is) c.ask_stage.ensures.cont_after;
+    }
+
+pub returns-in-6 : goal.returns-in-6
+returns-in-6 c =
+    let run-at : Run = run_at c.args.words.now c.args.doubles.now in
+    let newton-at : Newton = let a = c.args in newton a.z1.now a.z2.now a.z3.now a.f1.now a.f2.now a.f3.now in
+    let factors-at : Factors = let a = c.args in factors a.e1.now a.e2r.now a.e2i.now a.ip1.now a.ip2.now in
+    let differences-at : Differences = let a = c.args in differences a.y-perturbed.now a.f-perturbed.now a.f-origin.now in
+    let memory-at : Memory = let a = c.args in
+    memory
+    (amounts a.y.now a.f0.now a.scal.now a.cont.now)
+    newton-at
+    (given a.rtol.now a.atol.now a.mass.now a.jac.now)
+    factors-at
+    differences-at in
+    let part_at : ℕ = c.args.words.now # 1 in
+    let start = c.before.before.before.before.before.before.before.before.before.before.before.before.before.before.before.before.before.before.before.before.before.before.before.before.before.before.before.before.before.before.before.before.before in record {
+      sized_2 = c.ask_stage-in-6.ensures.sized_2;
+      f_origin_after = newton-2 run-at start.args.reply memory-at (call_at c.ask_stage-in-6.result
+          (run_at c.ask_stage-in-6.new.0 c.ask_stage-in-6.new.1.0))
+          c.ask_stage-in-6.new.1.1.1.1.1.1.1.0 (place.at-newton-2 part_at c.in-6.is) c.ask_stage-in-6.ensures.cont_after;
+    }
+
+pub returns-in-7 : goal.returns-in-7
+returns-in-7 c =
+    let run-at : Run = run_at c.args.words.now c.args.doubles.now in
+    let newton-at : Newton = let a = c.args in newton a.z1.now a.z2.now a.z3.now a.f1.now a.f2.now a.f3.now in
+    let factors-at : Factors = let a = c.args in factors a.e1.now a.e2r.now a.e2i.now a.ip1.now a.ip2.now in
+    let differences-at : Differences = let a = c.args in differences a.y-perturbed.now a.f-perturbed.now a.f-origin.now in
+    let memory-at : Memory = let a = c.args in
+    memory
+    (amounts a.y.now a.f0.now a.scal.now a.cont.now)
+    newton-at
+    (given a.rtol.now a.atol.now a.mass.now a.jac.now)
+    factors-at
+    differences-at in
+    let part_at : ℕ = c.args.words.now # 1 in
+    let start = c.before.before.before.before.before.before.before.before.before.before.before.before.before.before.before.before.before.before.before.before.before.before.before.before.before.before.before.before.before.before.before.before.before.before.before.before.before.before.before.before.before.before.before.before.before.before.before.before.before.before.before.before.before.before.before.before.before.before.before.before.before.before.before.before.before in
+    let a = start.args in
+    let l = c.round-verdict.last in record {
+      sized_2 = c.conclude.ensures.sized_2;
+      f_origin_after = newton-3 run-at start.args.reply memory-at (round_at c.round-verdict.result (run_at l.0
+          l.1.0))
+          (newton l.1.1.1.1.1.1.1.1.1.0 l.1.1.1.1.1.1.1.1.1.1.0 l.1.1.1.1.1.1.1.1.1.1.1.0 l.1.1.1.1.1.1.1.1.1.1.1.1.0 l.1.1.1.1.1.1.1.1.1.1.1.1.1.0 l.1.1.1.1.1.1.1.1.1.1.1.1.1.1.0)
+          _ (place.at-newton-3 part_at c.in-7.is) c.round-verdict.ensures.f3_after
+          (c.conclude.ensures.d_after l.1.1.1.1.1.1.1.1.1.1.1.1.1.1.0 a.rtol.now a.atol.now a.jac.now a.e2r.now a.e2i.now
+          a.ip2.now differences-at);
+    }
+
+pub returns-in-8 : goal.returns-in-8
+returns-in-8 c =
+    let run-at : Run = run_at c.args.words.now c.args.doubles.now in
+    let newton-at : Newton = let a = c.args in newton a.z1.now a.z2.now a.z3.now a.f1.now a.f2.now a.f3.now in
+    let factors-at : Factors = let a = c.args in factors a.e1.now a.e2r.now a.e2i.now a.ip1.now a.ip2.now in
+    let differences-at : Differences = let a = c.args in differences a.y-perturbed.now a.f-perturbed.now a.f-origin.now in
+    let memory-at : Memory = let a = c.args in
+    memory
+    (amounts a.y.now a.f0.now a.scal.now a.cont.now)
+    newton-at
+    (given a.rtol.now a.atol.now a.mass.now a.jac.now)
+    factors-at
+    differences-at in
+    let part_at : ℕ = c.args.words.now # 1 in
+    let at-match = c.before.before.before.before.before.before.before.before.before.before.before.before.before.before.before
+    in
+    let start = at-match.before.before.before.before.before.before.before.before.before.before.before.before.before.before.before.before.before.before.before.before.before.before.before.before in record {
+      sized_2 = c.refined.ensures.sized_2;
+      f_origin_after = refinement run-at start.args.reply memory-at (step_at c.refined.result (run_at
+          c.refined.new.0 c.refined.new.1.0))
+          c.refined.new.1.1.1.1.1.0 c.refined.new.1.1.1.1.1.1.0
+          (place.at-refinement part_at at-match.match.keys8) (c.refined.ensures.cont_after start.args.f3.now);
+    }
+
+pub returns-in-9 : goal.returns-in-9
+returns-in-9 c =
+    let run-at : Run = run_at c.args.words.now c.args.doubles.now in
+    let newton-at : Newton = let a = c.args in newton a.z1.now a.z2.now a.z3.now a.f1.now a.f2.now a.f3.now in
+    let factors-at : Factors = let a = c.args in factors a.e1.now a.e2r.now a.e2i.now a.ip1.now a.ip2.now in
+    let differences-at : Differences = let a = c.args in differences a.y-perturbed.now a.f-perturbed.now a.f-origin.now in
+    let memory-at : Memory = let a = c.args in
+    memory
+    (amounts a.y.now a.f0.now a.scal.now a.cont.now)
+    newton-at
+    (given a.rtol.now a.atol.now a.mass.now a.jac.now)
+    factors-at
+    differences-at in
+    let part_at : ℕ = c.args.words.now # 1 in
+    let start = c.before.before.before.before.before.before.before.before.before.before.before.before.before.before.before.before.before.before.before.before.before.before.before.before.before.before.before.before.before.before.before.before.before.before.before.before in record {
+      sized_2 = c.ask_report.ensures.sized;
+      f_origin_after = accepted-there run-at start.args.reply memory-at (call_at c.ask_report.result (run_at c.ask_report.new.0 c.ask_report.new.1.0))
+          c.scaled.new.1.1.1.1.1.0 (place.at-accepted part_at c.in-9.is) c.ask_report.ensures.doubles_after
+          (rw c.tolerances_at-tolerances.ensures at c.scaled.ensures);
+    }
+
+pub returns-in-10 : goal.returns-in-10
+returns-in-10 c =
+    let run-at : Run = run_at c.args.words.now c.args.doubles.now in
+    let newton-at : Newton = let a = c.args in newton a.z1.now a.z2.now a.z3.now a.f1.now a.f2.now a.f3.now in
+    let factors-at : Factors = let a = c.args in factors a.e1.now a.e2r.now a.e2i.now a.ip1.now a.ip2.now in
+    let differences-at : Differences = let a = c.args in differences a.y-perturbed.now a.f-perturbed.now a.f-origin.now in
+    let memory-at : Memory = let a = c.args in
+    memory
+    (amounts a.y.now a.f0.now a.scal.now a.cont.now)
+    newton-at
+    (given a.rtol.now a.atol.now a.mass.now a.jac.now)
+    factors-at
+    differences-at in
+    let part_at : ℕ = c.args.words.now # 1 in
+    let start = c.before.before.before.before.before.before.before.before.before.before.before.before.before.before.before.before.before.before.before.before.before.before.before.before.before.before.before.before.before.before in record {
+      sized_2 = c.returned.ensures.sized;
+      f_origin_after = report-answered run-at start.args.reply memory-at (heard_at c.reported-heard-in-10.result (run_at c.reported-heard-in-10.new.0 c.reported-heard-in-10.new.1.0))
+          (step_at c.returned.result (run_at c.returned.new.0 c.returned.new.1.0)) (place.at-report
+          part_at c.in-10.is) c.reported-heard-in-10.ensures.doubles_after c.returned.ensures.doubles_after;
+    }
+
+pub returns-in-11 : goal.returns-in-11
+returns-in-11 c =
+    let run-at : Run = run_at c.args.words.now c.args.doubles.now in
+    let newton-at : Newton = let a = c.args in newton a.z1.now a.z2.now a.z3.now a.f1.now a.f2.now a.f3.now in
+    let factors-at : Factors = let a = c.args in factors a.e1.now a.e2r.now a.e2i.now a.ip1.now a.ip2.now in
+    let differences-at : Differences = let a = c.args in differences a.y-perturbed.now a.f-perturbed.now a.f-origin.now in
+    let memory-at : Memory = let a = c.args in
+    memory
+    (amounts a.y.now a.f0.now a.scal.now a.cont.now)
+    newton-at
+    (given a.rtol.now a.atol.now a.mass.now a.jac.now)
+    factors-at
+    differences-at in
+    let part_at : ℕ = c.args.words.now # 1 in
+    let start = c.before.before.before.before.before.before.before.before.before.before.before.before.before.before.before.before.before.before.before.before.before.before.before.before.before.before.before in record {
+      sized_2 = c.arrived.ensures.sized;
+      f_origin_after = derivative-again run-at start.args.reply memory-at (step_at c.arrived.result (run_at c.arrived.new.0 c.arrived.new.1.0))
+          (place.at-derivative-again part_at c.in-11.is) c.arrived.ensures.doubles_after;
+    }
+
+pub returns-in-12 : goal.returns-in-12
+returns-in-12 c =
+    let run-at : Run = run_at c.args.words.now c.args.doubles.now in
+    let newton-at : Newton = let a = c.args in newton a.z1.now a.z2.now a.z3.now a.f1.now a.f2.now a.f3.now in
+    let factors-at : Factors = let a = c.args in factors a.e1.now a.e2r.now a.e2i.now a.ip1.now a.ip2.now in
+    let differences-at : Differences = let a = c.args in differences a.y-perturbed.now a.f-perturbed.now a.f-origin.now in
+    let memory-at : Memory = let a = c.args in
+    memory
+    (amounts a.y.now a.f0.now a.scal.now a.cont.now)
+    newton-at
+    (given a.rtol.now a.atol.now a.mass.now a.jac.now)
+    factors-at
+    differences-at in
+    let part_at : ℕ = c.args.words.now # 1 in
+    let start = c.before.before.before.before.before.before.before.before.before.before.before.before.before.before.before.before.before.before.before.before.before.before.before.before.before.before.before.before.before in record {
+      sized_2 = c.ended.ensures.sized;
+      f_origin_after = ended-already run-at start.args.reply memory-at (call_at c.ended.result (run_at c.ended.new.0 c.ended.new.1.0))
+          (place.at_ended part_at c.in-12.is) (rw c.status_at-status.ensures at c.ended.ensures.doubles_after);
+    }
+
+pub returns-in_default : goal.returns-in_default
+returns-in_default c =
+    let run-at : Run = run_at c.args.words.now c.args.doubles.now in
+    let newton-at : Newton = let a = c.args in newton a.z1.now a.z2.now a.z3.now a.f1.now a.f2.now a.f3.now in
+    let factors-at : Factors = let a = c.args in factors a.e1.now a.e2r.now a.e2i.now a.ip1.now a.ip2.now in
+    let differences-at : Differences = let a = c.args in differences a.y-perturbed.now a.f-perturbed.now a.f-origin.now in
+    let memory-at : Memory = let a = c.args in
+    memory
+    (amounts a.y.now a.f0.now a.scal.now a.cont.now)
+    newton-at
+    (given a.rtol.now a.atol.now a.mass.now a.jac.now)
+    factors-at
+    differences-at in
+    let part_at : ℕ = c.args.words.now # 1 in
+    let start = c.before.before.before.before.before.before.before.before.before.before.before.before.before.before.before.before.before.before.before.before.before.before.before.before.before.before.before in record {
+      sized_2 = c.ask_first_report.ensures.sized;
+      f_origin_after = first-derivative run-at start.args.reply memory-at (call_at c.ask_first_report.result
+          (run_at c.ask_first_report.new.0 c.ask_first_report.new.1.0))
+          (place.at-first-derivative part_at c.in_default.rest.0.0.0.0.0.0.0.0.0.0.0.1
+          c.in_default.rest.0.0.0.0.0.0.0.0.0.0.1 c.in_default.rest.0.0.0.0.0.0.0.0.0.1 c.in_default.rest.0.0.0.0.0.0.0.0.1 c.in_default.rest.0.0.0.0.0.0.0.1
+          c.in_default.rest.0.0.0.0.0.0.1 c.in_default.rest.0.0.0.0.0.1 c.in_default.rest.0.0.0.0.1 c.in_default.rest.0.0.0.1 c.in_default.rest.0.0.1 c.in_default.rest.0.1 c.in_default.rest.1)
+          c.ask_first_report.ensures.doubles_after;
+    }

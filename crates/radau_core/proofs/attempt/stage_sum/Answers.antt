@@ -1,0 +1,18 @@
+-- `stage_sum` meets its contract: its loop is the definition's.
+use Prim.Native.Nat.{◌-◌}
+use mathlib.Core.Path.{refl}
+use native.Mathlib.Omega.{arith}
+use lib.ListN.{length-set}
+use Rattle.words.proofs.Loops.{Ran, Long, begun, turned, ended}
+use Rattle.solve_blocks.specs.Attempt.{stage_sum_at}
+use Rattle.radau_core.proofs.attempt.stage_sum.Goals as goal
+
+pub loop-i-init : goal.loop-i-init
+loop-i-init c = begun (omega arith) refl refl
+
+pub loop-i-preserved : goal.loop-i-preserved
+unfolding stage_sum_at
+loop-i-preserved c = turned c.loop-i.invariant (omega arith) (simp length-set (omega arith)) refl
+
+pub returns : goal.returns
+returns c = ended c.loop-i.invariant c.loop-i-test.false

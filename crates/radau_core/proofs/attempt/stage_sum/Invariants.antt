@@ -1,0 +1,11 @@
+-- What each loop of `stage_sum` keeps.
+use Prim.Native.Nat.{◌-◌}
+use mathlib.Core.Path.{refl}
+use native.Mathlib.Omega.{arith}
+use lib.ListN.{length-set}
+use Rattle.words.proofs.Loops.{Ran, Long, begun, turned, ended}
+use Rattle.solve_blocks.specs.Attempt.{stage_sum_at}
+use Rattle.radau_core.proofs.attempt.stage_sum.Given as goal
+
+abbrev pub invariant-loop-i : goal.invariant-loop-i
+invariant-loop-i l = Ran (stage_sum_at l.y l.z) (Long l.initial.cont) 0 l.n l.i l.initial.cont l.cont

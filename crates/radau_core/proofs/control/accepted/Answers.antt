@@ -1,0 +1,33 @@
+-- `accepted` meets its contract: the way is that of solve_blocks/proofs/JudgeLaws.antt.
+use mathlib.Core.Path.{refl, ap}
+use lib.ListN.{length-set}
+use borrow.Author.Rules.{rules}
+use native.Mathlib.Omega.{arith}
+use Rattle.state.specs.declared.run.Counts.{Counts}
+use Rattle.solve_blocks.proofs.JudgeLaws.{accepted-by, remembered-counts}
+use Rattle.radau_core.specs.Places.{run_at}
+use Rattle.radau_core.proofs.PlaceLaws.{doubles-at, resized}
+use Rattle.radau_core.proofs.control.accepted.Goals as goal
+
+pub remembered-requires : goal.remembered-requires
+remembered-requires c = let start = c.before.before.before.before.before.before in
+    resized start.requires.0 refl (simp length-set)
+
+pub accepted_point-requires : goal.accepted_point-requires
+accepted_point-requires c = let start = c.before.before.before.before.before.before.before.before.before in record {
+  sized = c.remembered.ensures.sized;
+  doubles_bound = omega (
+    arith,
+    ap (λ (k : Counts). k.accepted) (remembered-counts _ _ _ c.remembered.ensures.doubles_after),
+    start.requires.1,
+  );
+}
+
+pub returns : goal.returns
+returns c = let start = c.before.before.before.before.before.before.before.before.before.before in record {
+  sized_2 = c.accepted_point.ensures.sized_2;
+  doubles_after = accepted-by (run_at start.args.words.now start.args.doubles.now) start.args.err start.args.quot
+      _ _ _ c.predictive_quot.ensures
+      (rw (doubles-at start.requires.0) at c.remembered.ensures.doubles_after)
+      c.accepted_point.ensures.doubles_after;
+}

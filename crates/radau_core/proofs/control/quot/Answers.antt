@@ -1,0 +1,8 @@
+-- `quot` meets its contract.
+use borrow.Author.Rules.{rules}
+use Rattle.solve_blocks.specs.Judge.{quot_of}
+use Rattle.radau_core.proofs.control.quot.Goals as goal
+
+pub returns : goal.returns
+unfolding quot_of
+returns c = rw (c.between.ensures, c.fac.ensures, c.quarter.ensures)

@@ -1,0 +1,18 @@
+-- `entry` meets its contract.
+use mathlib.Core.Path.{refl}
+use native.Mathlib.Omega.{arith}
+use Rattle.words.proofs.Grid.{cell}
+use Rattle.words.specs.Grid.{at}
+use Rattle.radau_core.proofs.entries.entry.Goals as goal
+
+pub overflow_mul-result : goal.overflow_mul-result
+overflow_mul-result c = let x = c.args in omega (arith, cell x.n x.r x.c (omega arith) (omega arith) (omega arith))
+
+pub overflow_add-result : goal.overflow_add-result
+overflow_add-result c = let x = c.args in omega (arith, cell x.n x.r x.c (omega arith) (omega arith) (omega arith))
+
+pub offset_bounds-a-r : goal.offset_bounds-a-r
+offset_bounds-a-r c = let x = c.args in omega (arith, cell x.n x.r x.c (omega arith) (omega arith) (omega arith))
+
+pub bounds-a-r : goal.bounds-a-r
+bounds-a-r c = let x = c.args in omega (arith, cell x.n x.r x.c (omega arith) (omega arith) (omega arith))

@@ -1,0 +1,8 @@
+-- `defect` meets its contract.
+use borrow.Author.Rules.{rules}
+use Rattle.solve_blocks.specs.Estimate.{defect_of}
+use Rattle.radau_core.proofs.estimate.defect.Goals as goal
+
+pub returns : goal.returns
+unfolding defect_of
+returns c = c.defect_by.ensures

@@ -1,0 +1,17 @@
+-- `error_sum` meets its contract: its loop is the definition's.
+use Prim.Native.Nat.{◌-◌}
+use mathlib.Core.Path.{refl}
+use native.Mathlib.Omega.{arith}
+use Rattle.words.proofs.Loops.{Ran, begun, turned, ended, Any}
+use Rattle.solve_blocks.specs.Estimate.{error_at}
+use Rattle.radau_core.proofs.estimate.error_sum.Goals as goal
+
+pub loop-i-init : goal.loop-i-init
+loop-i-init c = begun (omega arith) tt refl
+
+pub loop-i-preserved : goal.loop-i-preserved
+unfolding error_at
+loop-i-preserved c = turned c.loop-i.invariant (omega arith) tt refl
+
+pub returns : goal.returns
+returns c = ended c.loop-i.invariant c.loop-i-test.false

@@ -1,0 +1,18 @@
+-- `plus` meets its contract: its loop is the definition's.
+use Prim.Native.Nat.{◌-◌}
+use mathlib.Core.Path.{refl}
+use native.Mathlib.Omega.{arith}
+use lib.ListN.{length-set}
+use Rattle.words.proofs.Loops.{Ran, begun, turned, ended, Long}
+use Rattle.solve_blocks.specs.Estimate.{plus_at}
+use Rattle.radau_core.proofs.estimate.plus.Goals as goal
+
+pub loop-i-init : goal.loop-i-init
+loop-i-init c = begun (omega arith) refl refl
+
+pub loop-i-preserved : goal.loop-i-preserved
+unfolding plus_at
+loop-i-preserved c = turned c.loop-i.invariant (omega arith) (simp length-set (omega arith)) refl
+
+pub returns : goal.returns
+returns c = ended c.loop-i.invariant c.loop-i-test.false

@@ -1,0 +1,12 @@
+-- What each loop of `copy` keeps.
+use Prim.Native.Nat.{◌-◌}
+use native.Mathlib.Omega.{arith}
+use lib.ListN.{length}
+use Rattle.solve_blocks.proofs.JacobianLaws.{Copied, copying, copied_next, copied}
+use Rattle.radau_core.proofs.jacobian.copy.Given as goal
+
+abbrev pub invariant-loop-i : goal.invariant-loop-i
+invariant-loop-i l = Copied l.from l.i l.to
+
+abbrev pub decreases-loop-i : goal.decreases-loop-i
+decreases-loop-i l = length l.from - l.i

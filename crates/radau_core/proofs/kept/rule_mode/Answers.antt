@@ -1,0 +1,14 @@
+-- `rule_mode` meets its contract.
+use mathlib.Core.Path.{refl}
+use borrow.Author.Tests.{eq-eqb, ne_eqb}
+use Rattle.words.proofs.Branch.{yes, no}
+use Rattle.radau_core.specs.Choices.{rule_of}
+use Rattle.radau_core.proofs.kept.rule_mode.Goals as goal
+
+pub returns-then-word-eq0 : goal.returns-then-word-eq0
+unfolding rule_of
+returns-then-word-eq0 c = yes _ _ _ (eq-eqb _ _ c.if-word-eq0.true) refl
+
+pub returns : goal.returns
+unfolding rule_of
+returns c = no _ _ _ (ne_eqb _ _ c.if-word-eq0.false) refl

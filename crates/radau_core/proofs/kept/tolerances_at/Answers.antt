@@ -1,0 +1,15 @@
+-- `tolerances_at` meets its contract.
+use mathlib.Core.Path.{refl}
+use borrow.Author.Tests.{eq-eqb, ne_eqb}
+use borrow.Author.Rules.{rules}
+use Rattle.words.proofs.Branch.{yes, no}
+use Rattle.radau_core.specs.Choices.{tolerances_of}
+use Rattle.radau_core.proofs.kept.tolerances_at.Goals as goal
+
+pub returns-then-words-eq0 : goal.returns-then-words-eq0
+unfolding tolerances_of
+returns-then-words-eq0 c = yes _ _ _ (eq-eqb _ _ c.if-words-eq0.true) refl
+
+pub returns : goal.returns
+unfolding tolerances_of
+returns c = no _ _ _ (ne_eqb _ _ c.if-words-eq0.false) refl

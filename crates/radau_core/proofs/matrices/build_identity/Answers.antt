@@ -1,0 +1,11 @@
+-- `build_identity` meets its contract.
+use native.Mathlib.Omega.{arith}
+use borrow.Author.Rules.{rules}
+use Rattle.solve_blocks.specs.Reordered.{identity_built}
+use Rattle.radau_core.proofs.matrices.build_identity.Goals as goal
+
+pub returns : goal.returns
+unfolding identity_built
+returns c = let at-make-plain =
+    c.before.before.before.before.before.before.before.before.before.before.before.before.before.before.before.before in
+    rw (c.make_diagonal.ensures, at-make-plain.make-plain.ensures)

@@ -1,0 +1,26 @@
+-- `identity_add` meets its contract: its loop is the definition's.
+use Prim.Native.Nat.{◌-◌}
+use mathlib.Core.Path.{refl}
+use native.Mathlib.Omega.{arith}
+use borrow.Author.Rules.{rules}
+use Rattle.words.proofs.Loops.{Ran, begun, turned, ended}
+use Rattle.solve_blocks.specs.Entries.{three}
+use Rattle.solve_blocks.specs.Reordered.{identity_add_at}
+use Rattle.solve_blocks.proofs.ThreeLaws.{ThreeLong}
+use Rattle.radau_core.proofs.newton.identity_add.Goals as goal
+
+pub loop-i-init : goal.loop-i-init
+loop-i-init c = begun (omega arith) (record {
+  one = c.requires.1.z1;
+  two = c.requires.1.z2;
+  three = c.requires.1.z3;
+})
+    refl
+
+pub loop-i-preserved : goal.loop-i-preserved
+unfolding identity_add_at
+loop-i-preserved c = turned c.loop-i.invariant
+    (omega arith) (omega arith) c.add_sums.ensures
+
+pub returns : goal.returns
+returns c = ended c.loop-i.invariant c.loop-i-test.false

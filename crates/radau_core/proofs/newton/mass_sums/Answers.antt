@@ -1,0 +1,21 @@
+-- `mass_sums` meets its contract: its loop is the definition's.
+use Prim.Native.Nat.{◌-◌}
+use mathlib.Core.Path.{refl}
+use native.Mathlib.Omega.{arith}
+use borrow.Author.Rules.{rules}
+use Rattle.words.proofs.Loops.{Ran, Any, begun, turned, ended}
+use Rattle.solve_blocks.specs.Entries.{three}
+use Rattle.solve_blocks.specs.Newton.{sums, mass_sum_at, mass_sums}
+use Rattle.radau_core.proofs.newton.mass_sums.Goals as goal
+
+pub loop-j-init : goal.loop-j-init
+loop-j-init c = begun (omega arith) tt refl
+
+pub loop-j-preserved : goal.loop-j-preserved
+unfolding mass_sum_at
+loop-j-preserved c = turned c.loop-j.invariant (omega arith) tt
+    (rw c.mass_at-mij.ensures)
+
+pub returns : goal.returns
+unfolding mass_sums
+returns c = ended c.loop-j.invariant c.loop-j-test.false

@@ -1,0 +1,12 @@
+-- What each loop of `norm_sum` keeps.
+use Prim.Native.Nat.{◌-◌}
+use mathlib.Core.Path.{refl}
+use native.Mathlib.Omega.{arith}
+use borrow.Author.Rules.{rules}
+use Rattle.words.proofs.Loops.{Ran, Any, begun, turned, ended}
+use Rattle.solve_blocks.specs.Entries.{three}
+use Rattle.solve_blocks.specs.Newton.{norm_at}
+use Rattle.radau_core.proofs.newton.norm_sum.Given as goal
+
+abbrev pub invariant-loop-i : goal.invariant-loop-i
+invariant-loop-i l = Ran (norm_at l.scal (three l.z1 l.z2 l.z3)) Any 0 l.n l.i l.initial.sum l.sum

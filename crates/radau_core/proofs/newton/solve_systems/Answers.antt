@@ -1,0 +1,12 @@
+-- `solve_systems` meets its contract.
+use native.Mathlib.Omega.{arith}
+use borrow.Author.Rules.{rules}
+use Rattle.solve_blocks.specs.Newton.{solved_of}
+use Rattle.radau_core.proofs.newton.solve_systems.Goals as goal
+
+pub returns : goal.returns
+unfolding solved_of
+returns c = rw (
+  ← c.lin_solve.ensures,
+  ← c.lin_solve_complex.ensures,
+)

@@ -1,0 +1,11 @@
+-- `updated` meets its contract.
+use native.Mathlib.Omega.{arith}
+use borrow.Author.Rules.{rules}
+use Rattle.solve_blocks.specs.Newton.{updated_of}
+use Rattle.radau_core.proofs.newton.updated.Goals as goal
+
+pub returns : goal.returns
+unfolding updated_of
+returns c = let at-add =
+    c.before.before.before.before.before.before.before.before.before.before.before.before.before.before.before.before.before.before.before in
+    rw (← at-add.add.ensures, ← c.back.ensures)

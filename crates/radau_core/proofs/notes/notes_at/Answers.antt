@@ -1,0 +1,6 @@
+-- `notes_at` meets its contract.
+use borrow.Author.Rules.{rules}
+use Rattle.radau_core.proofs.notes.notes_at.Goals as goal
+
+pub returns : goal.returns
+returns c = rw (c.strides_at.ensures, c.singular_at.ensures)

@@ -1,0 +1,6 @@
+-- `fixed_at` meets its contract.
+use borrow.Author.Rules.{rules}
+use Rattle.radau_core.proofs.pack.fixed_at.Goals as goal
+
+pub returns : goal.returns
+returns c = rw c.tolerances_at.ensures

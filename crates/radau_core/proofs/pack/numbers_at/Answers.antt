@@ -1,0 +1,6 @@
+-- `numbers_at` meets its contract.
+use borrow.Author.Rules.{rules}
+use Rattle.radau_core.proofs.pack.numbers_at.Goals as goal
+
+pub returns : goal.returns
+returns c = rw c.number_at.ensures

@@ -1,0 +1,15 @@
+-- `whole_at` meets its contract.
+use mathlib.Core.Path.{refl}
+use borrow.Author.Tests.{eq-eqb, ne_eqb}
+use Rattle.words.proofs.Branch.{yes, no}
+use Rattle.radau_core.specs.Choices.{whole_of}
+use borrow.Author.Rules.{rules}
+use Rattle.radau_core.proofs.pack.whole_at.Goals as goal
+
+pub returns-then-given-eq0 : goal.returns-then-given-eq0
+unfolding whole_of
+returns-then-given-eq0 c = yes _ _ _ (eq-eqb _ _ c.if-given-eq0.true) refl
+
+pub returns : goal.returns
+unfolding whole_of
+returns c = no _ _ _ (ne_eqb _ _ c.if-given-eq0.false) refl

@@ -1,0 +1,48 @@
+-- `passes` meets its contract: its loop is the definition's without the events, left early where
+use Prim.Native.Nat.{◌-◌}
+use mathlib.Core.Path.{refl, sym, ◌∙◌}
+use native.Mathlib.Omega.{arith}
+use borrow.Author.Tests.{not-true, not-false}
+use borrow.Author.Rules.{rules}
+use Rattle.words.proofs.Loops.{Ran, begun}
+use Rattle.state.specs.Memory.{factors}
+use Rattle.solve_blocks.specs.Matrices.{Tried, tried}
+use Rattle.solve_blocks.specs.Needs.{FactorsLong}
+use Rattle.solve_blocks.proofs.PassLaws.{passed, passes-turned, passes-stopped, passes-ended}
+use Rattle.solve_blocks.proofs.FitLaws.{next-fit, pass-asks}
+use Rattle.radau_core.specs.Places.{run_at, Sized, step_at}
+use Rattle.radau_core.proofs.PlaceLaws.{run-back}
+use Rattle.radau_core.proofs.passes.passes.Goals as goal
+
+pub loop-init : goal.loop-init
+loop-init c = (c.requires.sized, begun (omega arith) c.requires.square.2 refl)
+
+pub returns-then-not-passes_on : goal.returns-then-not-passes_on
+returns-then-not-passes_on c = record {
+  sized_2 = c.loop.invariant.0;
+  ip2_after = passes-stopped _ _ c.loop.invariant.1 (omega arith)
+      (sym (c.passes_on.ensures c.loop.doubles) ∙ not-true c.passes_on.result c.if-not-passes_on.true-raw);
+}
+
+pub tried-s-requires : goal.tried-s-requires
+tried-s-requires c = let start = c.before.before.before.before.before.before.before.before.before.before.before.before.before.before.before.before.before.before.before in let all = (
+  c.loop.invariant.0,
+  pass-asks (next-fit _ _ _ c.loop.invariant.1 start.requires.1.0 (omega arith)
+      (sym (c.passes_on.ensures c.loop.doubles) ∙ not-false c.passes_on.result c.if-not-passes_on.false-raw) (sym (run-back c.loop.s _)))
+      start.requires.1.1.0 start.requires.1.1.1 c.loop.invariant.1.kept,
+) in
+    record { sized = all.0; fit = all.1.0; square = all.1.1 }
+
+pub loop-preserved : goal.loop-preserved
+loop-preserved c = (
+  c.tried-s.ensures.sized_2,
+  passes-turned _ _ c.loop.invariant.1 (omega arith)
+      (sym (c.passes_on.ensures c.loop.doubles) ∙ not-false c.passes_on.result c.if-not-passes_on.false-raw) (sym (run-back c.loop.s _))
+      (omega (arith, c.loop.invariant.1.kept, c.tried-s.auto)) c.tried-s.ensures.ip2_after,
+)
+
+pub returns : goal.returns
+returns c = record {
+  sized_2 = c.loop.invariant.0;
+  ip2_after = passes-ended _ _ c.loop.invariant.1 c.loop-test.false;
+}

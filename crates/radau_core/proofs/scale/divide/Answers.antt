@@ -1,0 +1,18 @@
+-- `divide` meets its contract: its loop is the definition's.
+use Prim.Native.Nat.{◌-◌}
+use mathlib.Core.Path.{refl}
+use native.Mathlib.Omega.{arith}
+use lib.ListN.{length-set}
+use Rattle.words.proofs.Loops.{Ran, Long, begun, turned, ended}
+use Rattle.solve_blocks.specs.Scale.{divide_at}
+use Rattle.radau_core.proofs.scale.divide.Goals as goal
+
+pub loop-i-init : goal.loop-i-init
+loop-i-init c = begun (omega arith) refl refl
+
+pub loop-i-preserved : goal.loop-i-preserved
+unfolding divide_at
+loop-i-preserved c = turned c.loop-i.invariant (omega arith) (simp length-set (omega arith)) refl
+
+pub returns : goal.returns
+returns c = ended c.loop-i.invariant c.loop-i-test.false

@@ -1,0 +1,11 @@
+-- What each loop of `divide` keeps.
+use Prim.Native.Nat.{◌-◌}
+use mathlib.Core.Path.{refl}
+use native.Mathlib.Omega.{arith}
+use lib.ListN.{length-set}
+use Rattle.words.proofs.Loops.{Ran, Long, begun, turned, ended}
+use Rattle.solve_blocks.specs.Scale.{divide_at}
+use Rattle.radau_core.proofs.scale.divide.Given as goal
+
+abbrev pub invariant-loop-i : goal.invariant-loop-i
+invariant-loop-i l = Ran (divide_at l.by) (Long l.initial.scal) l.from l.to l.i l.initial.scal l.scal

@@ -1,0 +1,9 @@
+-- `ended` meets its contract.
+use borrow.Author.Rules.{rules}
+use Rattle.radau_core.proofs.stage.ended.Goals as goal
+
+pub returns : goal.returns
+returns c = record {
+  sized = c.at_stage.ensures.sized;
+  doubles_after = rw c.at_stage.ensures.doubles_after;
+}

@@ -1,0 +1,19 @@
+-- `differed` meets its contract.
+use Rattle.std.proofs.Common.{rules, le-leb}
+use borrow.Author.Tests.{lt-leb}
+use Rattle.words.proofs.Branch.{yes, no}
+use Rattle.replay.specs.Count.{differed_of}
+use Rattle.replay.proofs.count.Counts.differed.Goals as goal
+
+pub returns-then-row-ge-ROWS : goal.returns-then-row-ge-ROWS
+unfolding differed_of
+returns-then-row-ge-ROWS c = yes _ _ _ (le-leb _ _ c.if-row-ge-ROWS.true) c.unread.ensures
+
+pub returns : goal.returns
+unfolding differed_of
+returns c = no _ _ _ (lt-leb _ _ c.if-row-ge-ROWS.false)
+    (rw (
+      c.wrapping_add_u64-3.ensures,
+      c.wrapping_add_u64-2.ensures,
+      c.wrapping_add_u64.ensures,
+    ))

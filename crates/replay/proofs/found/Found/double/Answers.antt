@@ -1,0 +1,6 @@
+-- `double` meets its contract.
+use Rattle.std.proofs.Common.{rules}
+use Rattle.replay.proofs.found.Found.double.Goals as goal
+
+pub returns : goal.returns
+returns c = rw (c.compared.ensures, c.pattern.ensures)

@@ -1,0 +1,11 @@
+-- `memory::fill` is safe and ends: `i` rises to the length of the part, which a store leaves as it is. Assumes nothing.
+use mathlib.Core.Logic.{⊎_elim}
+use mathlib.Core.Path.{◌≡◌}
+use Prim.Native.Nat.{◌-◌}
+use lib.ListN.{length, length-set}
+use borrow.Author.Rules.{rules}
+use Rattle.replay_matrix.proofs.memory.fill.Goals as goal
+use Rattle.replay_matrix.proofs.memory.fill.Goals.{else-match-next, then-match-next}
+
+pub loop-i-preserved : goal.loop-i-preserved
+loop-i-preserved c = elim c.match-next.branch [ then-match-next w ↦ (simp (w.4, length-set, c.loop-i.invariant.0), search rules) | else-match-next w ↦ search rules ]

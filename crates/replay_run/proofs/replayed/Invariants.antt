@@ -1,0 +1,9 @@
+-- What each loop of `replayed` keeps.
+use Rattle.std.proofs.Common.{◌-◌, rules}
+use Rattle.replay_run.proofs.replayed.Given as goal
+
+abbrev pub invariant-loop : goal.invariant-loop
+invariant-loop l = Unit {0}
+
+abbrev pub decreases-loop : goal.decreases-loop
+decreases-loop l = 1000 - l.counter

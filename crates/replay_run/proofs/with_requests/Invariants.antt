@@ -1,0 +1,9 @@
+-- What each loop of `with_requests` keeps.
+use Rattle.std.proofs.Common.{◌-◌, arith, rules}
+use Rattle.replay_run.proofs.with_requests.Given as goal
+
+abbrev pub invariant-loop : goal.invariant-loop
+invariant-loop l = Unit {0}
+
+abbrev pub decreases-loop : goal.decreases-loop
+decreases-loop l = l.requests - l.counter

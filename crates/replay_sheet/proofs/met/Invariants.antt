@@ -1,0 +1,8 @@
+-- What each loop of `met` keeps.
+use borrow.Author.Rules.{rules}
+use Prim.Native.Nat.{◌-◌, ◌≤◌}
+use lib.ListN.{length}
+use Rattle.replay_sheet.proofs.met.Given as goal
+
+abbrev pub invariant-loop-i : goal.invariant-loop-i
+invariant-loop-i l = (l.i-end ≤ length l.gave) × (l.i-end ≤ length l.wanted)

@@ -1,0 +1,14 @@
+-- `opened` meets its contract: the answer to the opening settles which side is taken.
+use borrow.Author.Rules.{rules}
+use Rattle.reports.proofs.BeginLaws.{opened-refused, opened-asked}
+use Rattle.reports.proofs.beginning.opened.Goals as goal
+
+pub returns-in-Refused : goal.returns-in-Refused
+returns-in-Refused c = let a = c.args in
+    opened-refused a.heading a.amounts.now c.amounts_from.ensures c.task_from-task.ensures
+    c.start.ensures _ c.in-Refused.is
+
+pub returns-in-Asked : goal.returns-in-Asked
+returns-in-Asked c = let a = c.args in
+    opened-asked a.heading a.amounts.now c.amounts_from.ensures c.task_from-task.ensures
+    c.start.ensures _ _ _ c.in-Asked.is

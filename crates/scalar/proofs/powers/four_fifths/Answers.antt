@@ -1,0 +1,9 @@
+-- `four_fifths` meets its contract.
+use mathlib.Core.Path.{ap, ◌∙◌}
+use borrow.Author.Rules.{rules}
+use lib.Ieee.{Float}
+use Rattle.scalar.specs.Products.{power_of}
+use Rattle.scalar.proofs.powers.four_fifths.Goals as goal
+
+pub returns : goal.returns
+returns c = c.power.ensures ∙ ap (λ (x : Float). power_of 4 x) c.root.ensures

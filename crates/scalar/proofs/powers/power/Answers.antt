@@ -1,0 +1,19 @@
+-- `power` meets its contract: its loop is the definition's.
+use Prim.Native.Nat.{◌-◌}
+use mathlib.Core.Path.{refl}
+use native.Mathlib.Omega.{arith}
+use Rattle.words.specs.Constants.{«1·0»}
+use Rattle.words.proofs.Loops.{Ran, Any, begun, turned, ended}
+use Rattle.scalar.specs.Products.{times_at, power_of}
+use Rattle.scalar.proofs.powers.power.Goals as goal
+
+pub loop-init : goal.loop-init
+loop-init c = begun (omega arith) tt refl
+
+pub loop-preserved : goal.loop-preserved
+unfolding times_at
+loop-preserved c = turned c.loop.invariant (omega arith) tt refl
+
+pub returns : goal.returns
+unfolding power_of
+returns c = ended c.loop.invariant c.loop-test.false

@@ -1,0 +1,8 @@
+-- `kept` meets its contract.
+use borrow.Author.Rules.{rules}
+use Rattle.scalar.specs.Root.{keeps}
+use Rattle.scalar.proofs.roots.kept.Goals as goal
+
+pub returns : goal.returns
+unfolding keeps
+returns c = rw (c.product_of.ensures, c.number.ensures)

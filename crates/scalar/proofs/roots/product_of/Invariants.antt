@@ -1,0 +1,13 @@
+-- What each loop of `product_of` keeps.
+use Prim.Native.Nat.{◌-◌}
+use mathlib.Core.Path.{refl}
+use native.Mathlib.Omega.{arith}
+use Rattle.words.proofs.Loops.{Ran, Any, begun, turned, ended}
+use Rattle.scalar.specs.Products.{times_at, product}
+use Rattle.scalar.proofs.roots.product_of.Given as goal
+
+abbrev pub invariant-loop : goal.invariant-loop
+invariant-loop l = Ran (times_at l.x) Any 1 l.m l.counter l.x l.p
+
+abbrev pub decreases-loop : goal.decreases-loop
+decreases-loop l = l.m - l.counter

@@ -1,0 +1,11 @@
+-- What each loop of `fill_amounts` keeps.
+use Prim.Native.Nat.{◌-◌}
+use mathlib.Core.Path.{refl, ◌∙◌}
+use native.Mathlib.Omega.{arith}
+use lib.ListN.{get_or, length-set}
+use Rattle.words.proofs.Loops.{Ran, Long, begun, turned, ended}
+use Rattle.sheet.specs.Fill.{placed}
+use Rattle.sheet.proofs.fill.fill_amounts.Given as goal
+
+abbrev pub invariant-loop-i : goal.invariant-loop-i
+invariant-loop-i l = Ran (placed (λ j. get_or l.given j 0)) (Long l.initial.amounts) 0 l.n l.i l.initial.amounts l.amounts

@@ -1,0 +1,13 @@
+-- What each loop of `copy` keeps.
+use Prim.Native.Nat.{◌-◌, ◌≤◌}
+use mathlib.Core.Path.{◌≡◌, refl, ap, ◌∙◌}
+use native.Mathlib.Nat.{le_antisymm}
+use native.Mathlib.Numerals.{add-one}
+use native.Mathlib.Omega.{arith}
+use lib.ListN.{length, get_or, take, set, length-set}
+use Rattle.sheet.specs.Reader.{over}
+use Rattle.sheet.proofs.FillLaws.{set-over}
+use Rattle.sheet_write.proofs.copy.copy.Given as goal
+
+abbrev pub invariant-loop-i : goal.invariant-loop-i
+invariant-loop-i l = (l.i ≤ l.count) × (length l.out ≡ length l.initial.out) × (l.out ≡ over (take l.i l.from) l.initial.out)

@@ -1,0 +1,18 @@
+-- What each loop of `find` keeps.
+use Prim.Native.Nat.{◌+◌, ◌-◌, ◌*◌, ◌≤◌}
+use mathlib.Core.Path.{◌≡◌, refl, sym, ap, ◌∙◌}
+use native.Mathlib.Omega.{arith}
+use borrow.Author.Rules.{rules}
+use Rattle.words.specs.Words.{◌!◌}
+use Rattle.shelf.specs.declared.finding.Found.TheVariants.{At}
+use Rattle.shelf.specs.Shelf.{holds}
+use Rattle.shelf.specs.Finding.{found_from}
+use Rattle.shelf.proofs.Ring.{before-low}
+use Rattle.shelf.proofs.FindLaws.{found_none, found_here, found-on}
+use Rattle.shelf.proofs.finding.find.Given as goal
+
+abbrev pub invariant-loop-left : goal.invariant-loop-left
+invariant-loop-left l = (l.at ≤ 47) × (found_from l.x l.ends l.at l.left ≡ found_from l.x l.ends l.place l.steps)
+
+abbrev pub decreases-loop-left : goal.decreases-loop-left
+decreases-loop-left l = l.left

@@ -1,0 +1,8 @@
+-- `within` meets its contract.
+use borrow.Author.Rules.{rules}
+use Rattle.shelf.specs.Shelf.{holds}
+use Rattle.shelf.proofs.finding.within.Goals as goal
+
+pub returns : goal.returns
+unfolding holds
+returns c = rw c.bounds-reach.ensures

@@ -1,0 +1,6 @@
+-- `blamed` meets its contract.
+use borrow.Author.Rules.{rules}
+use Rattle.state.proofs.run.blamed.Goals as goal
+
+pub returns-in-SingularMatrix : goal.returns-in-SingularMatrix
+returns-in-SingularMatrix c = rw c.in-SingularMatrix.is
