@@ -491,9 +491,8 @@ def convert(root, crate, rel, entry, clauses):
 
     def applied(text):
         for n in order:
-            root = rf"(?:\w+|{SEG})"
-            text = re.sub(rf"\({re.escape(n)} ({root})((?:\.before)*)\)", n, text)
-            text = re.sub(rf"(?<![\w'.-]){re.escape(n)} ({root})((?:\.before)*)(?![\w'.-])", n, text)
+            root = r"(?:[A-Za-z][\w'₀-₉-]*)"
+            text = re.sub(rf"\({re.escape(n)} {root}(?:\.before)*\)|(?<![\w'.-]){re.escape(n)} {root}(?:\.before)*(?![\w'.-])", n, text)
         return text
 
     def with_lets(text, c, unfolding):

@@ -22,7 +22,7 @@ advanced-requires c =
     (differences a.y-perturbed.now a.f-perturbed.now a.f-origin.now) in
     let done-at : Action = let a = c.args in
     answered_by a.reactions a.rates.now a.species.now a.call.request a.call.place memory-at in
-    let wrote_at : Memory = wrote c.args.call.request c.args.call.place done-at in
+    let wrote_at : Memory = wrote c.args.call.request c.args.call.place done-at memory-at in
     let start = c.before.before.before.before.before.before.before.before.before.before.before.before.before.before.before.before.before.before.before.before.before.before.before.before.before.before.before.before.before.before.before.before.before.before.before.before.before.before.before.before.before.before.before.before.before.before.before.before.before.before.before.before.before.before.before.before.before.before.before.before.before.before.before.before.before.before.before.before.before.before.before in
     let a = start.args in
     let r = run_at a.words.now a.doubles.now in

@@ -42,7 +42,7 @@ returns-then-not-fit c =
     let memory-at : Memory = memory amounts-at newton-at given-at factors-at differences-at in
     let tested : lengths_fit (start c).args.run.shape.n (memory-at (start c)) ≡ (c.amounts_fit.result && c.vectors_fit.result && c.vectors_fit-2.result && c.given_fit.result && c.factors_fit.result && c.vectors_fit-3.result) = let s = start c in
     fits-are s.args.run.shape.n amounts-at newton-at given-at
-    factors-at differences-at _ _ _ _ _
+    factors-at differences-at _ _ _ _ _ _
     c.amounts_fit.ensures c.vectors_fit.ensures
     c.vectors_fit-2.ensures c.given_fit.ensures
     c.factors_fit.ensures c.vectors_fit-3.ensures in
@@ -64,7 +64,7 @@ returns c =
     let memory-at : Memory = memory amounts-at newton-at given-at factors-at differences-at in
     let tested : lengths_fit (start c).args.run.shape.n (memory-at (start c)) ≡ (c.amounts_fit.result && c.vectors_fit.result && c.vectors_fit-2.result && c.given_fit.result && c.factors_fit.result && c.vectors_fit-3.result) = let s = start c in
     fits-are s.args.run.shape.n amounts-at newton-at given-at
-    factors-at differences-at _ _ _ _ _
+    factors-at differences-at _ _ _ _ _ _
     c.amounts_fit.ensures c.vectors_fit.ensures
     c.vectors_fit-2.ensures c.given_fit.ensures
     c.factors_fit.ensures c.vectors_fit-3.ensures in

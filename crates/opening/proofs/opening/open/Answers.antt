@@ -53,7 +53,7 @@ returns-then-not-fit c =
     && c.factors_fit.result
     && c.vectors_fit-3.result in
     let tested : lengths_fit (start c).args.n (opening-at (start c)).memory ≡ tests = let s = start c in
-    fits-are s.args.n amounts-at newton-at given-at factors-at differences-at _ _ _ _ _
+    fits-are s.args.n amounts-at newton-at given-at factors-at differences-at _ _ _ _ _ _
     c.amounts_fit.ensures c.vectors_fit.ensures
     c.vectors_fit-2.ensures c.given_fit.ensures
     c.factors_fit.ensures c.vectors_fit-3.ensures in
@@ -79,7 +79,7 @@ convert-conversion-requires c =
     && c.factors_fit.result
     && c.vectors_fit-3.result in
     let tested : lengths_fit (start c).args.n (opening-at (start c)).memory ≡ tests = let s = start c in
-    fits-are s.args.n amounts-at newton-at given-at factors-at differences-at _ _ _ _ _
+    fits-are s.args.n amounts-at newton-at given-at factors-at differences-at _ _ _ _ _ _
     c.amounts_fit.ensures c.vectors_fit.ensures
     c.vectors_fit-2.ensures c.given_fit.ensures
     c.factors_fit.ensures c.vectors_fit-3.ensures in
@@ -105,13 +105,13 @@ returns-in-Refused c =
     && c.factors_fit.result
     && c.vectors_fit-3.result in
     let tested : lengths_fit (start c).args.n (opening-at (start c)).memory ≡ tests = let s = start c in
-    fits-are s.args.n amounts-at newton-at given-at factors-at differences-at _ _ _ _ _
+    fits-are s.args.n amounts-at newton-at given-at factors-at differences-at _ _ _ _ _ _
     c.amounts_fit.ensures c.vectors_fit.ensures
     c.vectors_fit-2.ensures c.given_fit.ensures
     c.factors_fit.ensures c.vectors_fit-3.ensures in
     let fitted : lengths_fit (start c.before).args.n (opening-at (start c.before)).memory ≡ true = tested ∙ not-false _ c.if-not-fit.false-raw in
     let place = c.before.before.before.before.before.before.before in let place' = place.before.before.before.before.before.before.before.before.before.before.before.before.before.before.before.before.before.before.before.before.before.before.before.before.before.before.before.before.before.before in
-    open-refused opening-at place.if-n.false fitted
+    open-refused opening-at _ place.if-n.false fitted
     (sym c.check_given.ensures ∙ c.in-Refused.is)
 
 pub shape_of-f0 : goal.shape_of-f0
@@ -185,7 +185,7 @@ returns-in-Passed c =
     && c.factors_fit.result
     && c.vectors_fit-3.result in
     let tested : lengths_fit (start c).args.n (opening-at (start c)).memory ≡ tests = let s = start c in
-    fits-are s.args.n amounts-at newton-at given-at factors-at differences-at _ _ _ _ _
+    fits-are s.args.n amounts-at newton-at given-at factors-at differences-at _ _ _ _ _ _
     c.amounts_fit.ensures c.vectors_fit.ensures
     c.vectors_fit-2.ensures c.given_fit.ensures
     c.factors_fit.ensures c.vectors_fit-3.ensures in

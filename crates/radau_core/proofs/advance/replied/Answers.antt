@@ -105,7 +105,7 @@ conclude-requires c =
     let k = c.round-verdict in record {
       sized = k.ensures.0;
       round_fit = (
-        round-asks start.pre.1.0.0 a.mass.now a.scal.now factors-at
+        round-asks start.pre.1.0.0 a.mass.now a.scal.now factors-at newton-at y
             start.pre.1.0.1.rounds k.ensures.1 m.y,
         square-at {a = a.mass.now} y m.y m.mass,
         same (length a.f0.now) y n m.f0 m.y,
@@ -259,7 +259,7 @@ returns-in-2 c =
     let start = c.before.before.before.before.before.before.before.before.before.before.before.before.before.before.before.before.before.before.before.before.before.before.before.before.before.before.before.before.before.before.before in
     let a = start.args in record {
       sized_2 = start.pre.0;
-      f_origin_after = first-again run-at start.args.reply memory-at (place.at-first-derivative-again (part_at
+      f_origin_after = first-again run-at start.args.reply memory-at _ (place.at-first-derivative-again (part_at
           start) c.in-2.is)
           (c.started-in-2.ensures a.f0.now a.cont.now a.mass.now a.jac.now
           newton-at factors-at differences-at);
@@ -301,7 +301,7 @@ returns-in-4 c =
     let part_at : ℕ = c.args.words.now # 1 in
     let start = c.before.before.before.before.before.before.before.before.before.before.before.before.before.before.before.before.before.before.before.before.before.before.before.before.before.before.before.before.before.before.before.before.before.before.before in record {
       sized_2 = c.column.ensures.sized_2;
-      f_origin_after = column-made run-at start.args.reply memory-at (step_at c.column.result (run_at
+      f_origin_after = column-made run-at start.args.reply memory-at _ (step_at c.column.result (run_at
           c.column.new.0 c.column.new.1.0))
           c.column.new.1.1.1.1.0 c.column.new.1.1.1.1.1.1.1.0 (place.at-column
           part_at c.in-4.is) c.column.ensures.jac_after;
@@ -477,7 +477,7 @@ returns-in-12 c =
     let part_at : ℕ = c.args.words.now # 1 in
     let start = c.before.before.before.before.before.before.before.before.before.before.before.before.before.before.before.before.before.before.before.before.before.before.before.before.before.before.before.before.before in record {
       sized_2 = c.ended.ensures.sized;
-      f_origin_after = ended-already run-at start.args.reply memory-at (call_at c.ended.result (run_at c.ended.new.0 c.ended.new.1.0))
+      f_origin_after = ended-already run-at start.args.reply memory-at _ (call_at c.ended.result (run_at c.ended.new.0 c.ended.new.1.0))
           (place.at_ended part_at c.in-12.is) (rw c.status_at-status.ensures at c.ended.ensures.doubles_after);
     }
 

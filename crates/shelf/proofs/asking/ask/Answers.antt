@@ -57,7 +57,7 @@ shape_of-target c =
     let wide = 4 * length args.target.now in
     ap (λ (o : Interpolation). length o.yi) at.interpolate.ensures
     ∙ length-kept args.x args.target.now
-    (take (place * wide + wide place * wide) (drop (place * wide) args.coefficients.now))
+    (take (place * wide + wide - place * wide) (drop (place * wide) args.coefficients.now))
     (args.ends.now ! (2 * place)) (args.ends.now ! (2 * place + 1))
 
 pub returns-in-At : goal.returns-in-At
@@ -84,4 +84,4 @@ returns-in-Nothing c =
     let fits : shelf_fits (start c.before.before.before).args.shelf ≡ true = sym c.shelf_fits.ensures ∙ not-false _ c.if-not-shelf_fits.false-raw in
     let two = c.before.before.before in let args = (start two.before.before.before).args in
     ask-found args.shelf args.x args.target.now args.coefficients.now args.ends.now
-    wide fits (sym c.in-Nothing.is ∙ c.find-found.ensures) refl
+    wide fits Nothing (sym c.in-Nothing.is ∙ c.find-found.ensures) refl

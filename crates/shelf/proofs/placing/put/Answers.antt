@@ -86,7 +86,7 @@ returns c =
     let at2 = at.before.before in
     let args = (start at2.before).args in
     let first = at-ends.copy.ensures in
-    let second = over-two (2 * args.shelf.place) args.xold args.h args.ends.now ended
+    let second = over-two (2 * args.shelf.place) args.xold args.h args.ends.now ended in
     put-done args.shelf args.cont.now args.xold args.h args.coefficients.now args.ends.now
     at2.before.before.if1.left wide fits
     (λ i. placed (placing.Kept (shelf (c.steps_after.ensures i) (c.place_after.ensures i))) (first i)

@@ -42,7 +42,7 @@ returns-in-Refused c =
     (differences a.y-perturbed.now a.f-perturbed.now a.f-origin.now) in
     let start = c.before.before.before.before.before.before.before.before.before.before.before.before.before.before.before.before.before.before.before.before.before.before.before.before.before.before.before.before.before.before.before.before.before.before.before.before.before.before.before.before.before.before.before.before.before in
     let s = start.args.self in
-    advance-refused s.run s.reply memory-at (sym c.admission.ensures ∙ c.in-Refused.is)
+    advance-refused s.run s.reply memory-at _ (sym c.admission.ensures ∙ c.in-Refused.is)
 
 pub returns : goal.returns
 returns c =
