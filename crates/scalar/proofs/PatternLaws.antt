@@ -1,7 +1,7 @@
 -- The patterns of the doubles that are not negative: no NaN is among them, `units` says what number each stands for
 -- (`units-are`), a larger pattern stands for more, and a double that is finite and above zero has a pattern between
 -- those of +0 and infinity.
-use Prim.Native.Nat.{ℕ, zero, suc, ◌+◌, ◌-◌, ◌*◌, ◌/◌, ◌%◌, ◌^◌, ◌≤◌, ◌<◌}
+use Prim.Native.Nat.{ℕ, suc, ◌+◌, ◌-◌, ◌*◌, ◌/◌, ◌%◌, ◌^◌, ◌≤◌, ◌<◌}
 use mathlib.Core.Path.{◌≡◌, sym, ap, subst, ◌∙◌}
 use mathlib.Core.Bool.{Bool, true, false, not}
 use native.Mathlib.Nat.{le_refl, le_trans, le_of_lt, lt_of_lt_of_le, lt_of_le_of_lt, pow-succ'}
@@ -9,9 +9,9 @@ use native.Mathlib.Nat.{mul_assoc, mul-one, add-mul, mul-le-mul_right, mod-eq_of
 use native.Mathlib.Numerals.{add-one}
 use native.Mathlib.Decide.{dec_lt, le_ind}
 use native.Mathlib.Omega.{arith}
-use lib.Dec.{T, T_not, ltb, leb}
+use lib.Dec.{T, T_not}
 use lib.Pow.{pow_pos}
-use lib.IntN.{ℤ, pos}
+use lib.IntN.{ℤ}
 use lib.Ieee.{Float, nan, inf, fin, binary64, neg, le, is_nan, fits}
 use lib.Ieee.{odd, of_fields, of_bits, to_bits, nan_bits, ones, hid, top}
 use lib.Ieee.Fits.{neg-fits}

@@ -2,14 +2,14 @@
 -- computed from the definitions, to which the contracts tie the code.
 use Prim.Native.Nat.{ℕ, ◌+◌, ◌-◌, ◌*◌, ◌/◌, ◌^◌}
 use mathlib.Core.Path.{◌≡◌, refl, sym, ap, ◌∙◌}
-use mathlib.Core.Bool.{true, false}
+use mathlib.Core.Bool.{false}
 use native.Mathlib.Omega.{arith}
 use lib.Dec.{leb}
 use lib.Ieee.{Float, binary64, nan, mul, le, lt, is_nan, of_bits, to_bits}
 use Rattle.words.specs.Words.{double}
 use Rattle.words.specs.Constants.{«1·0»}
 use Rattle.words.specs.Loop.{loop, pick}
-use Rattle.scalar.specs.Order.{min_of, max_of, signum_of}
+use Rattle.scalar.specs.Order.{min_of, signum_of}
 use Rattle.scalar.specs.Products.{times_at, product}
 use Rattle.words.specs.Patterns.{units, units_in_one, infinity_pattern}
 use Rattle.scalar.specs.Halving.{halve}

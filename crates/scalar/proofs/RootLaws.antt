@@ -2,14 +2,14 @@
 -- to one of them, and that one is the root:
 --     root-kept-proof, root-next-proof    its product doesn't exceed v, and that of the next double does
 --     root-only-proof                     a pattern with both properties is the root's, however it was found
-use Prim.Native.Nat.{ℕ, zero, suc, ◌+◌, ◌-◌, ◌*◌, ◌≤◌, ◌<◌}
+use Prim.Native.Nat.{ℕ, zero, suc, ◌+◌, ◌≤◌, ◌<◌}
 use mathlib.Core.Path.{◌≡◌, refl, sym, ap, subst, ◌∙◌}
 use mathlib.Core.Bool.{Bool, true, false}
 use native.Mathlib.Nat.{le_refl, lt_of_lt_of_le, lt_of_le_of_lt, zero-lt-suc, zero-mul}
 use native.Mathlib.Omega.{arith}
 use lib.Dec.{T}
 use lib.IntN.{pos}
-use lib.Ieee.{Float, nan, inf, fin, binary64, mul, le, is_nan, of_bits, up, down}
+use lib.Ieee.{Float, nan, inf, fin, mul, le, is_nan, of_bits, down}
 use lib.Ieee.Bits.{is_true}
 use lib.Ieee.Positive.{positive}
 use borrow.Author.Tests.{lt-leb, le-leb}
@@ -23,7 +23,7 @@ use Rattle.scalar.specs.Root.{keeps, halved_root, root_of_form, root_of}
 use Rattle.scalar.specs.Steps.{Ordered}
 use Rattle.scalar.proofs.Tests.{negative, is_zero, infinite, never}
 use Rattle.scalar.proofs.PatternLaws.{pattern-positive, pattern-mono}
-use Rattle.scalar.proofs.ProductLaws.{plain, positive-plain, fin-le, le-trans-plain}
+use Rattle.scalar.proofs.ProductLaws.{positive-plain, fin-le, le-trans-plain}
 use Rattle.scalar.proofs.ProductLaws.{product-plain, product-mono, product-same}
 use Rattle.scalar.proofs.HalvingLaws.{Edge, halve-edge, halve-finds}
 

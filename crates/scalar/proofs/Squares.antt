@@ -1,6 +1,6 @@
 -- Squares keep the order of whole numbers, and show it.
 use Prim.Native.Nat.{ℕ, zero, suc, ◌*◌, ◌≤◌, ◌<◌}
-use mathlib.Core.Path.{◌≡◌, subst}
+use mathlib.Core.Path.{subst}
 use native.Mathlib.Nat.{le_trans, le_of_lt, lt_of_le_of_lt, lt_of_not-le, not-le_of_lt}
 use native.Mathlib.Nat.{mul-one, mul-le-mul_left, mul-le-mul_right, mul-lt-mul_of_pos_right}
 use native.Mathlib.Decide.{dec_le}

@@ -2,9 +2,8 @@
 -- at each entry: of C1, C2, C1M1, C2M1, C1MC2, DD1, DD2 and DD3 the exact number lies strictly between the neighbours
 -- of the double, and within two doubles either way of U1 the cubic changes its sign.
 use Prim.Native.Nat.{ℕ, ◌<◌}
-use mathlib.Core.Bool.{Bool, true, false, ◌&&◌}
+use mathlib.Core.Bool.{Bool}
 use lib.Dec.{T}
-use lib.ListN.{length}
 use lib.Ieee.{Float, nan, binary64, of_bits, to_bits}
 use lib.Ieee.Fits.{and_l, and_r}
 use Rattle.words.specs.Words.{◌!◌}

@@ -6,10 +6,9 @@ use mathlib.Core.Bool.{Bool, true, false, not}
 use native.Mathlib.Nat.{zero-mul, mul-pos, zero-lt-suc}
 use native.Mathlib.Omega.{arith}
 use lib.Dec.{T, lt→ltb}
-use lib.IntN.{ℤ, pos}
-use lib.Ieee.{Float, nan, inf, fin, binary64, lt, eq, ne, div, is_nan, of_bits, up, down}
+use lib.IntN.{ℤ}
+use lib.Ieee.{Float, nan, inf, fin, lt, eq, ne, div, is_nan, of_bits, up, down}
 use lib.Ieee.Fits.{up_pos}
-use lib.Ieee.Compare.{differs_from_itself}
 use lib.Ieee.Positive.{positive}
 use borrow.Author.Tests.{lt-ltb, le-ltb, eq-eqb, ne_eqb}
 use Rattle.words.specs.Words.{◌⊘◌}

@@ -29,6 +29,7 @@ pub fn wide_root(m: u64, q: u64) -> Cut
 
 // What m * 2^52 has beyond the square of q, if that is small: taken off by the halves h and l of q, 26 and 27 digits,
 // so that each product fits.
+#[tactic(auto, unfolding(crate::specs::Steps::Remains))]
 fn beyond_square(m: u64, q: u64) -> Beyond
     requires { (m < 2 ^ 54) × (q < 2 ^ 53) }
     ensures { Remains m q result }

@@ -3,7 +3,7 @@
 use Prim.Native.Nat.{ℕ, ◌+◌, ◌-◌, ◌*◌, ◌<◌}
 use mathlib.Core.Bool.{Bool}
 use lib.Dec.{T, leb}
-use lib.ListN.{length, get_or}
+use lib.ListN.{get_or}
 use lib.Ieee.{nan, binary64, of_bits, to_bits}
 use lib.Ieee.Fits.{and_l, and_r}
 use Rattle.words.specs.Loop.{pick}

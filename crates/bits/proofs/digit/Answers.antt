@@ -1,6 +1,5 @@
 -- `digit` meets its contract.
 use mathlib.Core.Path.{refl}
-use borrow.Author.Rules.{rules}
 use borrow.Author.Tests.{lt-ltb, le-ltb, le-leb, lt-leb}
 use Rattle.words.proofs.Branch.{yes, no}
 use Rattle.bits.specs.Digit.{digit_of}

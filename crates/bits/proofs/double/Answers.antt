@@ -1,7 +1,6 @@
 -- `double` meets its contract, and is safe: a pattern that is not above infinity's, its sign dropped, is no NaN's.
 use mathlib.Core.Path.{◌≡◌, refl, sym, subst, ◌∙◌}
 use mathlib.Core.Bool.{Bool, true, not}
-use borrow.Author.Rules.{rules}
 use lib.Dec.{T}
 use lib.Ieee.{Float, nan, inf, fin, binary64, is_nan, div, of_bits}
 use Rattle.words.specs.Words.{double, ◌⊘◌}

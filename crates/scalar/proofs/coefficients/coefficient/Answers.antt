@@ -1,6 +1,4 @@
 -- `coefficient` meets its contract.
-use mathlib.Core.Path.{ap, ◌∙◌}
-use borrow.Author.Rules.{rules}
 use borrow.Author.Tests.{lt-ltb, le-ltb}
 use Rattle.words.specs.Loop.{pick}
 use Rattle.scalar.specs.Coefficients.{entry_of}

@@ -1,6 +1,5 @@
 -- `beyond_square` meets its contract.
 use native.Mathlib.Omega.{arith}
-use borrow.Author.Rules.{rules}
 use Rattle.scalar.specs.Steps.{Remains}
 use Rattle.scalar.proofs.DigitLaws.{halves-fit, low_fits, high_fits, beyond}
 use Rattle.scalar.proofs.digits.beyond_square.Goals as goal

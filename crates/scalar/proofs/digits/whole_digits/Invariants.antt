@@ -1,9 +1,6 @@
 -- What each loop of `whole_digits` keeps.
 use Prim.Native.Nat.{◌*◌, ◌/◌, ◌^◌, ◌≤◌}
-use mathlib.Core.Path.{refl}
-use native.Mathlib.Omega.{arith}
 use Rattle.scalar.specs.Steps.{Digits}
-use Rattle.scalar.proofs.DigitLaws.{digits_of, two-more, no_shift, root-of-part}
 use Rattle.scalar.proofs.digits.whole_digits.Given as goal
 
 abbrev pub invariant-loop-left : goal.invariant-loop-left

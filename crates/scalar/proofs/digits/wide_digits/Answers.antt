@@ -1,8 +1,5 @@
 -- `wide_digits` meets its contract: m with all but `left` of its 26 pairs of zeros has the root so far.
-use Prim.Native.Nat.{◌-◌, ◌*◌, ◌^◌, ◌≤◌}
-use mathlib.Core.Path.{refl}
 use native.Mathlib.Omega.{arith}
-use Rattle.scalar.specs.Steps.{Digits}
 use Rattle.scalar.proofs.DigitLaws.{digits_of, zeros-more, all-zeros, root-small}
 use Rattle.scalar.proofs.digits.wide_digits.Goals as goal
 

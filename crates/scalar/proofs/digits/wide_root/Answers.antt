@@ -1,6 +1,5 @@
 -- `wide_root` meets its contract.
 use mathlib.Core.Path.{subst}
-use borrow.Author.Rules.{rules}
 use Rattle.scalar.specs.declared.digits.Beyond.{Beyond}
 use Rattle.scalar.specs.Steps.{Remains}
 use Rattle.scalar.proofs.digits.wide_root.Goals as goal

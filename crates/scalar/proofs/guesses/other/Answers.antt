@@ -1,7 +1,6 @@
 -- `other` meets its contract: what it computes is safe, and nothing is said of the guess.
 use native.Mathlib.Nat.{div-le_self}
 use native.Mathlib.Omega.{arith}
-use borrow.Author.Rules.{rules}
 use Rattle.scalar.proofs.guesses.other.Goals as goal
 
 pub overflow_sub-g : goal.overflow_sub-g

@@ -1,5 +1,4 @@
 -- `number` meets its contract.
-use mathlib.Core.Path.{refl}
 use Rattle.scalar.proofs.PatternLaws.{no_nan}
 use Rattle.scalar.proofs.patterns.number.Goals as goal
 

@@ -2,7 +2,6 @@
 use mathlib.Core.Path.{sym, subst, ◌∙◌}
 use mathlib.Core.Bool.{Bool, not}
 use lib.Dec.{T}
-use borrow.Author.Rules.{rules}
 use Rattle.scalar.proofs.Tests.{differs}
 use Rattle.scalar.proofs.patterns.pattern.Goals as goal
 

@@ -1,6 +1,5 @@
 -- `four_fifths` meets its contract.
 use mathlib.Core.Path.{ap, ◌∙◌}
-use borrow.Author.Rules.{rules}
 use lib.Ieee.{Float}
 use Rattle.scalar.specs.Products.{power_of}
 use Rattle.scalar.proofs.powers.four_fifths.Goals as goal

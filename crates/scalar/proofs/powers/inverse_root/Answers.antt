@@ -1,5 +1,4 @@
 -- `inverse_root` meets its contract.
-use borrow.Author.Rules.{rules}
 use Rattle.scalar.proofs.powers.inverse_root.Goals as goal
 
 pub returns : goal.returns

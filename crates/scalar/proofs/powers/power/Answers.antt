@@ -1,9 +1,7 @@
 -- `power` meets its contract: its loop is the definition's.
-use Prim.Native.Nat.{◌-◌}
 use mathlib.Core.Path.{refl}
 use native.Mathlib.Omega.{arith}
-use Rattle.words.specs.Constants.{«1·0»}
-use Rattle.words.proofs.Loops.{Ran, Any, begun, turned, ended}
+use Rattle.words.proofs.Loops.{begun, turned, ended}
 use Rattle.scalar.specs.Products.{times_at, power_of}
 use Rattle.scalar.proofs.powers.power.Goals as goal
 

@@ -1,10 +1,8 @@
 -- What each loop of `power` keeps.
 use Prim.Native.Nat.{◌-◌}
-use mathlib.Core.Path.{refl}
-use native.Mathlib.Omega.{arith}
 use Rattle.words.specs.Constants.{«1·0»}
-use Rattle.words.proofs.Loops.{Ran, Any, begun, turned, ended}
-use Rattle.scalar.specs.Products.{times_at, power_of}
+use Rattle.words.proofs.Loops.{Ran, Any}
+use Rattle.scalar.specs.Products.{times_at}
 use Rattle.scalar.proofs.powers.power.Given as goal
 
 abbrev pub invariant-loop : goal.invariant-loop

@@ -1,5 +1,4 @@
 -- `kept` meets its contract.
-use borrow.Author.Rules.{rules}
 use Rattle.scalar.specs.Root.{keeps}
 use Rattle.scalar.proofs.roots.kept.Goals as goal
 

@@ -1,8 +1,7 @@
 -- `product_of` meets its contract: its loop is the definition's.
-use Prim.Native.Nat.{◌-◌}
 use mathlib.Core.Path.{refl}
 use native.Mathlib.Omega.{arith}
-use Rattle.words.proofs.Loops.{Ran, Any, begun, turned, ended}
+use Rattle.words.proofs.Loops.{begun, turned, ended}
 use Rattle.scalar.specs.Products.{times_at, product}
 use Rattle.scalar.proofs.roots.product_of.Goals as goal
 

@@ -1,9 +1,7 @@
 -- What each loop of `product_of` keeps.
 use Prim.Native.Nat.{◌-◌}
-use mathlib.Core.Path.{refl}
-use native.Mathlib.Omega.{arith}
-use Rattle.words.proofs.Loops.{Ran, Any, begun, turned, ended}
-use Rattle.scalar.specs.Products.{times_at, product}
+use Rattle.words.proofs.Loops.{Ran, Any}
+use Rattle.scalar.specs.Products.{times_at}
 use Rattle.scalar.proofs.roots.product_of.Given as goal
 
 abbrev pub invariant-loop : goal.invariant-loop

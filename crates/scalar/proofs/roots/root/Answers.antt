@@ -3,7 +3,6 @@ use mathlib.Core.Path.{sym, subst, ◌∙◌}
 use native.Mathlib.Omega.{arith}
 use lib.Dec.{T}
 use lib.Ieee.Positive.{positive}
-use borrow.Author.Rules.{rules}
 use Rattle.scalar.proofs.Tests.{differs, below-zero, equals-zero, equals-infinity, past-tests, nan_is}
 use Rattle.scalar.proofs.PatternLaws.{positive-number, pattern-under}
 use Rattle.scalar.proofs.RootLaws.{of-low-order, of-high-order, of_nan, of_negative, of_zero, of-infinity}

@@ -1,5 +1,4 @@
 -- `root_anywhere` meets its contract.
-use borrow.Author.Rules.{rules}
 use Rattle.scalar.proofs.RootSteps.{all-patterns}
 use Rattle.scalar.proofs.roots.root_anywhere.Goals as goal
 

@@ -1,7 +1,6 @@
 -- `root_around` meets its contract: 16 patterns either way of the guess are two ends, if the test says so.
 use mathlib.Core.Path.{sym, ◌∙◌}
 use native.Mathlib.Omega.{arith}
-use borrow.Author.Rules.{rules}
 use borrow.Author.Tests.{not-true}
 use Rattle.scalar.proofs.roots.root_around.Goals as goal
 

@@ -1,8 +1,6 @@
 -- `root_between` meets its contract. Its loop keeps two ends between which the root's pattern lies,
-use Prim.Native.Nat.{◌-◌}
 use mathlib.Core.Path.{sym, ◌∙◌}
 use native.Mathlib.Omega.{arith}
-use Rattle.scalar.specs.Steps.{Ends}
 use Rattle.scalar.proofs.RootSteps.{moved_up, moved_down, neighbours}
 use Rattle.scalar.proofs.roots.root_between.Goals as goal
 

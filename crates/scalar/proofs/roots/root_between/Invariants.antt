@@ -1,9 +1,6 @@
 -- What each loop of `root_between` keeps.
 use Prim.Native.Nat.{◌-◌}
-use mathlib.Core.Path.{sym, ◌∙◌}
-use native.Mathlib.Omega.{arith}
 use Rattle.scalar.specs.Steps.{Ends}
-use Rattle.scalar.proofs.RootSteps.{moved_up, moved_down, neighbours}
 use Rattle.scalar.proofs.roots.root_between.Given as goal
 
 abbrev pub invariant-loop-high : goal.invariant-loop-high

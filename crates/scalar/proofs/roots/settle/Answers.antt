@@ -1,7 +1,6 @@
 -- `settle` meets its contract.
 use mathlib.Core.Path.{◌∙◌}
 use native.Mathlib.Omega.{arith}
-use borrow.Author.Rules.{rules}
 use borrow.Author.Tests.{not-true}
 use Rattle.scalar.proofs.RootSteps.{byte_small, settled}
 use Rattle.scalar.proofs.roots.settle.Goals as goal

@@ -1,8 +1,7 @@
 -- `any_width` meets its contract: by a shift for a subnormal number, by the two fields for any other.
 use Prim.Native.Nat.{ℕ, ◌+◌, ◌*◌, ◌/◌, ◌%◌, ◌^◌, ◌≤◌, ◌<◌}
-use mathlib.Core.Path.{◌≡◌, sym, ap, subst, ◌∙◌}
+use mathlib.Core.Path.{sym, ap, subst, ◌∙◌}
 use native.Mathlib.Omega.{arith}
-use borrow.Author.Rules.{rules}
 use Rattle.words.specs.Patterns.{units, units_in_one, infinity_pattern}
 use Rattle.scalar.specs.Steps.{FullWidth}
 use Rattle.scalar.proofs.PatternLaws.{units-low, units-high}

@@ -1,7 +1,6 @@
 -- `root_pattern` meets its contract: the digits, their place and the remainder compose the nearest pattern.
 use Prim.Native.Nat.{◌^◌, ◌<◌}
 use native.Mathlib.Omega.{arith}
-use borrow.Author.Rules.{rules}
 use Rattle.words.specs.Patterns.{units}
 use Rattle.scalar.specs.Steps.{EvenPlace}
 use Rattle.scalar.proofs.RoundingLaws.{near_fits, near-two, near-one, near_none}

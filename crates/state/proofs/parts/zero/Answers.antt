@@ -1,10 +1,6 @@
 -- `zero` meets its contract.
-use Prim.Native.Nat.{◌-◌}
-use native.Mathlib.Omega.{arith}
-use lib.ListN.{length}
-use Rattle.words.specs.Constants.{«0·0»}
 use Rattle.state.specs.Memory.{zeros}
-use Rattle.state.proofs.FillLaws.{Filled, filling, put_next, filled}
+use Rattle.state.proofs.FillLaws.{put_next, filled}
 use Rattle.state.proofs.parts.zero.Goals as goal
 
 pub loop-i-preserved : goal.loop-i-preserved

@@ -1,10 +1,8 @@
 -- What each loop of `zero` keeps.
 use Prim.Native.Nat.{◌-◌}
-use native.Mathlib.Omega.{arith}
 use lib.ListN.{length}
 use Rattle.words.specs.Constants.{«0·0»}
-use Rattle.state.specs.Memory.{zeros}
-use Rattle.state.proofs.FillLaws.{Filled, filling, put_next, filled}
+use Rattle.state.proofs.FillLaws.{Filled}
 use Rattle.state.proofs.parts.zero.Given as goal
 
 abbrev pub invariant-loop-i : goal.invariant-loop-i

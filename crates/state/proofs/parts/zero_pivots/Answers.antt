@@ -1,9 +1,6 @@
 -- `zero_pivots` meets its contract.
-use Prim.Native.Nat.{◌-◌}
-use native.Mathlib.Omega.{arith}
-use lib.ListN.{length}
 use Rattle.state.specs.Memory.{noughts}
-use Rattle.state.proofs.FillLaws.{Filled, filling, put_next, filled}
+use Rattle.state.proofs.FillLaws.{put_next, filled}
 use Rattle.state.proofs.parts.zero_pivots.Goals as goal
 
 pub loop-i-preserved : goal.loop-i-preserved

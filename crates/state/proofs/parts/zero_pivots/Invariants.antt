@@ -1,9 +1,7 @@
 -- What each loop of `zero_pivots` keeps.
 use Prim.Native.Nat.{◌-◌}
-use native.Mathlib.Omega.{arith}
 use lib.ListN.{length}
-use Rattle.state.specs.Memory.{noughts}
-use Rattle.state.proofs.FillLaws.{Filled, filling, put_next, filled}
+use Rattle.state.proofs.FillLaws.{Filled}
 use Rattle.state.proofs.parts.zero_pivots.Given as goal
 
 abbrev pub invariant-loop-i : goal.invariant-loop-i

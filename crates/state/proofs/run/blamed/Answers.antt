@@ -1,5 +1,4 @@
 -- `blamed` meets its contract.
-use borrow.Author.Rules.{rules}
 use Rattle.state.proofs.run.blamed.Goals as goal
 
 pub returns-in-SingularMatrix : goal.returns-in-SingularMatrix

@@ -1,9 +1,7 @@
 -- `stray_among` meets its contract.
-use Prim.Native.Nat.{◌-◌}
-use mathlib.Core.Bool.{false}
 use mathlib.Core.Path.{refl}
 use native.Mathlib.Omega.{arith}
-use Rattle.words.proofs.Loops.{Ran, begun, turned, ended, Any}
+use Rattle.words.proofs.Loops.{begun, turned, ended}
 use Rattle.state.specs.Pivots.{stray_at}
 use Rattle.state.proofs.stray.stray_among.Goals as goal
 

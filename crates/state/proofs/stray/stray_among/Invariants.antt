@@ -1,9 +1,6 @@
 -- What each loop of `stray_among` keeps.
-use Prim.Native.Nat.{◌-◌}
 use mathlib.Core.Bool.{false}
-use mathlib.Core.Path.{refl}
-use native.Mathlib.Omega.{arith}
-use Rattle.words.proofs.Loops.{Ran, begun, turned, ended, Any}
+use Rattle.words.proofs.Loops.{Ran, Any}
 use Rattle.state.specs.Pivots.{stray_at}
 use Rattle.state.proofs.stray.stray_among.Given as goal
 

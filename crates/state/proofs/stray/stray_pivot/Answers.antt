@@ -1,6 +1,5 @@
 -- `stray_pivot` meets its contract.
 use native.Mathlib.Omega.{arith}
-use borrow.Author.Rules.{rules}
 use Rattle.state.specs.Pivots.{stray}
 use Rattle.state.proofs.Pivots.{past_end, no_row}
 use Rattle.state.proofs.stray.stray_pivot.Goals as goal

@@ -1,5 +1,4 @@
 -- `result` meets its contract.
-use borrow.Author.Rules.{rules}
 use Rattle.state.specs.Result.{result_at}
 use Rattle.state.proofs.run.Run.result.Goals as goal
 
