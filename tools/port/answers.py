@@ -408,7 +408,7 @@ def convert(root, crate, rel, entry, clauses):
                 notes.append(f"{rel}: {m[1]} has no equation")
                 continue
             value = eq[3].rstrip()
-            if EASY.match(value):
+            if EASY.match(value) and not unfolding:
                 continue
             place = f.place_of[old]
             turner = Turner(f, place, {eq[1]: place})

@@ -16,7 +16,7 @@ use Rattle.matrix.specs.Complex.{parts, at_complex, put_complex, size_complex, n
 use Rattle.matrix.specs.Complex.{plus_complex, times_complex, square_complex, reciprocal_complex}
 use Rattle.matrix.specs.Elimination.{better_at, pivot_row, swapped, scaled_at, column_at, eliminated}
 use Rattle.matrix.specs.Elimination.{pass_with, passed, pass_at, last_tested, single, worked, answered}
-use Rattle.matrix.specs.Lu.{multiplier, lu_decomp_of}
+use Rattle.matrix.specs.Lu.{lu_decomp_of}
 use Rattle.matrix.specs.LuComplex.{added_complex, real_at, imaginary_at, general_at, updated_complex}
 use Rattle.matrix.specs.LuComplex.{multiplier_complex, is_zero_complex, lu_decomp_complex_of}
 use Rattle.matrix.specs.Substitution.{solved}

@@ -13,7 +13,7 @@ use lib.ListN.{set}
 use Rattle.words.specs.Loop.{loop, pick}
 use Rattle.words.proofs.Branch.{yes, no, pick_yes, pick_no}
 use Rattle.matrix.specs.declared.answers.Decomposed.TheVariants.{Done, Singular}
-use Rattle.matrix.specs.Answers.{Stop, nowhere, column, Decomposition, decomposition}
+use Rattle.matrix.specs.Answers.{nowhere, column, Decomposition, decomposition}
 use Rattle.matrix.specs.Elimination.{Kind, Work, work, pivot_row, eliminated, pass_with}
 use Rattle.matrix.specs.Elimination.{passed, pass_at, last_tested, single, worked, answered}
 

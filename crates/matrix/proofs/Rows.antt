@@ -3,7 +3,7 @@
 -- multipliers follow (`row-early`). A turn at row i, column j writes that entry alone and reads, besides it, column k
 -- and row k, which no turn writes. So turns in two columns may change places, and so may a turn and the exchange of two
 -- entries in another column: first all exchanges, then all turns, in either order.
-use Prim.Native.Nat.{ℕ, ◌+◌, ◌*◌, ◌≤◌, ◌<◌}
+use Prim.Native.Nat.{ℕ, ◌+◌, ◌≤◌, ◌<◌}
 use mathlib.Core.Bool.{Bool, true, false}
 use mathlib.Core.Logic.{◌≢◌}
 use mathlib.Core.Path.{◌≡◌, refl, sym, ap, subst, ◌∙◌}

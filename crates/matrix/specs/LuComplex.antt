@@ -7,7 +7,7 @@ use Rattle.words.specs.Loop.{loop, pick}
 use Rattle.matrix.specs.declared.complex.Complex.{Complex}
 use Rattle.matrix.specs.declared.answers.Decomposed.TheVariants.{RefusedOrder, RefusedLength}
 use Rattle.matrix.specs.Answers.{Decomposition, decomposition}
-use Rattle.matrix.specs.Complex.{complex, Parts, parts, at_complex, put_complex, size_complex}
+use Rattle.matrix.specs.Complex.{complex, Parts, at_complex, put_complex, size_complex}
 use Rattle.matrix.specs.Complex.{negated_complex, plus_complex, times_complex, reciprocal_complex}
 use Rattle.matrix.specs.Elimination.{Kind, worked, answered}
 

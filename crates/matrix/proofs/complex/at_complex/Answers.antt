@@ -1,5 +1,4 @@
 -- `at_complex` meets its contract.
-use borrow.Author.Rules.{rules}
 use Rattle.matrix.specs.Complex.{at_complex}
 use Rattle.matrix.proofs.complex.at_complex.Goals as goal
 

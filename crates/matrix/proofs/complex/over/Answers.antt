@@ -1,5 +1,4 @@
 -- `over` meets its contract.
-use borrow.Author.Rules.{rules}
 use Rattle.matrix.specs.Complex.{over_complex}
 use Rattle.matrix.proofs.complex.over.Goals as goal
 

@@ -1,5 +1,4 @@
 -- `put_complex` meets its contract.
-use borrow.Author.Rules.{rules}
 use Rattle.matrix.specs.Complex.{put_complex}
 use Rattle.matrix.proofs.complex.put_complex.Goals as goal
 

@@ -1,5 +1,4 @@
 -- `reciprocal` meets its contract.
-use borrow.Author.Rules.{rules}
 use Rattle.matrix.specs.Complex.{reciprocal_complex}
 use Rattle.matrix.proofs.complex.reciprocal.Goals as goal
 

@@ -1,5 +1,4 @@
 -- `size` meets its contract.
-use borrow.Author.Rules.{rules}
 use Rattle.matrix.specs.Complex.{size_complex}
 use Rattle.matrix.proofs.complex.size.Goals as goal
 

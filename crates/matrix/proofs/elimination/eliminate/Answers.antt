@@ -1,6 +1,5 @@
 -- `eliminate` meets its contract.
 use native.Mathlib.Omega.{arith}
-use borrow.Author.Rules.{rules}
 use Rattle.words.specs.Grid.{Square}
 use Rattle.matrix.specs.Lu.{real, reciprocal}
 use Rattle.matrix.specs.Reordered.{added_of}

@@ -1,15 +1,9 @@
 -- `find_pivot` meets its contract.
-use Prim.Native.Nat.{◌-◌, ◌+◌, ◌<◌}
 use mathlib.Core.Path.{ap}
-use mathlib.Core.Logic.{⊎_elim}
 use native.Mathlib.Omega.{arith}
-use borrow.Author.Rules.{rules}
-use Rattle.words.proofs.Loops.{Ran, begun, turned, ended}
+use Rattle.words.proofs.Loops.{begun, turned, ended}
 use Rattle.words.proofs.Branch.{yes, no}
-use Rattle.words.specs.Grid.{at}
-use Rattle.scalar.specs.Order.{abs_of}
-use Rattle.matrix.specs.Elimination.{Best, best, better_at, pivot_row}
-use Rattle.matrix.specs.Lu.{real}
+use Rattle.matrix.specs.Elimination.{Best, better_at, pivot_row}
 use Rattle.matrix.proofs.elimination.find_pivot.Goals as goal
 use Rattle.matrix.proofs.elimination.find_pivot.Goals.{else-val-max_val, then-val-max_val}
 

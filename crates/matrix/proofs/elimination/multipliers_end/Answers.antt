@@ -1,8 +1,5 @@
 -- `multipliers_end` meets its contract.
 use native.Mathlib.Omega.{arith}
-use borrow.Author.Rules.{rules}
-use Rattle.matrix.specs.Lu.{real}
-use Rattle.matrix.specs.Reordered.{IdleFrom, added_of}
 use Rattle.matrix.proofs.Cells.{none-idle, more-idle}
 use Rattle.matrix.proofs.elimination.multipliers_end.Goals as goal
 

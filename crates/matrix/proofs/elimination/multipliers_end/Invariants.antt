@@ -1,9 +1,6 @@
 -- What each loop of `multipliers_end` keeps.
-use native.Mathlib.Omega.{arith}
-use borrow.Author.Rules.{rules}
 use Rattle.matrix.specs.Lu.{real}
 use Rattle.matrix.specs.Reordered.{IdleFrom, added_of}
-use Rattle.matrix.proofs.Cells.{none-idle, more-idle}
 use Rattle.matrix.proofs.elimination.multipliers_end.Given as goal
 
 abbrev pub invariant-loop-end : goal.invariant-loop-end

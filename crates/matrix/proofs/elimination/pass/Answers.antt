@@ -1,6 +1,4 @@
 -- `pass` meets its contract.
-use native.Mathlib.Omega.{arith}
-use borrow.Author.Rules.{rules}
 use Rattle.matrix.specs.Lu.{real, is_zero}
 use Rattle.matrix.proofs.Passes.{pivot-zero, pivot-used}
 use Rattle.matrix.proofs.elimination.pass.Goals as goal

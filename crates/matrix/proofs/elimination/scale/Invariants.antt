@@ -1,12 +1,9 @@
 -- What each loop of `scale` keeps.
-use Prim.Native.Nat.{◌-◌, ◌+◌}
-use mathlib.Core.Path.{refl}
-use native.Mathlib.Omega.{arith}
-use borrow.Author.Rules.{rules}
+use Prim.Native.Nat.{◌+◌}
 use Rattle.words.specs.Grid.{Square}
-use Rattle.words.proofs.Loops.{Ran, begun, turned, ended}
+use Rattle.words.proofs.Loops.{Ran}
 use Rattle.matrix.specs.Elimination.{scaled_at}
-use Rattle.matrix.specs.Lu.{real, multiplier}
+use Rattle.matrix.specs.Lu.{real}
 use Rattle.matrix.proofs.elimination.scale.Given as goal
 
 abbrev pub invariant-loop-i : goal.invariant-loop-i

@@ -1,12 +1,7 @@
 -- `swap_rows` meets its contract.
-use Prim.Native.Nat.{◌-◌, ◌+◌}
 use mathlib.Core.Path.{refl}
 use native.Mathlib.Omega.{arith}
-use borrow.Author.Rules.{rules}
-use Rattle.words.specs.Grid.{Square}
-use Rattle.words.proofs.Loops.{Ran, begun, turned, ended}
-use Rattle.matrix.specs.Elimination.{swapped}
-use Rattle.matrix.specs.Lu.{real}
+use Rattle.words.proofs.Loops.{begun, turned, ended}
 use Rattle.matrix.proofs.elimination.swap_rows.Goals as goal
 
 pub loop-j-init : goal.loop-j-init

@@ -1,10 +1,7 @@
 -- What each loop of `swap_rows` keeps.
-use Prim.Native.Nat.{◌-◌, ◌+◌}
-use mathlib.Core.Path.{refl}
-use native.Mathlib.Omega.{arith}
-use borrow.Author.Rules.{rules}
+use Prim.Native.Nat.{◌+◌}
 use Rattle.words.specs.Grid.{Square}
-use Rattle.words.proofs.Loops.{Ran, begun, turned, ended}
+use Rattle.words.proofs.Loops.{Ran}
 use Rattle.matrix.specs.Elimination.{swapped}
 use Rattle.matrix.specs.Lu.{real}
 use Rattle.matrix.proofs.elimination.swap_rows.Given as goal

@@ -1,14 +1,10 @@
 -- `update_row` meets its contract.
-use Prim.Native.Nat.{◌-◌, ◌+◌}
-use mathlib.Core.Path.{◌≡◌, refl, sym, ◌∙◌}
-use mathlib.Core.List.{List}
+use mathlib.Core.Path.{refl, sym, ◌∙◌}
 use native.Mathlib.Omega.{arith}
-use lib.Ieee.{Float}
-use borrow.Author.Rules.{rules}
-use Rattle.words.specs.Grid.{Square, at}
-use Rattle.words.proofs.Loops.{Ran, begun, turned, ended}
+use Rattle.words.specs.Grid.{Square}
+use Rattle.words.proofs.Loops.{begun, turned, ended}
 use Rattle.matrix.specs.Lu.{real}
-use Rattle.matrix.specs.Reordered.{added_of, cell_at}
+use Rattle.matrix.specs.Reordered.{added_of}
 use Rattle.matrix.proofs.Cells.{real-lawful}
 use Rattle.matrix.proofs.Rows.{row-turn, row-early}
 use Rattle.matrix.proofs.elimination.update_row.Goals as goal

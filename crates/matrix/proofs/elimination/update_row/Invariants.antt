@@ -1,16 +1,12 @@
 -- What each loop of `update_row` keeps.
-use Prim.Native.Nat.{◌-◌, ◌+◌}
-use mathlib.Core.Path.{◌≡◌, refl, sym, ◌∙◌}
+use Prim.Native.Nat.{◌+◌}
+use mathlib.Core.Path.{◌≡◌}
 use mathlib.Core.List.{List}
-use native.Mathlib.Omega.{arith}
 use lib.Ieee.{Float}
-use borrow.Author.Rules.{rules}
 use Rattle.words.specs.Grid.{Square, at}
-use Rattle.words.proofs.Loops.{Ran, begun, turned, ended}
+use Rattle.words.proofs.Loops.{Ran}
 use Rattle.matrix.specs.Lu.{real}
 use Rattle.matrix.specs.Reordered.{added_of, cell_at}
-use Rattle.matrix.proofs.Cells.{real-lawful}
-use Rattle.matrix.proofs.Rows.{row-turn, row-early}
 use Rattle.matrix.proofs.elimination.update_row.Given as goal
 
 abbrev pub invariant-loop-j : goal.invariant-loop-j

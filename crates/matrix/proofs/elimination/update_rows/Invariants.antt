@@ -1,16 +1,11 @@
 -- What each loop of `update_rows` keeps.
-use Prim.Native.Nat.{◌-◌, ◌+◌}
-use mathlib.Core.Path.{refl, sym, subst}
+use Prim.Native.Nat.{◌+◌}
 use mathlib.Core.List.{List}
-use native.Mathlib.Omega.{arith}
 use lib.Ieee.{Float}
-use borrow.Author.Rules.{rules}
 use Rattle.words.specs.Grid.{Square}
-use Rattle.words.proofs.Loops.{Ran, begun, turned, ended}
+use Rattle.words.proofs.Loops.{Ran}
 use Rattle.matrix.specs.Lu.{real}
 use Rattle.matrix.specs.Reordered.{IdleFrom, added_of, row_at}
-use Rattle.matrix.proofs.Cells.{real-lawful}
-use Rattle.matrix.proofs.Rows.{row-idle}
 use Rattle.matrix.proofs.elimination.update_rows.Given as goal
 
 abbrev pub invariant-loop-i : goal.invariant-loop-i

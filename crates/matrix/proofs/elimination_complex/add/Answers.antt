@@ -1,5 +1,4 @@
 -- `add` meets its contract.
-use borrow.Author.Rules.{rules}
 use Rattle.matrix.specs.LuComplex.{added_complex}
 use Rattle.matrix.proofs.elimination_complex.add.Goals as goal
 

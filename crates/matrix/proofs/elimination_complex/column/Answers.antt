@@ -1,7 +1,6 @@
 -- `column` meets its contract.
 use mathlib.Core.Path.{◌∙◌}
 use native.Mathlib.Omega.{arith}
-use borrow.Author.Rules.{rules}
 use Rattle.words.proofs.Branch.{yes, no}
 use Rattle.matrix.specs.Elimination.{column_at}
 use Rattle.matrix.proofs.Cases.{one-loop}

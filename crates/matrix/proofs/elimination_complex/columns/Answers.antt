@@ -1,13 +1,7 @@
 -- `columns` meets its contract.
-use Prim.Native.Nat.{◌-◌, ◌+◌}
 use mathlib.Core.Path.{refl}
 use native.Mathlib.Omega.{arith}
-use borrow.Author.Rules.{rules}
-use Rattle.words.specs.Grid.{Square}
-use Rattle.words.proofs.Loops.{Ran, begun, turned, ended}
-use Rattle.matrix.specs.Complex.{Parts, parts}
-use Rattle.matrix.specs.Elimination.{column_at}
-use Rattle.matrix.specs.LuComplex.{complex_kind}
+use Rattle.words.proofs.Loops.{begun, turned, ended}
 use Rattle.matrix.proofs.elimination_complex.columns.Goals as goal
 
 pub loop-j-init : goal.loop-j-init

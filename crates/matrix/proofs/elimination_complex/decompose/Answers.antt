@@ -1,5 +1,4 @@
 -- `decompose` meets its contract.
-use borrow.Author.Rules.{rules}
 use borrow.Author.Tests.{eq-eqb, ne_eqb}
 use Rattle.matrix.specs.LuComplex.{complex_kind, is_zero_complex}
 use Rattle.matrix.proofs.Passes.{one-zero, one-done, several}

@@ -1,5 +1,4 @@
 -- `eliminate` meets its contract.
-use borrow.Author.Rules.{rules}
 use Rattle.matrix.specs.Elimination.{eliminated}
 use Rattle.matrix.proofs.elimination_complex.eliminate.Goals as goal
 

@@ -1,14 +1,9 @@
 -- `find_pivot` meets its contract.
-use Prim.Native.Nat.{◌-◌, ◌+◌, ◌<◌}
 use mathlib.Core.Path.{ap}
-use mathlib.Core.Logic.{⊎_elim}
 use native.Mathlib.Omega.{arith}
-use borrow.Author.Rules.{rules}
-use Rattle.words.proofs.Loops.{Ran, begun, turned, ended}
+use Rattle.words.proofs.Loops.{begun, turned, ended}
 use Rattle.words.proofs.Branch.{yes, no}
-use Rattle.matrix.specs.Complex.{parts, at_complex, size_complex}
-use Rattle.matrix.specs.Elimination.{Best, best, better_at, pivot_row}
-use Rattle.matrix.specs.LuComplex.{complex_kind}
+use Rattle.matrix.specs.Elimination.{Best, better_at, pivot_row}
 use Rattle.matrix.proofs.elimination_complex.find_pivot.Goals as goal
 use Rattle.matrix.proofs.elimination_complex.find_pivot.Goals.{else-val-max_val, then-val-max_val}
 

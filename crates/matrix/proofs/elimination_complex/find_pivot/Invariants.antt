@@ -1,13 +1,8 @@
 -- What each loop of `find_pivot` keeps.
-use Prim.Native.Nat.{◌-◌, ◌+◌, ◌<◌}
-use mathlib.Core.Path.{ap}
-use mathlib.Core.Logic.{⊎_elim}
-use native.Mathlib.Omega.{arith}
-use borrow.Author.Rules.{rules}
-use Rattle.words.proofs.Loops.{Ran, begun, turned, ended}
-use Rattle.words.proofs.Branch.{yes, no}
+use Prim.Native.Nat.{◌+◌, ◌<◌}
+use Rattle.words.proofs.Loops.{Ran}
 use Rattle.matrix.specs.Complex.{parts, at_complex, size_complex}
-use Rattle.matrix.specs.Elimination.{Best, best, better_at, pivot_row}
+use Rattle.matrix.specs.Elimination.{Best, best, better_at}
 use Rattle.matrix.specs.LuComplex.{complex_kind}
 use Rattle.matrix.proofs.elimination_complex.find_pivot.Given as goal
 

@@ -1,6 +1,5 @@
 -- `multiplied` meets its contract.
 use mathlib.Core.Path.{refl}
-use borrow.Author.Rules.{rules}
 use Rattle.words.proofs.Branch.{yes, no}
 use Rattle.matrix.specs.Reordered.{multiplied_of}
 use Rattle.matrix.proofs.elimination_complex.multiplied.Goals as goal

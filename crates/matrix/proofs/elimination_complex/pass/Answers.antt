@@ -1,6 +1,4 @@
 -- `pass` meets its contract.
-use native.Mathlib.Omega.{arith}
-use borrow.Author.Rules.{rules}
 use Rattle.matrix.specs.LuComplex.{complex_kind, is_zero_complex}
 use Rattle.matrix.proofs.Passes.{pivot-zero, pivot-used}
 use Rattle.matrix.proofs.elimination_complex.pass.Goals as goal

@@ -1,15 +1,8 @@
 -- `passes` meets its contract.
-use Prim.Native.Nat.{◌-◌}
-use mathlib.Core.Path.{◌≡◌, refl}
+use mathlib.Core.Path.{refl}
 use native.Mathlib.Omega.{arith}
-use lib.ListN.{length}
-use borrow.Author.Rules.{rules}
 use borrow.Author.Tests.{not-true, not-false}
-use Rattle.words.specs.Grid.{Square}
-use Rattle.words.proofs.Loops.{Ran, begun, turned, ended, stopped}
-use Rattle.matrix.specs.Answers.{nowhere}
-use Rattle.matrix.specs.Complex.{Parts, parts}
-use Rattle.matrix.specs.Elimination.{Work, work, pass_at}
+use Rattle.words.proofs.Loops.{begun, turned, ended, stopped}
 use Rattle.matrix.specs.LuComplex.{complex_kind, is_zero_complex}
 use Rattle.matrix.proofs.Passes.{went_on, stopped-at, still, ends-within, ends-zero, ends-done}
 use Rattle.matrix.proofs.elimination_complex.passes.Goals as goal

@@ -1,17 +1,12 @@
 -- What each loop of `passes` keeps.
-use Prim.Native.Nat.{◌-◌}
-use mathlib.Core.Path.{◌≡◌, refl}
-use native.Mathlib.Omega.{arith}
+use mathlib.Core.Path.{◌≡◌}
 use lib.ListN.{length}
-use borrow.Author.Rules.{rules}
-use borrow.Author.Tests.{not-true, not-false}
 use Rattle.words.specs.Grid.{Square}
-use Rattle.words.proofs.Loops.{Ran, begun, turned, ended, stopped}
+use Rattle.words.proofs.Loops.{Ran}
 use Rattle.matrix.specs.Answers.{nowhere}
 use Rattle.matrix.specs.Complex.{Parts, parts}
 use Rattle.matrix.specs.Elimination.{Work, work, pass_at}
-use Rattle.matrix.specs.LuComplex.{complex_kind, is_zero_complex}
-use Rattle.matrix.proofs.Passes.{went_on, stopped-at, still, ends-within, ends-zero, ends-done}
+use Rattle.matrix.specs.LuComplex.{complex_kind}
 use Rattle.matrix.proofs.elimination_complex.passes.Given as goal
 
 abbrev pub invariant-loop-k : goal.invariant-loop-k

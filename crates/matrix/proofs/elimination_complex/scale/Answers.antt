@@ -1,13 +1,9 @@
 -- `scale` meets its contract.
-use Prim.Native.Nat.{◌-◌, ◌+◌}
 use mathlib.Core.Path.{refl}
 use native.Mathlib.Omega.{arith}
-use borrow.Author.Rules.{rules}
-use Rattle.words.specs.Grid.{Square}
-use Rattle.words.proofs.Loops.{Ran, begun, turned, ended}
-use Rattle.matrix.specs.Complex.{Parts, parts}
+use Rattle.words.proofs.Loops.{begun, turned, ended}
 use Rattle.matrix.specs.Elimination.{scaled_at}
-use Rattle.matrix.specs.LuComplex.{complex_kind, multiplier_complex}
+use Rattle.matrix.specs.LuComplex.{multiplier_complex}
 use Rattle.matrix.proofs.elimination_complex.scale.Goals as goal
 
 pub loop-i-init : goal.loop-i-init

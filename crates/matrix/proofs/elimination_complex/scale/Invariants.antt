@@ -1,13 +1,10 @@
 -- What each loop of `scale` keeps.
-use Prim.Native.Nat.{◌-◌, ◌+◌}
-use mathlib.Core.Path.{refl}
-use native.Mathlib.Omega.{arith}
-use borrow.Author.Rules.{rules}
+use Prim.Native.Nat.{◌+◌}
 use Rattle.words.specs.Grid.{Square}
-use Rattle.words.proofs.Loops.{Ran, begun, turned, ended}
+use Rattle.words.proofs.Loops.{Ran}
 use Rattle.matrix.specs.Complex.{Parts, parts}
 use Rattle.matrix.specs.Elimination.{scaled_at}
-use Rattle.matrix.specs.LuComplex.{complex_kind, multiplier_complex}
+use Rattle.matrix.specs.LuComplex.{complex_kind}
 use Rattle.matrix.proofs.elimination_complex.scale.Given as goal
 
 abbrev pub invariant-loop-i : goal.invariant-loop-i

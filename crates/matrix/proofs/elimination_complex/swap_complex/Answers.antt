@@ -1,5 +1,4 @@
 -- `swap_complex` meets its contract.
-use borrow.Author.Rules.{rules}
 use Rattle.matrix.proofs.Parts.{swapped-parts}
 use Rattle.matrix.proofs.elimination_complex.swap_complex.Goals as goal
 

@@ -1,11 +1,7 @@
 -- `update` meets its contract.
-use Prim.Native.Nat.{◌-◌, ◌+◌}
 use mathlib.Core.Path.{refl}
 use native.Mathlib.Omega.{arith}
-use borrow.Author.Rules.{rules}
-use Rattle.words.specs.Grid.{Square}
-use Rattle.words.proofs.Loops.{Ran, begun, turned, ended}
-use Rattle.matrix.specs.Complex.{Parts, parts}
+use Rattle.words.proofs.Loops.{begun, turned, ended}
 use Rattle.matrix.specs.Reordered.{multiplied_at}
 use Rattle.matrix.proofs.elimination_complex.update.Goals as goal
 

@@ -1,10 +1,7 @@
 -- What each loop of `update` keeps.
-use Prim.Native.Nat.{◌-◌, ◌+◌}
-use mathlib.Core.Path.{refl}
-use native.Mathlib.Omega.{arith}
-use borrow.Author.Rules.{rules}
+use Prim.Native.Nat.{◌+◌}
 use Rattle.words.specs.Grid.{Square}
-use Rattle.words.proofs.Loops.{Ran, begun, turned, ended}
+use Rattle.words.proofs.Loops.{Ran}
 use Rattle.matrix.specs.Complex.{Parts, parts}
 use Rattle.matrix.specs.Reordered.{multiplied_at}
 use Rattle.matrix.proofs.elimination_complex.update.Given as goal

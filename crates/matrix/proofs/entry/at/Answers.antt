@@ -16,3 +16,7 @@ offset_bounds-a-i c = let x = c.args in omega (arith, cell x.n x.i x.k (omega ar
 
 pub bounds-a-i : goal.bounds-a-i
 bounds-a-i c = let x = c.args in omega (arith, cell x.n x.i x.k (omega arith) (omega arith) (omega arith))
+
+pub returns : goal.returns
+unfolding at
+returns c = refl

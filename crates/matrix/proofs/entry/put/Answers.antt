@@ -1,7 +1,6 @@
 -- `put` meets its contract.
 use mathlib.Core.Path.{refl}
 use native.Mathlib.Omega.{arith}
-use borrow.Author.Rules.{rules}
 use Rattle.words.proofs.Grid.{cell}
 use Rattle.words.specs.Grid.{put}
 use Rattle.matrix.proofs.entry.put.Goals as goal
@@ -17,3 +16,7 @@ offset_bounds-a-i c = let y = c.args in omega (arith, cell y.n y.i y.k (omega ar
 
 pub bounds-a-i : goal.bounds-a-i
 bounds-a-i c = let y = c.args in omega (arith, cell y.n y.i y.k (omega arith) (omega arith) (omega arith))
+
+pub returns : goal.returns
+unfolding put
+returns c = refl

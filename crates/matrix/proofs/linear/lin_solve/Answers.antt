@@ -1,7 +1,6 @@
 -- `lin_solve` meets its contract.
 use mathlib.Core.Path.{refl, sym, ◌∙◌}
 use native.Mathlib.Omega.{arith}
-use borrow.Author.Rules.{rules}
 use Rattle.words.proofs.Branch.{yes, no}
 use Rattle.state.proofs.Pivots.{all-rows}
 use Rattle.matrix.specs.Linear.{lin_solve_of}

@@ -1,7 +1,6 @@
 -- `lu_decomp` meets its contract.
 use mathlib.Core.Path.{refl}
 use native.Mathlib.Omega.{arith}
-use borrow.Author.Rules.{rules}
 use Rattle.words.proofs.Branch.{yes, no}
 use Rattle.matrix.specs.Lu.{lu_decomp_of}
 use Rattle.matrix.proofs.Sizes.{order, factors}

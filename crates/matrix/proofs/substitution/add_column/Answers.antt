@@ -1,14 +1,10 @@
 -- `add_column` meets its contract. Entry k, which no turn writes, is x all along.
-use Prim.Native.Nat.{◌-◌, ◌+◌}
-use mathlib.Core.Path.{◌≡◌, refl, ◌∙◌}
-use mathlib.Core.List.{List}
+use mathlib.Core.Path.{refl, ◌∙◌}
 use native.Mathlib.Omega.{arith}
 use lib.ListN.{length-set}
-use borrow.Author.Rules.{rules}
 use lib.Seq.{get_or-set_other}
-use lib.Ieee.{Float, nan}
-use Rattle.words.specs.Words.{◌!◌}
-use Rattle.words.proofs.Loops.{Ran, begun, turned, ended, Long}
+use lib.Ieee.{nan}
+use Rattle.words.proofs.Loops.{begun, turned, ended}
 use Rattle.matrix.specs.Linear.{add_at}
 use Rattle.matrix.proofs.substitution.add_column.Goals as goal
 

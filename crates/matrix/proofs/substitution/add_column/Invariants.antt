@@ -1,14 +1,10 @@
 -- What each loop of `add_column` keeps.
-use Prim.Native.Nat.{◌-◌, ◌+◌}
-use mathlib.Core.Path.{◌≡◌, refl, ◌∙◌}
+use Prim.Native.Nat.{◌+◌}
+use mathlib.Core.Path.{◌≡◌}
 use mathlib.Core.List.{List}
-use native.Mathlib.Omega.{arith}
-use lib.ListN.{length-set}
-use borrow.Author.Rules.{rules}
-use lib.Seq.{get_or-set_other}
-use lib.Ieee.{Float, nan}
+use lib.Ieee.{Float}
 use Rattle.words.specs.Words.{◌!◌}
-use Rattle.words.proofs.Loops.{Ran, begun, turned, ended, Long}
+use Rattle.words.proofs.Loops.{Ran, Long}
 use Rattle.matrix.specs.Linear.{add_at}
 use Rattle.matrix.proofs.substitution.add_column.Given as goal
 

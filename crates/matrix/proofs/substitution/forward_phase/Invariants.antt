@@ -1,9 +1,5 @@
 -- What each loop of `forward_phase` keeps.
-use Prim.Native.Nat.{◌-◌}
-use mathlib.Core.Path.{refl}
-use native.Mathlib.Omega.{arith}
-use borrow.Author.Rules.{rules}
-use Rattle.words.proofs.Loops.{Ran, begun, turned, ended, Long}
+use Rattle.words.proofs.Loops.{Ran, Long}
 use Rattle.matrix.specs.Substitution.{forward_at}
 use Rattle.matrix.specs.Linear.{real_side}
 use Rattle.matrix.proofs.substitution.forward_phase.Given as goal

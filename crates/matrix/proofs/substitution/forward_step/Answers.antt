@@ -1,5 +1,4 @@
 -- `forward_step` meets its contract.
-use borrow.Author.Rules.{rules}
 use Rattle.matrix.specs.Linear.{forward}
 use Rattle.matrix.proofs.substitution.forward_step.Goals as goal
 

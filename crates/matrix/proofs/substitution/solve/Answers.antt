@@ -1,6 +1,5 @@
 -- `solve` meets its contract.
 use native.Mathlib.Omega.{arith}
-use borrow.Author.Rules.{rules}
 use Rattle.matrix.proofs.Sides.{real-lawful}
 use Rattle.matrix.proofs.Backward.{solved-by}
 use Rattle.matrix.proofs.substitution.solve.Goals as goal

@@ -1,11 +1,8 @@
 -- `solve_row` meets its contract.
-use Prim.Native.Nat.{◌-◌}
 use mathlib.Core.Path.{refl}
 use native.Mathlib.Omega.{arith}
-use borrow.Author.Rules.{rules}
-use Rattle.words.proofs.Loops.{Ran, begun, turned, ended, Any}
-use Rattle.words.specs.Words.{◌!◌}
-use Rattle.matrix.specs.Reordered.{real_entries, sum_at, row_solved_at}
+use Rattle.words.proofs.Loops.{begun, turned, ended}
+use Rattle.matrix.specs.Reordered.{sum_at, row_solved_at}
 use Rattle.matrix.proofs.substitution.solve_row.Goals as goal
 
 pub loop-kb-init : goal.loop-kb-init

@@ -1,11 +1,7 @@
 -- What each loop of `solve_row` keeps.
-use Prim.Native.Nat.{◌-◌}
-use mathlib.Core.Path.{refl}
-use native.Mathlib.Omega.{arith}
-use borrow.Author.Rules.{rules}
-use Rattle.words.proofs.Loops.{Ran, begun, turned, ended, Any}
+use Rattle.words.proofs.Loops.{Ran, Any}
 use Rattle.words.specs.Words.{◌!◌}
-use Rattle.matrix.specs.Reordered.{real_entries, sum_at, row_solved_at}
+use Rattle.matrix.specs.Reordered.{real_entries, sum_at}
 use Rattle.matrix.proofs.substitution.solve_row.Given as goal
 
 abbrev pub invariant-loop-kb : goal.invariant-loop-kb

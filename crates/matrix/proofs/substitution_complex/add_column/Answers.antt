@@ -1,11 +1,7 @@
 -- `add_column` meets its contract.
-use Prim.Native.Nat.{◌+◌, ◌-◌}
 use mathlib.Core.Path.{refl}
 use native.Mathlib.Omega.{arith}
-use borrow.Author.Rules.{rules}
-use Rattle.words.proofs.Loops.{Ran, begun, turned, ended, Long}
-use Rattle.matrix.specs.Complex.{Parts, parts}
-use Rattle.matrix.specs.LinearComplex.{add_complex_at}
+use Rattle.words.proofs.Loops.{begun, turned, ended}
 use Rattle.matrix.proofs.substitution_complex.add_column.Goals as goal
 
 pub loop-i-init : goal.loop-i-init

@@ -1,9 +1,6 @@
 -- What each loop of `add_column` keeps.
-use Prim.Native.Nat.{◌+◌, ◌-◌}
-use mathlib.Core.Path.{refl}
-use native.Mathlib.Omega.{arith}
-use borrow.Author.Rules.{rules}
-use Rattle.words.proofs.Loops.{Ran, begun, turned, ended, Long}
+use Prim.Native.Nat.{◌+◌}
+use Rattle.words.proofs.Loops.{Ran, Long}
 use Rattle.matrix.specs.Complex.{Parts, parts}
 use Rattle.matrix.specs.LinearComplex.{add_complex_at}
 use Rattle.matrix.proofs.substitution_complex.add_column.Given as goal

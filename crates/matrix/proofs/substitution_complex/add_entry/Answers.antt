@@ -1,5 +1,4 @@
 -- `add_entry` meets its contract.
-use borrow.Author.Rules.{rules}
 use Rattle.matrix.specs.LinearComplex.{add_complex_at}
 use Rattle.matrix.proofs.substitution_complex.add_entry.Goals as goal
 

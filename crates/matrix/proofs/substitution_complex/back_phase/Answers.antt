@@ -1,11 +1,7 @@
 -- `back_phase` meets its contract.
-use Prim.Native.Nat.{◌-◌}
 use mathlib.Core.Path.{refl}
 use native.Mathlib.Omega.{arith}
-use borrow.Author.Rules.{rules}
-use Rattle.words.proofs.Loops.{Ran, begun, turned, ended, Long}
-use Rattle.matrix.specs.Complex.{Parts, parts}
-use Rattle.matrix.specs.Reordered.{complex_entries, row_solved_at}
+use Rattle.words.proofs.Loops.{begun, turned, ended}
 use Rattle.matrix.proofs.substitution_complex.back_phase.Goals as goal
 
 pub loop-ib-init : goal.loop-ib-init

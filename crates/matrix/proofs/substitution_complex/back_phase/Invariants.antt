@@ -1,9 +1,5 @@
 -- What each loop of `back_phase` keeps.
-use Prim.Native.Nat.{◌-◌}
-use mathlib.Core.Path.{refl}
-use native.Mathlib.Omega.{arith}
-use borrow.Author.Rules.{rules}
-use Rattle.words.proofs.Loops.{Ran, begun, turned, ended, Long}
+use Rattle.words.proofs.Loops.{Ran, Long}
 use Rattle.matrix.specs.Complex.{Parts, parts}
 use Rattle.matrix.specs.Reordered.{complex_entries, row_solved_at}
 use Rattle.matrix.proofs.substitution_complex.back_phase.Given as goal

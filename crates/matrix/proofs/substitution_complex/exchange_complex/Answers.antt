@@ -1,5 +1,4 @@
 -- `exchange_complex` meets its contract.
-use borrow.Author.Rules.{rules}
 use Rattle.matrix.specs.Complex.{entry_complex, set_complex}
 use Rattle.matrix.specs.Substitution.{exchanged}
 use Rattle.matrix.proofs.substitution_complex.exchange_complex.Goals as goal

@@ -1,12 +1,9 @@
 -- `forward_phase` meets its contract.
-use Prim.Native.Nat.{◌-◌}
 use mathlib.Core.Path.{refl}
 use native.Mathlib.Omega.{arith}
 use borrow.Author.Rules.{rules}
-use Rattle.words.proofs.Loops.{Ran, begun, turned, ended, Long}
-use Rattle.matrix.specs.Complex.{Parts, parts}
+use Rattle.words.proofs.Loops.{begun, turned, ended}
 use Rattle.matrix.specs.Substitution.{forward_at}
-use Rattle.matrix.specs.LinearComplex.{complex_side}
 use Rattle.matrix.proofs.substitution_complex.forward_phase.Goals as goal
 
 pub loop-k-init : goal.loop-k-init

@@ -1,5 +1,4 @@
 -- `forward_step` meets its contract.
-use borrow.Author.Rules.{rules}
 use Rattle.matrix.specs.LinearComplex.{forward_complex}
 use Rattle.matrix.proofs.substitution_complex.forward_step.Goals as goal
 

@@ -1,6 +1,5 @@
 -- `solve` meets its contract.
 use native.Mathlib.Omega.{arith}
-use borrow.Author.Rules.{rules}
 use Rattle.matrix.proofs.Sides.{complex-lawful}
 use Rattle.matrix.proofs.Backward.{solved-by}
 use Rattle.matrix.proofs.substitution_complex.solve.Goals as goal

@@ -1,10 +1,7 @@
 -- `solve_row` meets its contract.
-use Prim.Native.Nat.{◌-◌}
 use native.Mathlib.Omega.{arith}
-use borrow.Author.Rules.{rules}
-use Rattle.words.proofs.Loops.{Ran, begun, turned, ended, Any}
-use Rattle.matrix.specs.Complex.{parts, entry_complex}
-use Rattle.matrix.specs.Reordered.{complex_entries, sum_at, row_solved_at}
+use Rattle.words.proofs.Loops.{begun, turned, ended}
+use Rattle.matrix.specs.Reordered.{sum_at, row_solved_at}
 use Rattle.matrix.proofs.substitution_complex.solve_row.Goals as goal
 
 pub loop-kb-init : goal.loop-kb-init

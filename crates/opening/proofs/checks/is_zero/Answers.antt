@@ -6,3 +6,7 @@ use Rattle.opening.proofs.checks.is_zero.Goals as goal
 pub returns-in-Given : goal.returns-in-Given
 unfolding given_zero
 returns-in-Given c = cc
+
+pub returns-in-Absent : goal.returns-in-Absent
+unfolding given_zero
+returns-in-Absent c = search rules

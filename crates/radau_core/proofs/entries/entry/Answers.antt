@@ -16,3 +16,7 @@ offset_bounds-a-r c = let x = c.args in omega (arith, cell x.n x.r x.c (omega ar
 
 pub bounds-a-r : goal.bounds-a-r
 bounds-a-r c = let x = c.args in omega (arith, cell x.n x.r x.c (omega arith) (omega arith) (omega arith))
+
+pub returns : goal.returns
+unfolding at
+returns c = refl

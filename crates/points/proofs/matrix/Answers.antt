@@ -1,0 +1,9 @@
+-- `matrix` meets its contract.
+use lib.Ieee.{of_bits}
+use borrow.Author.Rules.{rules}
+use Rattle.state.specs.Memory.{zeros}
+use Rattle.points.proofs.matrix.Goals as goal
+
+pub returns : goal.returns
+unfolding of_bits zeros
+returns c = search rules

@@ -1,0 +1,8 @@
+-- `pivots` meets its contract.
+use borrow.Author.Rules.{rules}
+use Rattle.state.specs.Memory.{noughts}
+use Rattle.points.proofs.pivots.Goals as goal
+
+pub returns : goal.returns
+unfolding noughts
+returns c = search rules
