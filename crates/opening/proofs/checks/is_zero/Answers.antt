@@ -10,7 +10,3 @@ returns-in-Absent c = cc
 pub returns-in-Given : goal.returns-in-Given
 unfolding given_zero
 returns-in-Given c = cc
-
-pub returns-in-Absent : goal.returns-in-Absent
-unfolding given_zero
-returns-in-Absent c = search rules

@@ -1,9 +1,5 @@
 -- `left_of` meets its contract.
 use native.Mathlib.Omega.{arith}
-<<<<<<< HEAD
-use borrow.Author.Rules.{rules}
-=======
->>>>>>> bd19a842a91abf134ebb0c2df3e3d6b4735f4408
 use Rattle.opening.specs.Opening.{nind1_of}
 use Rattle.opening.proofs.first.left_of.Goals as goal
 
