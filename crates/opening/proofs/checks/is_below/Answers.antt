@@ -1,5 +1,4 @@
 -- `is_below` meets its contract.
-use mathlib.Core.Path.{refl}
 use Rattle.opening.specs.Rows.{given_below}
 use Rattle.opening.proofs.checks.is_below.Goals as goal
 

@@ -1,5 +1,4 @@
 -- `is_zero` meets its contract.
-use mathlib.Core.Path.{refl}
 use Rattle.opening.specs.Rows.{given_zero}
 use Rattle.opening.proofs.checks.is_zero.Goals as goal
 
