@@ -1,6 +1,5 @@
 -- `advanced` meets its contract: a reply, the matrices and the next call.
-use mathlib.Core.Path.{◌≡◌, refl, sym, ap, ◌∙◌}
-use borrow.Author.Rules.{rules}
+use mathlib.Core.Path.{ap, ◌∙◌}
 use Rattle.state.specs.declared.run.Run.{Run}
 use Rattle.state.specs.Memory.{Memory, memory, amounts, Newton, newton, given}
 use Rattle.state.specs.Memory.{Factors, factors, Differences, differences}

@@ -1,6 +1,5 @@
 -- `called` meets its contract, by the four steps past the matrices.
 use mathlib.Core.Path.{ap}
-use borrow.Author.Rules.{rules}
 use Rattle.state.specs.declared.run.Run.{Run}
 use Rattle.state.specs.Memory.{memory, amounts, newton, differences}
 use Rattle.solve_blocks.proofs.AdvanceLaws.{called-asked, called-main, called-matrices, called-attempt}

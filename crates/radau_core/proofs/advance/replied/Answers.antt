@@ -1,9 +1,8 @@
 -- `replied` meets its contract, stage by stage.
 use Prim.Native.Nat.{ℕ, ◌*◌}
-use mathlib.Core.Path.{◌≡◌, refl, sym, ◌∙◌}
+use mathlib.Core.Path.{◌≡◌, sym, ◌∙◌}
 use native.Mathlib.Omega.{arith}
 use lib.ListN.{length}
-use borrow.Author.Rules.{rules}
 use Rattle.state.specs.declared.run.Run.{Run}
 use Rattle.state.specs.declared.run.Stage.TheVariants.{FirstDerivativeAgain}
 use Rattle.state.specs.Memory.{Memory, memory, amounts, Newton, newton, given}
@@ -243,8 +242,7 @@ returns-in-2 c =
     let part_at : ℕ = c.args.words.now # 1 in
     let a = c.args in record {
       sized_2 = c.requires.sized;
-      f_origin_after = first-again run-at c.args.reply memory-at _ (place.at-first-derivative-again (part_at
-          c) c.in-2.is)
+      f_origin_after = first-again run-at c.args.reply memory-at _ (place.at-first-derivative-again part_at c.in-2.is)
           (c.started-in-2.ensures a.f0.now a.cont.now a.mass.now a.jac.now
           newton-at factors-at differences-at);
     }
@@ -265,8 +263,7 @@ returns-in-3 c =
     let part_at : ℕ = c.args.words.now # 1 in
     record {
       sized_2 = c.requires.sized;
-      f_origin_after = jacobian-made run-at c.args.reply memory-at (place.at-jacobian (part_at
-          c) c.in-3.is);
+      f_origin_after = jacobian-made run-at c.args.reply memory-at (place.at-jacobian part_at c.in-3.is);
     }
 
 pub returns-in-4 : goal.returns-in-4
@@ -372,14 +369,12 @@ returns-in-8 c =
     factors-at
     differences-at in
     let part_at : ℕ = c.args.words.now # 1 in
-    let at-match = c
-    in
-    let start = at-match.before.before.before.before.before.before.before.before.before.before.before.before.before.before.before.before.before.before.before.before.before.before.before.before in record {
+    record {
       sized_2 = c.refined.ensures.sized_2;
-      f_origin_after = refinement run-at start.args.reply memory-at (step_at c.refined.result (run_at
+      f_origin_after = refinement run-at c.args.reply memory-at (step_at c.refined.result (run_at
           c.refined.new.words c.refined.new.doubles))
           c.refined.new.y c.refined.new.cont
-          (place.at-refinement part_at at-match.match.keys8) (c.refined.ensures.cont_after start.args.f3.now);
+          (place.at-refinement part_at c.in-8.is) (c.refined.ensures.cont_after c.args.f3.now);
     }
 
 pub returns-in-9 : goal.returns-in-9
@@ -482,8 +477,8 @@ returns-in_default c =
       sized_2 = c.ask_first_report.ensures.sized;
       f_origin_after = first-derivative run-at c.args.reply memory-at (call_at c.ask_first_report.result
           (run_at c.ask_first_report.new.words c.ask_first_report.new.doubles))
-          (place.at-first-derivative part_at c.in_default.rest.0.0.0.0.0.0.0.0.0.0.0.1
-          c.in_default.rest.0.0.0.0.0.0.0.0.0.0.1 c.in_default.rest.0.0.0.0.0.0.0.0.0.1 c.in_default.rest.0.0.0.0.0.0.0.0.1 c.in_default.rest.0.0.0.0.0.0.0.1
-          c.in_default.rest.0.0.0.0.0.0.1 c.in_default.rest.0.0.0.0.0.1 c.in_default.rest.0.0.0.0.1 c.in_default.rest.0.0.0.1 c.in_default.rest.0.0.1 c.in_default.rest.0.1 c.in_default.rest.1)
+          (place.at-first-derivative part_at (omega arith)
+          (omega arith) (omega arith) (omega arith) (omega arith)
+          (omega arith) (omega arith) (omega arith) (omega arith) (omega arith) (omega arith) (omega arith))
           c.ask_first_report.ensures.doubles_after;
     }

@@ -1,10 +1,5 @@
 -- What each loop of `guess_from` keeps.
-use Prim.Native.Nat.{◌-◌}
-use mathlib.Core.Path.{refl}
-use native.Mathlib.Omega.{arith}
-use lib.ListN.{length-set}
-use borrow.Author.Rules.{rules}
-use Rattle.words.proofs.Loops.{Ran, begun, turned, ended}
+use Rattle.words.proofs.Loops.{Ran}
 use Rattle.state.specs.Memory.{newton}
 use Rattle.solve_blocks.specs.Attempt.{guess_at}
 use Rattle.solve_blocks.specs.Needs.{NewtonLong}

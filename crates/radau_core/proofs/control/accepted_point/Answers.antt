@@ -1,7 +1,6 @@
 -- `accepted_point` meets its contract.
 use mathlib.Core.Path.{ap, ◌∙◌}
 use lib.ListN.{length-set}
-use borrow.Author.Rules.{rules}
 use Rattle.solve_blocks.specs.Judge.{strode}
 use Rattle.radau_core.proofs.PlaceLaws.{words-at, doubles-at, resized}
 use Rattle.radau_core.proofs.control.accepted_point.Goals as goal

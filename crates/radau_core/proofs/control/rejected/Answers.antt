@@ -1,7 +1,6 @@
 -- `rejected` meets its contract.
 use mathlib.Core.Path.{refl}
 use lib.ListN.{length-set}
-use borrow.Author.Rules.{rules}
 use Rattle.words.proofs.Branch.{yes, no}
 use Rattle.solve_blocks.specs.Judge.{rejected_of}
 use Rattle.radau_core.proofs.PlaceLaws.{words-at, doubles-at, resized, flag-set, flag-clear}

@@ -1,9 +1,5 @@
 -- What each loop of `identity_sides` keeps.
-use Prim.Native.Nat.{◌-◌}
-use mathlib.Core.Path.{refl}
-use native.Mathlib.Omega.{arith}
-use lib.ListN.{length-set}
-use Rattle.words.proofs.Loops.{Ran, begun, turned, ended}
+use Rattle.words.proofs.Loops.{Ran}
 use Rattle.solve_blocks.specs.Estimate.{Sides, sides}
 use Rattle.solve_blocks.specs.Reordered.{identity_side_at}
 use Rattle.solve_blocks.proofs.JudgeLaws.{Both}

@@ -1,11 +1,6 @@
 -- What each loop of `literal_sides` keeps.
-use Prim.Native.Nat.{◌-◌}
-use mathlib.Core.Path.{refl}
-use native.Mathlib.Omega.{arith}
-use lib.ListN.{length-set}
-use borrow.Author.Rules.{rules}
-use Rattle.words.proofs.Loops.{Ran, begun, turned, ended}
-use Rattle.solve_blocks.specs.Estimate.{Sides, sides, side_at, sides_of}
+use Rattle.words.proofs.Loops.{Ran}
+use Rattle.solve_blocks.specs.Estimate.{Sides, sides, side_at}
 use Rattle.solve_blocks.proofs.JudgeLaws.{Both}
 use Rattle.radau_core.proofs.estimate.literal_sides.Given as goal
 

@@ -1,10 +1,6 @@
 -- What each loop of `fill_column` keeps.
-use Prim.Native.Nat.{◌-◌}
-use mathlib.Core.Path.{refl}
-use native.Mathlib.Omega.{arith}
-use borrow.Author.Rules.{rules}
 use Rattle.words.specs.Grid.{Square}
-use Rattle.words.proofs.Loops.{Ran, begun, turned, ended}
+use Rattle.words.proofs.Loops.{Ran}
 use Rattle.solve_blocks.specs.Jacobian.{column_at}
 use Rattle.radau_core.proofs.jacobian.fill_column.Given as goal
 

@@ -1,11 +1,7 @@
 -- What each loop of `moved` keeps.
-use Prim.Native.Nat.{◌-◌}
-use mathlib.Core.Path.{refl}
-use native.Mathlib.Omega.{arith}
-use lib.ListN.{length-set}
-use Rattle.words.proofs.Loops.{Ran, begun, turned, ended}
+use Rattle.words.proofs.Loops.{Ran}
 use Rattle.solve_blocks.specs.Entries.{three}
-use Rattle.solve_blocks.specs.Judge.{Moved, moved, move_at, moved_of}
+use Rattle.solve_blocks.specs.Judge.{Moved, moved, move_at}
 use Rattle.solve_blocks.proofs.JudgeLaws.{Both}
 use Rattle.radau_core.proofs.judge.moved.Given as goal
 

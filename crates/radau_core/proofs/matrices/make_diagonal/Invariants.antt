@@ -1,9 +1,5 @@
 -- What each loop of `make_diagonal` keeps.
-use Prim.Native.Nat.{◌-◌}
-use mathlib.Core.Path.{refl}
-use native.Mathlib.Omega.{arith}
-use Rattle.words.proofs.Loops.{Ran, begun, turned, ended}
-use Rattle.words.proofs.Grid.{cell}
+use Rattle.words.proofs.Loops.{Ran}
 use Rattle.solve_blocks.specs.Entries.{three}
 use Rattle.solve_blocks.specs.Reordered.{diagonal_at}
 use Rattle.solve_blocks.proofs.MatrixLaws.{Squares}

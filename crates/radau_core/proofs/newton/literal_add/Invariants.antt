@@ -1,9 +1,5 @@
 -- What each loop of `literal_add` keeps.
-use Prim.Native.Nat.{◌-◌}
-use mathlib.Core.Path.{refl}
-use native.Mathlib.Omega.{arith}
-use borrow.Author.Rules.{rules}
-use Rattle.words.proofs.Loops.{Ran, begun, turned, ended}
+use Rattle.words.proofs.Loops.{Ran}
 use Rattle.solve_blocks.specs.Entries.{three}
 use Rattle.solve_blocks.specs.Newton.{mass_add_at}
 use Rattle.solve_blocks.proofs.ThreeLaws.{ThreeLong}

@@ -1,11 +1,7 @@
 -- What each loop of `mass_sums` keeps.
-use Prim.Native.Nat.{◌-◌}
-use mathlib.Core.Path.{refl}
-use native.Mathlib.Omega.{arith}
-use borrow.Author.Rules.{rules}
-use Rattle.words.proofs.Loops.{Ran, Any, begun, turned, ended}
+use Rattle.words.proofs.Loops.{Ran, Any}
 use Rattle.solve_blocks.specs.Entries.{three}
-use Rattle.solve_blocks.specs.Newton.{sums, mass_sum_at, mass_sums}
+use Rattle.solve_blocks.specs.Newton.{sums, mass_sum_at}
 use Rattle.radau_core.proofs.newton.mass_sums.Given as goal
 
 abbrev pub invariant-loop-j : goal.invariant-loop-j

@@ -1,7 +1,6 @@
 -- `complex_tried` meets its contract: a failure, or E2 decomposed.
 use Prim.Native.Nat.{◌≤◌}
 use mathlib.Core.Path.{sym, subst}
-use borrow.Author.Rules.{rules}
 use Rattle.state.specs.declared.run.Run.{Run}
 use Rattle.state.specs.Memory.{factors}
 use Rattle.solve_blocks.proofs.PassLaws.{complex-failed, complex-done}

@@ -1,8 +1,7 @@
 -- `failed` meets its contract: the sixth failure ends the run, another halves the step.
-use mathlib.Core.Path.{refl, ap}
+use mathlib.Core.Path.{refl}
 use borrow.Author.Tests.{lt-ltb, le-ltb}
 use lib.ListN.{length-set}
-use borrow.Author.Rules.{rules}
 use Rattle.words.proofs.Branch.{yes, no}
 use Rattle.solve_blocks.specs.Matrices.{failed_of}
 use Rattle.radau_core.proofs.PlaceLaws.{words-at, doubles-at, resized}

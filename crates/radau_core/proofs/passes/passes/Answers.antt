@@ -1,16 +1,10 @@
 -- `passes` meets its contract: its loop is the definition's without the events, left early where
-use Prim.Native.Nat.{◌-◌}
 use mathlib.Core.Path.{refl, sym, ◌∙◌}
 use native.Mathlib.Omega.{arith}
 use borrow.Author.Tests.{not-true, not-false}
-use borrow.Author.Rules.{rules}
-use Rattle.words.proofs.Loops.{Ran, begun}
-use Rattle.state.specs.Memory.{factors}
-use Rattle.solve_blocks.specs.Matrices.{Tried, tried}
-use Rattle.solve_blocks.specs.Needs.{FactorsLong}
-use Rattle.solve_blocks.proofs.PassLaws.{passed, passes-turned, passes-stopped, passes-ended}
+use Rattle.words.proofs.Loops.{begun}
+use Rattle.solve_blocks.proofs.PassLaws.{passes-turned, passes-stopped, passes-ended}
 use Rattle.solve_blocks.proofs.FitLaws.{next-fit, pass-asks}
-use Rattle.radau_core.specs.Places.{run_at, Sized, step_at}
 use Rattle.radau_core.proofs.PlaceLaws.{run-back}
 use Rattle.radau_core.proofs.passes.passes.Goals as goal
 

@@ -1,7 +1,6 @@
 -- `real_tried` meets its contract: a failure, or E1 decomposed and then E2.
 use Prim.Native.Nat.{◌≤◌}
 use mathlib.Core.Path.{sym, subst}
-use borrow.Author.Rules.{rules}
 use Rattle.state.specs.declared.run.Run.{Run}
 use Rattle.state.specs.Memory.{factors}
 use Rattle.solve_blocks.specs.Needs.{Fit}

@@ -1,7 +1,6 @@
 -- `arrived` meets its contract.
 use mathlib.Core.Path.{refl}
 use lib.ListN.{length-set}
-use borrow.Author.Rules.{rules}
 use Rattle.solve_blocks.specs.Report.{arrived_of}
 use Rattle.solve_blocks.proofs.LogLaws.{core-yes, core-no}
 use Rattle.radau_core.proofs.PlaceLaws.{words-at, doubles-at, resized, flag-set, flag-clear}

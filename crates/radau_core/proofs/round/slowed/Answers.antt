@@ -1,7 +1,6 @@
 -- `slowed` meets its contract.
 use native.Mathlib.Omega.{arith}
 use lib.ListN.{length-set}
-use borrow.Author.Rules.{rules}
 use Rattle.solve_blocks.proofs.RoundLaws.{slowed-by}
 use Rattle.radau_core.specs.Places.{run_at}
 use Rattle.radau_core.proofs.PlaceLaws.{words-at, doubles-at, resized}
