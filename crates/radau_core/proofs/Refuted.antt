@@ -103,8 +103,8 @@ Meets f =
     ≡ (advance_by Passed (run_at w d) p m).core
 
 passes : verdict_of (admission_rows (sample_at stage.FirstDerivative) reply.Filled sample_memory) ≡ Passed
-unfolding pick loop verdict_of amounts_fit newton_fit given_fit factors_fit differences_fit asking_at answers_report stray
-    stray_at le of_bits
+unfolding pick loop verdict_of amounts_fit newton_fit given_fit factors_fit differences_fit asking_at answers_report
+    stray stray_at le of_bits
 passes = refl
 
 -- the first advance asks for a report

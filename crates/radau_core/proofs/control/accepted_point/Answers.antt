@@ -11,5 +11,6 @@ strode-requires c = resized c.requires.sized (simp length-set) (simp length-set)
 pub returns : goal.returns
 returns c = record {
   sized_2 = c.strode.ensures.sized;
-  doubles_after = c.strode.ensures.doubles_after ∙ ap strode (rw (words-at c.requires.sized, doubles-at c.requires.sized));
+  doubles_after = c.strode.ensures.doubles_after ∙ ap strode
+      (rw (words-at c.requires.sized, doubles-at c.requires.sized));
 }

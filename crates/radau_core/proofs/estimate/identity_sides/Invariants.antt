@@ -6,4 +6,5 @@ use Rattle.solve_blocks.proofs.JudgeLaws.{Both}
 use Rattle.radau_core.proofs.estimate.identity_sides.Given as goal
 
 abbrev pub invariant-loop-i : goal.invariant-loop-i
-invariant-loop-i l = Ran (identity_side_at l.f0 l.f1) (λ (s : Sides). Both s.f2 s.cont l.initial.f2 l.initial.cont) 0 l.n l.i (sides l.initial.f2 l.initial.cont) (sides l.f2 l.cont)
+invariant-loop-i l = Ran (identity_side_at l.f0 l.f1) (λ (s : Sides). Both s.f2 s.cont l.initial.f2 l.initial.cont) 0
+    l.n l.i (sides l.initial.f2 l.initial.cont) (sides l.f2 l.cont)

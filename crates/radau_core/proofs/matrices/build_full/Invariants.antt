@@ -7,4 +7,5 @@ use Rattle.solve_blocks.proofs.MatrixLaws.{Squares}
 use Rattle.radau_core.proofs.matrices.build_full.Given as goal
 
 abbrev pub invariant-loop-k : goal.invariant-loop-k
-invariant-loop-k l = Ran (full_at l.mass l.jac l.fac1 l.alphn l.betan) (Squares l.n) 0 (l.n * l.n) l.k (three l.initial.e1 l.initial.e2r l.initial.e2i) (three l.e1 l.e2r l.e2i)
+invariant-loop-k l = Ran (full_at l.mass l.jac l.fac1 l.alphn l.betan) (Squares l.n) 0 (l.n * l.n) l.k
+    (three l.initial.e1 l.initial.e2r l.initial.e2i) (three l.e1 l.e2r l.e2i)

@@ -17,7 +17,8 @@ pub returns-then-singular_count-gt5 : goal.returns-then-singular_count-gt5
 unfolding failed_of
 returns-then-singular_count-gt5 c = record {
   sized_2 = c.ended.ensures.sized;
-  doubles_after = yes _ _ _ (lt-ltb _ _ c.if-singular_count-gt5.true) (rw (c.ended.ensures.doubles_after, words-at c.requires.sized));
+  doubles_after = yes _ _ _ (lt-ltb _ _ c.if-singular_count-gt5.true)
+      (rw (c.ended.ensures.doubles_after, words-at c.requires.sized));
 }
 
 pub returns : goal.returns

@@ -1,4 +1,5 @@
 -- `passes` meets its contract: its loop is the definition's without the events, left early where
+-- no other pass is wanted.
 use mathlib.Core.Path.{refl, sym, ◌∙◌}
 use native.Mathlib.Omega.{arith}
 use borrow.Author.Tests.{not-true, not-false}
@@ -20,7 +21,8 @@ returns-then-not-passes_on c = record {
 
 pub tried-s-requires : goal.tried-s-requires
 tried-s-requires c = let others = pass-asks (next-fit _ _ _ c.loop.invariant.1 c.requires.step_fit (omega arith)
-    (sym (c.passes_on.ensures c.loop.doubles) ∙ not-false c.passes_on.result c.if-not-passes_on.false-raw) (sym (run-back c.loop.s _)))
+    (sym (c.passes_on.ensures c.loop.doubles) ∙ not-false c.passes_on.result c.if-not-passes_on.false-raw)
+    (sym (run-back c.loop.s _)))
     c.requires.square.0 c.requires.square.1 c.loop.invariant.1.kept in
     record {
       sized = c.loop.invariant.0;
@@ -32,7 +34,8 @@ pub loop-preserved : goal.loop-preserved
 loop-preserved c = (
   c.tried-s.ensures.sized_2,
   passes-turned _ _ c.loop.invariant.1 (omega arith)
-      (sym (c.passes_on.ensures c.loop.doubles) ∙ not-false c.passes_on.result c.if-not-passes_on.false-raw) (sym (run-back c.loop.s _))
+      (sym (c.passes_on.ensures c.loop.doubles) ∙ not-false c.passes_on.result c.if-not-passes_on.false-raw)
+      (sym (run-back c.loop.s _))
       (omega (arith, c.loop.invariant.1.kept, c.tried-s.auto)) c.tried-s.ensures.ip2_after,
 )
 

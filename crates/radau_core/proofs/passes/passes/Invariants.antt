@@ -11,7 +11,8 @@ use Rattle.radau_core.proofs.passes.passes.Given as goal
 abbrev pub invariant-loop : goal.invariant-loop
 invariant-loop l = Sized l.words l.doubles
     × Ran (passed l.mass l.jac) (λ (t : Tried). FactorsLong l.n t.factors) 0 6 l.counter
-    (tried (step_at l.initial.s (run_at l.initial.words l.initial.doubles)) (factors l.initial.e1 l.initial.e2r l.initial.e2i l.initial.ip1 l.initial.ip2))
+    (tried (step_at l.initial.s (run_at l.initial.words l.initial.doubles))
+    (factors l.initial.e1 l.initial.e2r l.initial.e2i l.initial.ip1 l.initial.ip2))
     (tried (step_at l.s (run_at l.words l.doubles)) (factors l.e1 l.e2r l.e2i l.ip1 l.ip2))
 
 abbrev pub decreases-loop : goal.decreases-loop

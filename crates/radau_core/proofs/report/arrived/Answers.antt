@@ -16,7 +16,8 @@ pub returns-then-words-ne0 : goal.returns-then-words-ne0
 unfolding arrived_of
 returns-then-words-ne0 c = record {
   sized = c.ended.ensures.sized;
-  doubles_after = core-yes _ _ (flag-set c.if-words-ne0.true) (rw (c.ended.ensures.doubles_after, doubles-at c.requires));
+  doubles_after = core-yes _ _ (flag-set c.if-words-ne0.true)
+      (rw (c.ended.ensures.doubles_after, doubles-at c.requires));
 }
 
 pub returns : goal.returns

@@ -26,5 +26,6 @@ returns c = record {
   sized_2 = c.slow_round.ensures.sized;
   doubles_after = slowed-by (run_at c.args.words.now c.args.doubles.now) c.args.dyth _ _ _
       c.min.ensures c.max-qnewt.ensures c.inverse_root-hhfac.ensures _
-      (rw (c.rule_mode-rule.ensures, words-at c.requires.sized, doubles-at c.requires.sized) at c.slow_round.ensures.doubles_after);
+      (rw (c.rule_mode-rule.ensures, words-at c.requires.sized, doubles-at c.requires.sized) at
+      c.slow_round.ensures.doubles_after);
 }

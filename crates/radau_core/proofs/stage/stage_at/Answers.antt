@@ -72,4 +72,5 @@ pub returns-in_default : goal.returns-in_default
 returns-in_default c =
     let part_at : ℕ = c.args.words.now # 1 in
     sym (place.at-first-derivative part_at (omega arith)
-    (omega arith) (omega arith) (omega arith) (omega arith) (omega arith) (omega arith) (omega arith) (omega arith) (omega arith) (omega arith) (omega arith))
+    (omega arith) (omega arith) (omega arith) (omega arith) (omega arith) (omega arith) (omega arith) (omega arith)
+    (omega arith) (omega arith) (omega arith))
