@@ -1,9 +1,8 @@
 -- A run that says Success exists: a journal of an accepted opening that ends with 0, computed by the checker. One
 -- amount that doesn't change, from 0 to 1 with the first step 1/2, under the book rule: the first attempt is accepted,
 -- the second is aimed at the end point and accepted, and its report is answered by 'continue'.
-use Prim.Native.Nat.{ℕ}
 use mathlib.Core.Path.{◌≡◌, refl}
-use mathlib.Core.Bool.{Bool, true, false}
+use mathlib.Core.Bool.{true}
 use mathlib.Core.List.{List, [], ◌∷◌}
 use lib.Ieee.{Float}
 use lib.Ieee as ieee
@@ -62,8 +61,6 @@ use Rattle.state.specs.declared.settings.Source.TheVariants.{Host}
 use Rattle.state.specs.declared.settings.Rule.TheVariants.{Book}
 use Rattle.state.specs.declared.run.Tolerances.TheVariants.{Scalars}
 use Rattle.state.specs.declared.run.Status.TheVariants.{Success}
-use Rattle.state.specs.declared.talk.Opened.{Opened}
-use Rattle.state.specs.declared.talk.Opened.TheVariants as opened
 use Rattle.state.specs.declared.talk.Place.TheVariants.{YToF0}
 use Rattle.state.specs.declared.talk.Reply.TheVariants as reply
 use Rattle.state.specs.declared.talk.Request.{Request}

@@ -20,7 +20,6 @@ use Rattle.scalar.proofs.Tests.{negative, below-zero}
 use Rattle.state.specs.declared.run.Notes.{Notes}
 use Rattle.state.specs.declared.run.Singular.TheVariants as singular
 use Rattle.state.specs.declared.run.Strides.{Strides}
-use Rattle.state.specs.declared.run.Strides.TheVariants as strides
 use Rattle.state.specs.declared.talk.Reply.{Reply}
 use Rattle.state.specs.Memory.{Memory}
 use Rattle.state.specs.Numbers.{smallest_stride, largest_stride}
@@ -34,7 +33,7 @@ use Rattle.account.specs.Journal.{Turn}
 use Rattle.account.specs.Reading.{Progress, progress_event, progress_reply, progress_at}
 use Rattle.account.specs.Reading.{Standing, past_event, past_reply, standing_at}
 use Rattle.account.specs.Truth.{True, AllTrue, TrueIn}
-use Rattle.account.specs.Latest.{Latest, never, real-at, complex-at, latest_event, latest_events, latest_in}
+use Rattle.account.specs.Latest.{Latest, latest_event, latest_events, latest_in}
 use Rattle.account.specs.Latest.{kept_of, OfItsPass}
 use Rattle.account.specs.Strides.{step_event, step_events, strides_of, best_with, best_of, kept_strides, kept_notes}
 use Rattle.account.proofs.EventsTrue.{run_at}

@@ -20,7 +20,7 @@ use Rattle.state.specs.declared.talk.Request.TheVariants as request
 use Rattle.solve_blocks.specs.declared.step.Call.{Call}
 use Rattle.solve_blocks.specs.declared.step.Step.{Step}
 use Rattle.solve_blocks.specs.declared.step.Step.TheVariants as step
-use Rattle.solve_blocks.specs.Matrices.{call, passes_of, pass_at}
+use Rattle.solve_blocks.specs.Matrices.{passes_of, pass_at}
 use Rattle.solve_blocks.specs.Advance.{Stepped, stepped, Called, called, received_of, passed_of, called_of, advance_by}
 use Rattle.history.specs.Host.{is_end}
 use Rattle.history.specs.History.{point, next_point}
