@@ -8,8 +8,7 @@ pub answer_by_plan-requires : goal.answer_by_plan-requires
 answer_by_plan-requires c = (refl, λ p. absurd (omega arith))
 
 pub returns : goal.returns
-returns c = let e = (c.answer_by_plan.ensures.value, c.answer_by_plan.ensures.f_origin_after, c.answer_by_plan.ensures.changes_len) in
-    record {
-      value = e.0;
-      f_origin_after = e.1.0;
-    }
+returns c = record {
+  value = c.answer_by_plan.ensures.value;
+  f_origin_after = c.answer_by_plan.ensures.f_origin_after;
+}
