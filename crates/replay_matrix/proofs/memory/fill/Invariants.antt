@@ -7,4 +7,4 @@ use borrow.Author.Rules.{rules}
 use Rattle.replay_matrix.proofs.memory.fill.Given as goal
 
 abbrev pub invariant-loop-i : goal.invariant-loop-i
-invariant-loop-i l = (length l.part ≡ length l.initial.part) × (l.i-end ≡ length l.initial.part)
+invariant-loop-i g l = (length l.part ≡ length l.initial.part) × (l.i-end ≡ length l.initial.part)

@@ -6,4 +6,4 @@ use borrow.Author.Rules.{rules}
 use Rattle.replay_matrix.proofs.memory.meet_pivots.Given as goal
 
 abbrev pub invariant-loop-i : goal.invariant-loop-i
-invariant-loop-i l = l.i-end ≡ length l.part
+invariant-loop-i g l = l.i-end ≡ length l.part
