@@ -1,7 +1,6 @@
 -- `answer` meets its contract: it is the answer by a plan, and where there is none nothing is asked of it.
 use mathlib.Core.Path.{refl}
 use native.Mathlib.Omega.{arith}
-use borrow.Author.Rules.{rules}
 use Rattle.model_run.proofs.host.answer.Goals as goal
 
 pub answer_by_plan-requires : goal.answer_by_plan-requires

@@ -1,21 +1,17 @@
 -- `to_end` meets its contract: the loop is `last_of`, left early where nothing more is asked; no turn of it is refused.
-use Prim.Native.Nat.{ℕ, ◌+◌, ◌-◌}
+use Prim.Native.Nat.{◌+◌}
 use mathlib.Core.Path.{◌≡◌, refl, sym, ap, subst, ◌∙◌}
-use mathlib.Core.List.{List}
 use native.Mathlib.Omega.{arith}
-use lib.ListN.{length}
-use lib.Ieee.{Float}
-use borrow.Author.Rules.{rules}
 use Rattle.state.specs.declared.run.Run.{Run}
 use Rattle.state.specs.declared.talk.Place.{Place}
 use Rattle.state.specs.declared.talk.Request.{Request}
 use Rattle.state.specs.Memory.{Memory, memory, amounts, newton, given, factors, differences}
 use Rattle.history.specs.History.{Point, point}
-use Rattle.radau_core.specs.Places.{run_at, Sized}
+use Rattle.radau_core.specs.Places.{run_at}
 use Rattle.radau_core.proofs.PackLaws.{held_at, sized-at}
 use Rattle.model_run.specs.Host.{answered_by}
 use Rattle.model_run.specs.Budget.{Answering, turn_of, last_of, budget, standing, standing_at, NoneRefused}
-use Rattle.model_run.proofs.TurnLaws.{Going, going, turned, admits, stopped, spent}
+use Rattle.model_run.proofs.TurnLaws.{going, turned, admits, stopped, spent}
 use Rattle.model_run.proofs.Lengths.{Lengths, same, after}
 use Rattle.model_run.proofs.lent.to_end.Invariants.{Led}
 use Rattle.model_run.proofs.lent.to_end.Goals as goal
@@ -66,7 +62,8 @@ turned-here-requires c =
     (factors a.e1.now a.e2r.now a.e2i.now a.ip1.now a.ip2.now)
     (differences a.y_perturbed.now a.f_perturbed.now a.f_origin.now) in
     let host-at : Answering = let a = c.args in answered_by a.reactions a.rates.now a.species.now in
-    let held : run_at c.words_of-words.result c.doubles_of-doubles.result ≡ c.args.pending.run = held_at c.args.pending.run c.words_of-words.ensures c.doubles_of-doubles.ensures in
+    let held : run_at c.words_of-words.result c.doubles_of-doubles.result ≡ c.args.pending.run = held_at
+    c.args.pending.run c.words_of-words.ensures c.doubles_of-doubles.ensures in
     let p = c.args.pending in
     let none = subst (λ (r : Run). NoneRefused host-at (point r p.request p.place
     memory-at)) (sym held) c.requires in record {
@@ -92,7 +89,8 @@ loop-preserved c =
     (differences a.y_perturbed.now a.f_perturbed.now a.f_origin.now) in
     let host-at : Answering = let a = c.args in answered_by a.reactions a.rates.now a.species.now in
     let memory-in : Memory = let a = c.args in
-    memory (amounts c.loop.y c.loop.f0 c.loop.scal c.loop.cont) (newton c.loop.z1 c.loop.z2 c.loop.z3 c.loop.f1 c.loop.f2 c.loop.f3)
+    memory (amounts c.loop.y c.loop.f0 c.loop.scal c.loop.cont) (newton c.loop.z1 c.loop.z2 c.loop.z3 c.loop.f1
+    c.loop.f2 c.loop.f3)
     (given a.rtol.now a.atol.now a.mass.now c.loop.jac) (factors c.loop.e1 c.loop.e2r c.loop.e2i c.loop.ip1 c.loop.ip2)
     (differences c.loop.y_perturbed c.loop.f_perturbed c.loop.f_origin) in
     let point-in : Point = point (run_at c.loop.words c.loop.doubles) c.loop.here.request c.loop.here.place memory-in in
@@ -115,7 +113,8 @@ loop-preserved c =
     (differences c.turned-here.new.y_perturbed
     c.turned-here.new.f_perturbed
     c.turned-here.new.f_origin) in
-    let point-turned : Point = point (run_at c.turned-here.new.words c.turned-here.new.doubles) c.turned-here.result.request c.turned-here.result.place memory-turned in
+    let point-turned : Point = point (run_at c.turned-here.new.words c.turned-here.new.doubles)
+    c.turned-here.result.request c.turned-here.result.place memory-turned in
     let turn : point-turned ≡ turn_of host-at point-in = c.turned-here.ensures.f_origin_after in
     let kept : Lengths memory-in memory-turned = record {
       y = c.turned-here.auto.y;
@@ -138,7 +137,9 @@ loop-preserved c =
       f_perturbed = c.turned-here.auto.f_perturbed;
       f_origin = c.turned-here.auto.f_origin;
     } in
-    let led : Led host-at (c.loop.counter + 1) (point (run_at c.words_of-words.result c.doubles_of-doubles.result) c.args.pending.request c.args.pending.place memory-at) point-turned c.turned-here.new.words c.turned-here.new.doubles c.turned-here.new.changes = record {
+    let led : Led host-at (c.loop.counter + 1) (point (run_at c.words_of-words.result c.doubles_of-doubles.result)
+    c.args.pending.request c.args.pending.place memory-at) point-turned c.turned-here.new.words
+    c.turned-here.new.doubles c.turned-here.new.changes = record {
       sized = c.turned-here.ensures.sized_2;
       changed = c.turned-here.ensures.changes_len_2;
       turns = turned c.loop.invariant.turns c.loop-test.true

@@ -1,7 +1,5 @@
 -- `turned` meets its contract: what the host wrote and replied, and an advance that is admitted.
-use mathlib.Core.Path.{◌≡◌, sym, subst, ◌∙◌}
-use borrow.Author.Rules.{rules}
-use Rattle.state.specs.declared.run.Run.{Run}
+use mathlib.Core.Path.{sym, subst, ◌∙◌}
 use Rattle.state.specs.Memory.{Memory, memory, amounts, newton, given, factors, differences}
 use Rattle.solve_blocks.proofs.AdmittedLaws.{Admitted, admitted}
 use Rattle.history.specs.Host.{Action, wrote}
@@ -26,7 +24,8 @@ advanced-requires c =
     let a = c.args in
     let r = run_at a.words.now a.doubles.now in
     let q =
-    subst (λ (m : Memory). Admitted r m) (sym (c.answer_by_plan-reply.ensures.f_origin_after a.scal.now a.f2.now a.f3.now
+    subst (λ (m : Memory). Admitted r m)
+    (sym (c.answer_by_plan-reply.ensures.f_origin_after a.scal.now a.f2.now a.f3.now
     (given a.rtol.now a.atol.now a.mass.now a.jac.now)
     (factors a.e1.now a.e2r.now a.e2i.now a.ip1.now a.ip2.now)))
     (admitted r done-at.reply wrote_at c.requires.admits) in

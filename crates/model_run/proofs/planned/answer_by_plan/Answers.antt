@@ -1,10 +1,5 @@
 -- `answer_by_plan` meets its contract: what was matched says what is asked, and only a derivative is written.
-use mathlib.Core.Path.{◌≡◌, refl, sym, ap}
-use mathlib.Core.List.{List}
-use borrow.Author.Rules.{rules}
-use lib.Ieee.{Float}
-use Rattle.state.specs.declared.talk.Request.{Request}
-use Rattle.state.specs.Memory.{Memory, Given, Factors}
+use mathlib.Core.Path.{refl, sym, ap}
 use Rattle.history.specs.Host.{modified, wrote}
 use Rattle.model_run.specs.Host.{reply_to, answered_by}
 use Rattle.model_run.proofs.HostLaws.{hosted, wrote_at}
@@ -18,7 +13,8 @@ returns-in-Derivative c =
     a.y_perturbed.now a.f_perturbed.now a.f_origin.now in
     record {
       value = ap reply_to (sym c.in-Derivative.is);
-      f_origin_after = λ scal f2 f3 g f. wrote_at a.reactions a.rates.now a.species.now a.request _ a.place (lent scal f2 f3 g f) c.in-Derivative.is
+      f_origin_after = λ scal f2 f3 g f.
+          wrote_at a.reactions a.rates.now a.species.now a.request _ a.place (lent scal f2 f3 g f) c.in-Derivative.is
           (c.fill.ensures.f_origin_after scal f2 f3 g f);
       changes_len = c.fill.ensures.changes_len;
     }
@@ -31,7 +27,9 @@ returns-in-Jacobian c =
     a.y_perturbed.now a.f_perturbed.now a.f_origin.now in
     record {
       value = ap reply_to (sym c.in-Jacobian.is);
-      f_origin_after = λ scal f2 f3 g f. wrote_at a.reactions a.rates.now a.species.now a.request _ a.place (lent scal f2 f3 g f) c.in-Jacobian.is refl;
+      f_origin_after = λ scal f2 f3 g f.
+          wrote_at a.reactions a.rates.now a.species.now a.request _ a.place (lent scal f2 f3 g f) c.in-Jacobian.is
+          refl;
       changes_len = c.requires.0;
     }
 
@@ -43,7 +41,8 @@ returns-in-Report c =
     a.y_perturbed.now a.f_perturbed.now a.f_origin.now in
     record {
       value = ap reply_to (sym c.in-Report.is);
-      f_origin_after = λ scal f2 f3 g f. wrote_at a.reactions a.rates.now a.species.now a.request _ a.place (lent scal f2 f3 g f) c.in-Report.is refl;
+      f_origin_after = λ scal f2 f3 g f.
+          wrote_at a.reactions a.rates.now a.species.now a.request _ a.place (lent scal f2 f3 g f) c.in-Report.is refl;
       changes_len = c.requires.0;
     }
 
@@ -55,6 +54,7 @@ returns-in-Ended c =
     a.y_perturbed.now a.f_perturbed.now a.f_origin.now in
     record {
       value = ap reply_to (sym c.in-Ended.is);
-      f_origin_after = λ scal f2 f3 g f. wrote_at a.reactions a.rates.now a.species.now a.request _ a.place (lent scal f2 f3 g f) c.in-Ended.is refl;
+      f_origin_after = λ scal f2 f3 g f.
+          wrote_at a.reactions a.rates.now a.species.now a.request _ a.place (lent scal f2 f3 g f) c.in-Ended.is refl;
       changes_len = c.requires.0;
     }

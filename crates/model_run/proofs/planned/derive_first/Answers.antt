@@ -2,7 +2,6 @@
 use mathlib.Core.Path.{ap, sym, ◌∙◌}
 use mathlib.Core.List.{List}
 use native.Mathlib.Omega.{arith}
-use borrow.Author.Rules.{rules}
 use lib.ListN.{length-take}
 use lib.Seq.{take_all}
 use lib.Ieee.{Float}
@@ -21,7 +20,8 @@ returns-then-n-cont c = record {
 pub returns-else-n-cont : goal.returns-else-n-cont
 returns-else-n-cont c = let a = c.args in
     record {
-      part_after = c.derivative_by_plan-else-n-cont.ensures.1 ∙ ap (λ (l : List Float). (derived_of a.reactions l a.rates.now a.species.now a.part.now).dy)
+      part_after = c.derivative_by_plan-else-n-cont.ensures.1 ∙ ap
+          (λ (l : List Float). (derived_of a.reactions l a.rates.now a.species.now a.part.now).dy)
           (sym (take_all a.n a.cont.now c.if-n-cont.false));
       changes_len = c.derivative_by_plan-else-n-cont.ensures.0;
     }

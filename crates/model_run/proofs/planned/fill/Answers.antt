@@ -1,13 +1,8 @@
 -- `fill` meets its contract: what was matched names the part, and what was called filled it.
-use mathlib.Core.Path.{◌≡◌, refl}
-use mathlib.Core.List.{List}
-use borrow.Author.Rules.{rules}
-use lib.Ieee.{Float}
-use Rattle.state.specs.declared.talk.Place.{Place}
+use mathlib.Core.Path.{refl}
 use Rattle.state.specs.declared.talk.Place.TheVariants as place
-use Rattle.state.specs.Memory.{Memory, Given, Factors}
 use Rattle.history.specs.Host.{part_at, filled}
-use Rattle.model_run.specs.Host.{source_at, derived_at}
+use Rattle.model_run.specs.Host.{source_at}
 use Rattle.model_run.proofs.HostLaws.{hosted, filled_at}
 use Rattle.model_run.proofs.planned.fill.Goals as goal
 
@@ -18,7 +13,9 @@ returns-in-Nowhere c =
     let lent = hosted a.y.now a.f0.now a.cont.now a.z1.now a.z2.now a.z3.now a.f1.now
     a.y_perturbed.now a.f_perturbed.now a.f_origin.now in
     record {
-      f_origin_after = λ scal f2 f3 g f. filled_at a.reactions a.rates.now a.species.now a.place place.Nowhere (lent scal f2 f3 g f) c.in-Nowhere.is refl;
+      f_origin_after = λ scal f2 f3 g f.
+          filled_at a.reactions a.rates.now a.species.now a.place place.Nowhere (lent scal f2 f3 g f) c.in-Nowhere.is
+          refl;
       changes_len = c.requires.0;
     }
 
@@ -29,7 +26,8 @@ returns-in-YToF0 c =
     let lent = hosted a.y.now a.f0.now a.cont.now a.z1.now a.z2.now a.z3.now a.f1.now
     a.y_perturbed.now a.f_perturbed.now a.f_origin.now in
     record {
-      f_origin_after = λ scal f2 f3 g f. filled_at a.reactions a.rates.now a.species.now a.place place.YToF0 (lent scal f2 f3 g f) c.in-YToF0.is
+      f_origin_after = λ scal f2 f3 g f.
+          filled_at a.reactions a.rates.now a.species.now a.place place.YToF0 (lent scal f2 f3 g f) c.in-YToF0.is
           c.derivative_by_plan.ensures.1;
       changes_len = c.derivative_by_plan.ensures.0;
     }
@@ -41,7 +39,8 @@ returns-in-ContToZ1 c =
     let lent = hosted a.y.now a.f0.now a.cont.now a.z1.now a.z2.now a.z3.now a.f1.now
     a.y_perturbed.now a.f_perturbed.now a.f_origin.now in
     record {
-      f_origin_after = λ scal f2 f3 g f. filled_at a.reactions a.rates.now a.species.now a.place place.ContToZ1 (lent scal f2 f3 g f) c.in-ContToZ1.is
+      f_origin_after = λ scal f2 f3 g f.
+          filled_at a.reactions a.rates.now a.species.now a.place place.ContToZ1 (lent scal f2 f3 g f) c.in-ContToZ1.is
           c.derive_first.ensures.part_after;
       changes_len = c.derive_first.ensures.changes_len;
     }
@@ -53,7 +52,8 @@ returns-in-ContToZ2 c =
     let lent = hosted a.y.now a.f0.now a.cont.now a.z1.now a.z2.now a.z3.now a.f1.now
     a.y_perturbed.now a.f_perturbed.now a.f_origin.now in
     record {
-      f_origin_after = λ scal f2 f3 g f. filled_at a.reactions a.rates.now a.species.now a.place place.ContToZ2 (lent scal f2 f3 g f) c.in-ContToZ2.is
+      f_origin_after = λ scal f2 f3 g f.
+          filled_at a.reactions a.rates.now a.species.now a.place place.ContToZ2 (lent scal f2 f3 g f) c.in-ContToZ2.is
           c.derive_first-in-ContToZ2.ensures.part_after;
       changes_len = c.derive_first-in-ContToZ2.ensures.changes_len;
     }
@@ -65,7 +65,8 @@ returns-in-ContToZ3 c =
     let lent = hosted a.y.now a.f0.now a.cont.now a.z1.now a.z2.now a.z3.now a.f1.now
     a.y_perturbed.now a.f_perturbed.now a.f_origin.now in
     record {
-      f_origin_after = λ scal f2 f3 g f. filled_at a.reactions a.rates.now a.species.now a.place place.ContToZ3 (lent scal f2 f3 g f) c.in-ContToZ3.is
+      f_origin_after = λ scal f2 f3 g f.
+          filled_at a.reactions a.rates.now a.species.now a.place place.ContToZ3 (lent scal f2 f3 g f) c.in-ContToZ3.is
           c.derive_first-in-ContToZ3.ensures.part_after;
       changes_len = c.derive_first-in-ContToZ3.ensures.changes_len;
     }
@@ -77,7 +78,8 @@ returns-in-ContToF1 c =
     let lent = hosted a.y.now a.f0.now a.cont.now a.z1.now a.z2.now a.z3.now a.f1.now
     a.y_perturbed.now a.f_perturbed.now a.f_origin.now in
     record {
-      f_origin_after = λ scal f2 f3 g f. filled_at a.reactions a.rates.now a.species.now a.place place.ContToF1 (lent scal f2 f3 g f) c.in-ContToF1.is
+      f_origin_after = λ scal f2 f3 g f.
+          filled_at a.reactions a.rates.now a.species.now a.place place.ContToF1 (lent scal f2 f3 g f) c.in-ContToF1.is
           c.derive_first-in-ContToF1.ensures.part_after;
       changes_len = c.derive_first-in-ContToF1.ensures.changes_len;
     }
@@ -89,7 +91,9 @@ returns-in-YToFOrigin c =
     let lent = hosted a.y.now a.f0.now a.cont.now a.z1.now a.z2.now a.z3.now a.f1.now
     a.y_perturbed.now a.f_perturbed.now a.f_origin.now in
     record {
-      f_origin_after = λ scal f2 f3 g f. filled_at a.reactions a.rates.now a.species.now a.place place.YToFOrigin (lent scal f2 f3 g f) c.in-YToFOrigin.is
+      f_origin_after = λ scal f2 f3 g f.
+          filled_at a.reactions a.rates.now a.species.now a.place place.YToFOrigin (lent scal f2 f3 g f)
+          c.in-YToFOrigin.is
           c.derivative_by_plan-in-YToFOrigin.ensures.1;
       changes_len = c.derivative_by_plan-in-YToFOrigin.ensures.0;
     }
@@ -101,7 +105,8 @@ returns-in-YPerturbedToFPerturbed c =
     let lent = hosted a.y.now a.f0.now a.cont.now a.z1.now a.z2.now a.z3.now a.f1.now
     a.y_perturbed.now a.f_perturbed.now a.f_origin.now in
     record {
-      f_origin_after = λ scal f2 f3 g f. filled_at a.reactions a.rates.now a.species.now a.place place.YPerturbedToFPerturbed (lent scal f2 f3 g f)
+      f_origin_after = λ scal f2 f3 g f.
+          filled_at a.reactions a.rates.now a.species.now a.place place.YPerturbedToFPerturbed (lent scal f2 f3 g f)
           c.in-YPerturbedToFPerturbed.is c.derivative_by_plan-in-YPerturbedToFPerturbed.ensures.1;
       changes_len = c.derivative_by_plan-in-YPerturbedToFPerturbed.ensures.0;
     }

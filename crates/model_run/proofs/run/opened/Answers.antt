@@ -1,5 +1,5 @@
 -- `opened` meets its contract: each part that it lends is the front of its array, and together they are
-use lib.Ieee.{Float}
+-- the memory of the opening.
 use Rattle.model_run.proofs.Room.{zeros-fit, noughts-fit, four-small, square-small, lent_is, opened-is}
 use Rattle.model_run.proofs.run.opened.Goals as goal
 

@@ -1,10 +1,7 @@
 -- `ran` meets its contract: each part that it lends is the front of its array, and behind the amounts
-use mathlib.Core.Path.{◌≡◌}
-use lib.Ieee.{Float}
-use Rattle.state.specs.Memory.{Memory, memory, amounts, newton, given, factors, differences}
-use Rattle.model_run.specs.Budget.{memory_of}
+-- stands what was not lent.
 use Rattle.model_run.proofs.Room.{zeros-fit, noughts-fit, four-small, square-small}
-use Rattle.model_run.proofs.Room.{first, lent_is, none_lent, ran-is}
+use Rattle.model_run.proofs.Room.{lent_is, none_lent, ran-is}
 use Rattle.model_run.proofs.run.ran.Goals as goal
 
 pub slice_bounds-y-end : goal.slice_bounds-y-end
@@ -76,38 +73,26 @@ slice_bounds-f_origin-end c = zeros-fit c.vector-f_origin.ensures c.requires.n_b
 
 pub to_end-run-requires : goal.to_end-run-requires
 to_end-run-requires c =
-    let memory-lent : Memory = let a = c.args in
-    memory
-    (amounts (first a.n a.task.amounts) (first a.n c.vector-f0.result) (first a.n c.vector-scal.result) (first a.n4 c.coefficients-cont.result))
-    (newton (first a.n c.vector-z1.result) (first a.n c.vector-z2.result) (first a.n
-    c.vector-z3.result) (first a.n c.vector-f1.result) (first a.n c.vector-f2.result) (first a.n c.vector-f3.result))
-    (given (first a.n c.vector-rtol.result) (first a.n c.vector-atol.result) (first a.nn
-    c.matrix-mass.result) (first a.nn c.matrix-jac.result))
-    (factors (first a.nn c.matrix-e1.result) (first a.nn c.matrix-e2r.result) (first a.nn c.matrix-e2i.result) (first a.n c.pivots-ip1.result) (first a.n c.pivots-ip2.result))
-    (differences (first a.n c.vector-y_perturbed.result) (first a.n c.vector-f_perturbed.result) (first
-    a.n c.vector-f_origin.result)) in
-    let lent : memory-lent ≡ memory_of c.args.task = lent_is c.args.task c.requires.n_bound
-    c.vector-f0.ensures c.vector-scal.ensures c.coefficients-cont.ensures c.vector-z1.ensures c.vector-z2.ensures c.vector-z3.ensures c.vector-f1.ensures
-    c.vector-f2.ensures c.vector-f3.ensures c.vector-rtol.ensures c.vector-atol.ensures c.matrix-mass.ensures c.matrix-jac.ensures c.matrix-e1.ensures
-    c.matrix-e2r.ensures c.matrix-e2i.ensures c.pivots-ip1.ensures c.pivots-ip2.ensures c.vector-y_perturbed.ensures c.vector-f_perturbed.ensures c.vector-f_origin.ensures in
-    none_lent c.args.task c.args.rates.now c.args.species.now c.args.pending.run
-    c.args.pending.request c.args.pending.place lent c.requires.none_refused
+    let lent =
+    lent_is c.args.task c.requires.n_bound
+    c.vector-f0.ensures c.vector-scal.ensures c.coefficients-cont.ensures c.vector-z1.ensures c.vector-z2.ensures
+    c.vector-z3.ensures c.vector-f1.ensures
+    c.vector-f2.ensures c.vector-f3.ensures c.vector-rtol.ensures c.vector-atol.ensures c.matrix-mass.ensures
+    c.matrix-jac.ensures c.matrix-e1.ensures
+    c.matrix-e2r.ensures c.matrix-e2i.ensures c.pivots-ip1.ensures c.pivots-ip2.ensures c.vector-y_perturbed.ensures
+    c.vector-f_perturbed.ensures c.vector-f_origin.ensures in
+    none_lent c.args.task c.args.rates.now c.args.species.now c.args.pending.run c.args.pending.request
+    c.args.pending.place lent c.requires.none_refused
 
 pub returns : goal.returns
 returns c =
-    let memory-lent : Memory = let a = c.args in
-    memory
-    (amounts (first a.n a.task.amounts) (first a.n c.vector-f0.result) (first a.n c.vector-scal.result) (first a.n4 c.coefficients-cont.result))
-    (newton (first a.n c.vector-z1.result) (first a.n c.vector-z2.result) (first a.n
-    c.vector-z3.result) (first a.n c.vector-f1.result) (first a.n c.vector-f2.result) (first a.n c.vector-f3.result))
-    (given (first a.n c.vector-rtol.result) (first a.n c.vector-atol.result) (first a.nn
-    c.matrix-mass.result) (first a.nn c.matrix-jac.result))
-    (factors (first a.nn c.matrix-e1.result) (first a.nn c.matrix-e2r.result) (first a.nn c.matrix-e2i.result) (first a.n c.pivots-ip1.result) (first a.n c.pivots-ip2.result))
-    (differences (first a.n c.vector-y_perturbed.result) (first a.n c.vector-f_perturbed.result) (first
-    a.n c.vector-f_origin.result)) in
-    let lent : memory-lent ≡ memory_of c.args.task = lent_is c.args.task c.requires.n_bound
-    c.vector-f0.ensures c.vector-scal.ensures c.coefficients-cont.ensures c.vector-z1.ensures c.vector-z2.ensures c.vector-z3.ensures c.vector-f1.ensures
-    c.vector-f2.ensures c.vector-f3.ensures c.vector-rtol.ensures c.vector-atol.ensures c.matrix-mass.ensures c.matrix-jac.ensures c.matrix-e1.ensures
-    c.matrix-e2r.ensures c.matrix-e2i.ensures c.pivots-ip1.ensures c.pivots-ip2.ensures c.vector-y_perturbed.ensures c.vector-f_perturbed.ensures c.vector-f_origin.ensures in
-    ran-is c.args.task c.args.rates.now c.args.species.now c.args.pending.run
-    c.args.pending.request c.args.pending.place c.requires.n_bound.1 lent c.to_end-run.ensures
+    let lent =
+    lent_is c.args.task c.requires.n_bound
+    c.vector-f0.ensures c.vector-scal.ensures c.coefficients-cont.ensures c.vector-z1.ensures c.vector-z2.ensures
+    c.vector-z3.ensures c.vector-f1.ensures
+    c.vector-f2.ensures c.vector-f3.ensures c.vector-rtol.ensures c.vector-atol.ensures c.matrix-mass.ensures
+    c.matrix-jac.ensures c.matrix-e1.ensures
+    c.matrix-e2r.ensures c.matrix-e2i.ensures c.pivots-ip1.ensures c.pivots-ip2.ensures c.vector-y_perturbed.ensures
+    c.vector-f_perturbed.ensures c.vector-f_origin.ensures in
+    ran-is c.args.task c.args.rates.now c.args.species.now c.args.pending.run c.args.pending.request
+    c.args.pending.place c.requires.n_bound.1 lent c.to_end-run.ensures

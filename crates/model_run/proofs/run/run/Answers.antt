@@ -1,4 +1,5 @@
 -- `run` meets its contract: the answer to the opening settles which side is taken, and a task has
+-- room for at most 32 amounts.
 use mathlib.Core.Path.{◌∙◌}
 use borrow.Author.Rules.{rules}
 use Rattle.model_run.proofs.Room.{square-fits}
