@@ -2,7 +2,6 @@
 use Prim.Native.Nat.{ℕ}
 use mathlib.Core.Path.{◌≡◌, sym, ◌∙◌, subst}
 use mathlib.Core.List.{List}
-use borrow.Author.Rules.{rules}
 use Rattle.state.specs.Memory.{noughts}
 use Rattle.sheet.specs.Reader.{answer_of, read_of}
 use Rattle.sheet.specs.declared.sheet.Reading.{Reading}

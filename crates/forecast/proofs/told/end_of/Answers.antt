@@ -2,7 +2,6 @@
 use Prim.Native.Nat.{ℕ}
 use mathlib.Core.Path.{◌≡◌, sym, ap, ◌∙◌}
 use native.Mathlib.Omega.{arith}
-use borrow.Author.Rules.{rules}
 use Rattle.state.specs.declared.run.Run.{Run}
 use Rattle.state.specs.declared.talk.Result.TheVariants as result
 use Rattle.state.specs.Result.{result_at, result_of}
