@@ -224,7 +224,8 @@ module _ (r : Run) where
       }
 
   pub counted-closed : (p : Reply) (mass jac : List Float) → Closed p mass jac (CountedAt r)
-  unfolding CountedAt kind_of kind_at place_at is_ode is_jac asks_at grow reject rejected_by later later_all more means_of pick
+  unfolding CountedAt kind_of kind_at place_at is_ode is_jac asks_at grow reject rejected_by later later_all more
+      means_of pick
   counted-closed p mass jac =
       record {
         first-filled = λ w. asks _ _ w refl refl refl;

@@ -230,11 +230,13 @@ strides-not-below (h ∷ hs) =
 
 min-not-below : (a b : Float) → NotBelow a → NotBelow b → NotBelow (min_of a b)
 unfolding min_of
-min-not-below a b p q = pick_all NotBelow (is_nan a) _ _ (λ _. q) (λ _. pick_all NotBelow (lt b a) _ _ (λ _. q) (λ _. p))
+min-not-below a b p q = pick_all NotBelow (is_nan a) _ _ (λ _. q) (λ _. pick_all NotBelow (lt b a) _ _ (λ _. q)
+    (λ _. p))
 
 max-not-below : (a b : Float) → NotBelow a → NotBelow b → NotBelow (max_of a b)
 unfolding max_of
-max-not-below a b p q = pick_all NotBelow (is_nan a) _ _ (λ _. q) (λ _. pick_all NotBelow (lt a b) _ _ (λ _. q) (λ _. p))
+max-not-below a b p q = pick_all NotBelow (is_nan a) _ _ (λ _. q) (λ _. pick_all NotBelow (lt a b) _ _ (λ _. q)
+    (λ _. p))
 
 best-not-below : (best : Float → Float → Float) → ((a b : Float) → NotBelow a → NotBelow b → NotBelow (best a b))
     → (a : Float) (rest : List Float) → NotBelow a → NoneBelow rest → NotBelow (best_with best a rest)

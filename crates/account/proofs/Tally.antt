@@ -407,8 +407,8 @@ module _ (o : Opening) (j : Journal) (p : Opens o j.point) (start : j.turns ≡ 
   ledger-first = record { solves = rw (p.place, start) refl; attempts = rw (p.place, start) refl }
 
   pub tallied-first : Tallied o j
-  unfolding many happened rejected_in accepted_in acceptances asked_in is_ode is_jac is_report is_end in_jacobian asks_at differs
-      first_stage interrupted_in ends_with owed left pick progress_at
+  unfolding many happened rejected_in accepted_in acceptances asked_in is_ode is_jac is_report is_end in_jacobian
+      asks_at differs first_stage interrupted_in ends_with owed left pick progress_at
   tallied-first =
       record {
         ode = rw (p.counts, p.request, p.place, start) refl;

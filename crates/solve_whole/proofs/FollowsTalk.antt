@@ -74,7 +74,8 @@ module _ (host : Host) where
   -- ---- one advance
 
   module _ (t : Talk) (still : is_end t.point.request ≡ false) where
-    before_more : (d : ℕ) → ((j : ℕ) → j < d → GoesOn (advanced_by admitted host t) j) → (j : ℕ) → j < suc d → GoesOn t j
+    before_more : (d : ℕ) → ((j : ℕ) → j < d → GoesOn (advanced_by admitted host t) j) → (j : ℕ) → j < suc d → GoesOn t
+        j
     unfolding talk_by
     before_more d g zero l = still
     before_more d g (suc j) l = g j (omega arith)
