@@ -1,6 +1,6 @@
 // The model of a sheet, run, and what is told of it.
 ghost use Rattle.std.specs.Prelude.{◌≡◌};
-ghost use Rattle.state.specs.declared.talk.Result.TheVariants.{Ended};
+ghost use Rattle.state.specs.declared.talk.Result.TheVariants.{Ended, NotEnded};
 ghost use Rattle.state.specs.Result.{result_of};
 ghost use Rattle.forecast.specs.Forecast.{refused_by};
 ghost use Rattle.forecast.specs.Told.{outcome_from, Over, Ends, Told};
@@ -13,9 +13,9 @@ use sheet::sheet::Heading;
 use state::run::{Run, Status};
 use state::talk::{Blame, IntegrationResult, Result};
 
-// Stands where no run comes: its caller shows that it isn't called.
+// Stands where no run that has ended comes: of its run, which has a result, the caller shows that it isn't called.
 fn never(run: Run) -> IntegrationResult
-    requires { ⊥ }
+    requires { result_of run ≡ NotEnded }
 {
     let numbers = run.numbers;
     let counts = run.counts;
