@@ -15,6 +15,7 @@ import sys
 
 SEG = r"[\w'₀-₉-]+"
 PATH = re.compile(rf"(?<![\w'.₀-₉-])([a-zA-Zλ]{SEG}|[a-z])((?:\.{SEG})+)|\)((?:\.{SEG})+)")
+WORDS = set()
 EASY = re.compile(r"\s*\(?(search rules|omega arith|refl|tt|search needs)\)?\s*$")
 
 
@@ -101,6 +102,8 @@ class Function:
         self.places = {p[0]: p for p in entry["places"]}
         self.new_place = {p[0]: n for p, n in zip(entry["places"], entry["places_by_name"])}
         self.needs = entry["needs"]
+        made = {n for p in entry["places"] for n in p[2]} | {n for pair in entry["needs"] for n in pair}
+        self.spelled = {w.replace("_", "-"): w for w in WORDS if w.replace("_", "-") not in made}
         self.arms = {p[0]: a for p, a in zip(entry["places"], entry["arms"])}
         self.place_of = {}
         for (old, new), at in zip(entry["needs"], entry["asked_at"]):
@@ -155,6 +158,13 @@ def index(segs, count):
     return at, used
 
 
+def tail_of(segs, names):
+    """The clauses that projections `1.1..` with nothing after them leave, or None."""
+    if segs and all(seg == "1" for seg in segs) and len(segs) < len(names) - 1:
+        return names[len(segs):]
+    return None
+
+
 def spread(prefix, names):
     return "(" + ", ".join(f"{prefix}.{n}" for n in names) + ")"
 
@@ -183,9 +193,10 @@ class Turner:
         while count < len(segs) and segs[count] == "before":
             count += 1
         if count == len(segs):
-            return root + "".join("." + s for s in segs)
-        here = self.f.up(place, count) or place
+            return root
         rest = segs[count:]
+        if rest[0] == "pre":
+            rest[0] = "requires"
         head = rest[0]
         if root == ")" and head not in ("args", "requires", "ranges", "type_inv", "auto") and not self.f.step(place, head):
             return root + "".join("." + s for s in segs)
@@ -193,6 +204,8 @@ class Turner:
             names = (self.f.e.get("pre") or {}).get("fields") or []
             if len(names) > 1:
                 got = index(rest[1:], len(names))
+                if left := tail_of(rest[1:], names):
+                    return spread(root + ".requires", left)
                 if got is None:
                     return spread(root + ".requires", names) if len(rest) == 1 else root + "." + ".".join(rest)
                 return ".".join([root, "requires", names[got[0]]] + rest[1 + got[1]:])
@@ -215,7 +228,7 @@ class Turner:
                     if got is not None:
                         tail = [names[got[0]]] + tail[got[1]:]
             return ".".join([root] + arm[0] + tail)
-        p = self.f.step(here, head) or self.f.step(place, head)
+        p = self.f.step(place, head)
         if not p:
             return root + "".join("." + s for s in segs)
         rest[0] = p[2][1]
@@ -227,9 +240,22 @@ class Turner:
             names = self.f.clauses.get(p[3], ([], []))[0]
             if len(names) > 1 and all(names):
                 got = index(rest[2:], len(names))
+                if left := tail_of(rest[2:], names):
+                    return spread(".".join([root] + rest[:2]), left)
                 if got is None:
                     return spread(".".join([root] + rest[:2]), names) if len(rest) == 2 else ".".join([root] + rest)
                 return ".".join([root] + rest[:2] + [names[got[0]]] + rest[2 + got[1]:])
+        if len(rest) > 1:
+            rest[1] = {"kept": "auto", "taken": "true", "left": "false"}.get(rest[1], rest[1])
+        if len(rest) > 1 and rest[1] == "last":
+            rest[1] = "new"
+        if len(rest) > 2 and rest[1] in ("auto", "new") and p[3] and rest[2] in ("0", "1"):
+            at = 2
+            while at < len(rest) and rest[at] == "1":
+                at += 1
+            names = self.f.e["params"].get(p[3], [])
+            if at < len(rest) and rest[at] == "0" and at - 2 < len(names):
+                rest[2:at + 1] = [names[at - 2]]
         if len(rest) > 2 and rest[1] in ("new", "initial"):
             rest[2] = plain(rest[2])
         if len(rest) > 1 and p[0].startswith("At-") and rest[1] not in ("invariant", "auto", "branch"):
@@ -237,27 +263,25 @@ class Turner:
         return ".".join([root] + rest)
 
     def body(self, text):
-        # aliases of places: 'let at-x = c.before.before in'
-        while m := re.search(rf"let ({SEG}) = (\w{SEG}|\w)((?:\.before)+) in\s*", text):
-            alias, root, befores = m[1], m[2], m[3]
+        # aliases of places: 'let at-x = c.before.before in'; today's record of a place has all that stood before it
+        while m := re.search(rf"let ({SEG}) =\s+(\w{SEG}|\w)((?:\.before)+) in\s*", text):
+            alias, root = m[1], m[2]
             if root not in self.roots:
                 break
-            place = self.f.up(self.roots[root], befores.count(".before"))
-            if place is None:
-                break
-            tail = text[m.end():]
-            bare = re.search(rf"(?<![\w'.-]){re.escape(alias)}(?![\w'.-])", tail)
-            self.roots[alias] = place
-            if bare:
-                text = text[:m.start()] + f"let {alias} ≔ {root}{befores} in " + tail
-            else:
-                del self.roots[alias]
-                depth = befores
-                tail = re.sub(rf"(?<![\w'.-]){re.escape(alias)}(?=\.)", root + depth, tail)
-                text = text[:m.start()] + tail
+            tail = re.sub(rf"(?<![\w'.-]){re.escape(alias)}(?![\w'-])", root, text[m.end():])
+            text = text[:m.start()] + tail
+        # aliases of steps and of what stands in them
+        while m := re.search(rf"let ({SEG}) =\s+((?:\w{SEG}|\w)(?:\.{SEG})+) in\s*", text):
+            alias, path = m[1], m[2]
+            root = path.split(".")[0]
+            if root not in self.roots or re.search(r"\.args$", path):
+                text = text[:m.start()] + "let " + alias + " ≔ " + text[m.start():][re.match(rf"let {SEG} =\s+", text[m.start():]).end():]
+                continue
+            tail = re.sub(rf"(?<![\w'.-]){re.escape(alias)}(?![\w'-])", lambda _: path, text[m.end():])
+            text = text[:m.start()] + tail
         text = text.replace("≔", "=")
         text = PATH.sub(self.path, text)
-        return text
+        return re.sub(rf"\.({SEG})", lambda m: "." + self.f.spelled.get(m[1], m[1]), text)
 
     def branches(self, text):
         """⊎_elim (λ w. A) (λ w. B) PATH.branch becomes an elim with named ways."""
@@ -325,6 +349,12 @@ def as_record(body, names):
             parts = parts[:len(names) - 1] + ["(" + ", ".join(parts[len(names) - 1:]) + ")"]
         if len(parts) == len(names):
             return lets + "record {\n" + "".join(f"      {n} = {p};\n" for n, p in zip(names, parts)) + "    }"
+    if parts and len(parts) < len(names):
+        first, rest = parts[:-1], names[len(parts) - 1:]
+        fields = [f"{n} = {p}" for n, p in zip(names, first)]
+        for i, n in enumerate(rest):
+            fields.append(f"{n} = others" + ".1" * i + (".0" if i < len(rest) - 1 else ""))
+        return lets + f"let others = {parts[-1]} in\n    record {{\n" + "".join(f"      {f};\n" for f in fields) + "    }"
     s = last.strip()
     if re.match(r"(rw|omega|search|simp|grind|cc|subst)\b", s):
         return body
@@ -582,6 +612,11 @@ def main(argv):
     with open(os.path.join(names, "crates", crate, "names.json"), encoding="utf-8") as f:
         entries = json.load(f)
     clauses = contracts(root)
+    for folder, _, files in os.walk(os.path.join(root, "crates")):
+        for name in files:
+            if name.endswith(".rt"):
+                with open(os.path.join(folder, name), encoding="utf-8") as f:
+                    WORDS.update(re.findall(r"[a-z][a-z0-9]*(?:_[a-z0-9]+)+", f.read()))
     top = os.path.join(root, "crates", crate, "proofs")
     for folder, dirs, files in sorted(os.walk(top)):
         if "Proof.antt" not in files:

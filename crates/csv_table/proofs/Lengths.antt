@@ -1,13 +1,11 @@
 -- No number has more than 24 bytes, and no line more than 826: so a buffer of as many always suffices.
 use Prim.Native.Nat.{ℕ, zero, suc, ◌+◌, ◌-◌, ◌*◌, ◌/◌, ◌%◌, ◌≤◌, ◌<◌}
-use mathlib.Core.Path.{◌≡◌, refl}
 use mathlib.Core.List.{List, [], ◌∷◌, ◌++◌}
 use native.Mathlib.Omega.{arith}
-use borrow.Author.Tests.{ltb-true, ltb-false}
+use borrow.Author.Tests.{ltb-false}
 use lib.Dec.{eqb, leb, ltb}
 use lib.Ieee.{Float, binary64, ne, to_bits}
 use lib.ListN.{length, length-append}
-use Rattle.words.specs.Loop.{pick}
 use Rattle.words.proofs.Branch.{pick_all}
 use Rattle.sheet.specs.Digits.{digits, decimal_of, width_of}
 use Rattle.sheet.proofs.Inverse.{length_digits}

@@ -7,7 +7,7 @@ use native.Mathlib.Numerals.{add-one}
 use native.Mathlib.Omega.{arith}
 use lib.Ieee.{Float, nan}
 use lib.ListN.{length, get_or, take, drop}
-use lib.Seq.{sets, sets-eq, take-append_seam}
+use lib.Seq.{sets-eq, take-append_seam}
 use mathlib.Core.Bool.{Bool, true, false, ◌&&◌}
 use borrow.Author.Tests.{le-leb, lt-leb}
 use lib.Dec.{T, leb}
@@ -20,7 +20,6 @@ use Rattle.forecast_text.specs.Put.{Put}
 use Rattle.forecast_text.proofs.PutLaws.{put-over}
 use Rattle.csv_table.specs.NumberText.{trimmed, pointed, fraction_text, number_text}
 use Rattle.csv_table.specs.Table.{names_text, amounts_text, export, ordered_of, line_of}
-use Rattle.csv_table.specs.declared.answers.Exported.{Exported}
 use Rattle.csv_table.specs.declared.answers.Exported.TheVariants.{Written, RefusedOrder}
 
 -- ---- a fraction

@@ -7,7 +7,7 @@ use native.Mathlib.Nat.{mod-lt}
 use native.Mathlib.Omega.{arith}
 use borrow.Author.Tests.{ne_eqb}
 use lib.Dec.{T, eqb}
-use lib.Ieee.{Float, nan, binary64, fits, ne, to_bits}
+use lib.Ieee.{Float, binary64, fits, ne, to_bits}
 use lib.Ieee.Compare.{differs_from_itself}
 use lib.Ieee.Scale.{finite}
 use Rattle.words.specs.Loop.{pick}

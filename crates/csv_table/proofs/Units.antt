@@ -1,5 +1,5 @@
 -- A finite double is a whole number of 2^-1074, and no two have the same number of them and the same sign.
-use Prim.Native.Nat.{ℕ, zero, suc, ◌+◌, ◌-◌, ◌*◌, ◌/◌, ◌%◌, ◌^◌, ◌≤◌, ◌<◌}
+use Prim.Native.Nat.{ℕ, zero, suc, ◌+◌, ◌-◌, ◌*◌, ◌^◌, ◌≤◌, ◌<◌}
 use mathlib.Core.Path.{◌≡◌, refl, sym, ap, subst, ◌∙◌}
 use mathlib.Core.Bool.{Bool, true, false, not, cond}
 use native.Mathlib.Nat.{mul-one, mul_assoc, mul_comm, mul-le-mul_left, eq_of_mul-eq-mul_right}
@@ -9,7 +9,7 @@ use borrow.Author.Tests.{ne_eqb, leb-true, leb-false, eqb-true, eqb-false}
 use lib.Arith.{lt_of_le-ne}
 use lib.Dec.{T, eqb, leb}
 use lib.Pow.{pow-add, pow_pos}
-use lib.Ieee.{Float, nan, inf, fin, binary64, fits, odd, of_fields, of_bits, to_bits}
+use lib.Ieee.{Float, nan, inf, binary64, fits, odd, of_fields, of_bits, to_bits}
 use lib.Ieee.Bits.{of_bits-to_bits, to_bits-lt, cond_no}
 use lib.Ieee.Exact.{HasValue, odd_sign}
 use lib.Ieee.Scale.{finite}

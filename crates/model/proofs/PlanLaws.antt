@@ -5,7 +5,6 @@ use mathlib.Core.Path.{◌≡◌, refl, sym, ap, ◌∙◌}
 use mathlib.Core.List.{List}
 use mathlib.Core.Logic.{⊎_elim}
 use native.Mathlib.Nat.{eq-or-lt_of_le}
-use native.Mathlib.Numerals.{add-one}
 use native.Mathlib.Omega.{arith}
 use lib.Dec.{eqb, leb, ltb}
 use lib.ListN.{length, get_or, set, length-set, get_or-replicate}
@@ -16,7 +15,7 @@ use Rattle.words.specs.Constants.{«0·0»}
 use Rattle.words.specs.Words.{◌⊕◌, ◌⊖◌, ◌!◌}
 use Rattle.words.specs.Loop.{loop, pick}
 use Rattle.words.proofs.Loops.{loop-none, loop-more}
-use Rattle.words.proofs.Branch.{pick_yes, pick_no, pick_all}
+use Rattle.words.proofs.Branch.{pick_yes, pick_no}
 use Rattle.state.specs.Memory.{zeros}
 use Rattle.model.specs.Model.{Reaction, speed_of, lessened, raised, reacted, all_reacted, derivative_of}
 use Rattle.model.specs.Derivative.{reaction_at, reactions_of}

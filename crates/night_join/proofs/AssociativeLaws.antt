@@ -1,15 +1,11 @@
 -- Joining is associative, refusals included; totals of no lines are neutral; exchanged sides differ in the place alone.
-use Rattle.std.proofs.Common.{◌≡◌, ℕ, ◌+◌, ◌*◌, ◌<◌, ◌≤◌, max, Bool, true, false, eqb, ltb, sym, refl, ap, ◌∙◌, arith, ltb-false, ltb-true, le-ltb, lt-ltb, eqb-true}
+use Rattle.std.proofs.Common.{◌≡◌, ℕ, ◌+◌, ◌<◌, ◌≤◌, max, ltb, sym, ap, ◌∙◌, arith, ltb-false, ltb-true, le-ltb, lt-ltb}
 use Rattle.words.specs.Loop.{pick}
-use Rattle.words.proofs.Branch.{pick_yes, pick_no, pick_all}
-use Rattle.night_totals.specs.Night.{no_totals}
 use Rattle.night_totals.specs.declared.totals.Totals.{Totals}
 use Rattle.night_totals.proofs.FormLaws.{split}
-use Rattle.night_join.specs.declared.joining.Joining.{Joining}
 use Rattle.night_join.specs.declared.joining.Joining.TheVariants as joining
-use Rattle.night_join.specs.Join.{fit_totals, Fit, place_of_both, sum_totals, join_of, then_join, join_then, placeless}
-use Rattle.night_join.specs.Join.{but_place}
-use Rattle.night_join.proofs.JoinLaws.{Good, good, fit, left-first, left-second, left-many, join-few}
+use Rattle.night_join.specs.Join.{Fit, place_of_both, sum_totals, join_of, then_join, join_then}
+use Rattle.night_join.proofs.JoinLaws.{good, left-many, join-few}
 use Rattle.night_join.proofs.JoinLaws.{each, sum-good, sum-fit}
 use Rattle.night_join.proofs.PlaceLaws.{key, place-by-key, key-sum, place-assoc}
 

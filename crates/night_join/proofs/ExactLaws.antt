@@ -1,10 +1,8 @@
 -- 28 is given exactly where a side fails a test of 02's list, and 26 exactly where there are too many lines then.
-use Rattle.std.proofs.Common.{◌≡◌, ℕ, ◌+◌, ◌*◌, ◌<◌, ◌≤◌, Bool, true, false, eqb, ltb, ◌⊎◌, ◌↔◌, sym, refl, ap, ◌∙◌, inl, inr, true≢false, arith, ltb-false, ltb-true, lt-ltb, eqb-true}
-use mathlib.Core.Bool.{false≢true}
+use Rattle.std.proofs.Common.{◌≡◌, ℕ, ◌+◌, ◌*◌, ◌<◌, ◌≤◌, false, eqb, ltb, ◌⊎◌, ◌↔◌, sym, ◌∙◌, inl, inr, true≢false, arith, ltb-false, ltb-true, lt-ltb, eqb-true}
 use borrow.Author.Tests.{eqb-false}
 use Rattle.night_totals.specs.declared.totals.Totals.{Totals}
 use Rattle.night_totals.proofs.FormLaws.{split}
-use Rattle.night_join.specs.declared.joining.Joining.{Joining}
 use Rattle.night_join.specs.declared.joining.Joining.TheVariants as joining
 use Rattle.night_join.specs.Join.{runs_in, fit_totals, Fit, sum_totals, join_of, Unfit}
 use Rattle.night_join.specs.Join.{lines, runs, accepted, rejected, total, ode, jac, lu, largest, above, nowhere}

@@ -1,17 +1,15 @@
 -- What fit totals have, and the laws of joining them.
-use Rattle.std.proofs.Common.{◌≡◌, ℕ, ◌+◌, ◌*◌, ◌%◌, ◌^◌, ◌<◌, ◌≤◌, max, Bool, true, false, eqb, ltb, leb, sym, refl, ap, ◌∙◌, true≢false, mod-eq_of_lt, arith, ltb-false, ltb-true, le-ltb, lt-ltb, eq-eqb, ne_eqb, eqb-true, le-leb, leb-false, leb-true}
+use Rattle.std.proofs.Common.{◌≡◌, ℕ, ◌+◌, ◌*◌, ◌^◌, ◌<◌, ◌≤◌, max, Bool, true, false, eqb, ltb, sym, ap, ◌∙◌, mod-eq_of_lt, arith, ltb-false, le-ltb, eq-eqb, eqb-true, le-leb, leb-true}
 use mathlib.Core.Bool.{false≢true}
-use borrow.Author.Tests.{lt-leb, eqb-false}
+use borrow.Author.Tests.{eqb-false}
 use Rattle.words.specs.Loop.{pick}
 use Rattle.words.proofs.Branch.{pick_yes, pick_no, pick_all}
-use Rattle.night_totals.specs.Entries.{both_of}
-use Rattle.night_totals.specs.Night.{no_totals, plus}
+use Rattle.night_totals.specs.Night.{plus}
 use Rattle.night_totals.specs.declared.totals.Totals.{Totals}
 use Rattle.night_totals.proofs.FormLaws.{split}
 use Rattle.night_totals.proofs.CompleteLaws.{both_true}
-use Rattle.night_join.specs.declared.joining.Joining.{Joining}
 use Rattle.night_join.specs.declared.joining.Joining.TheVariants as joining
-use Rattle.night_join.specs.Join.{runs_in, sum_within, sums_within, place_in, fit_totals, Fit}
+use Rattle.night_join.specs.Join.{runs_in, sum_within, place_in, fit_totals, Fit}
 use Rattle.night_join.specs.Join.{place_of_both, sum_totals, join_of}
 use Rattle.night_join.specs.Words.{place_word, sum_words}
 

@@ -1,22 +1,20 @@
 -- Joined totals are those of the lines one after the other, and totals of lines are never refused by 28.
-use Rattle.std.proofs.Common.{◌≡◌, ℕ, zero, suc, ◌+◌, ◌*◌, ◌<◌, ◌≤◌, max, Bool, true, false, eqb, ltb, List, [], ◌∷◌, ◌++◌, length, sym, refl, ap, ◌∙◌, arith, length-append, eqb-true}
-use borrow.Author.Tests.{eqb-false}
+use Rattle.std.proofs.Common.{◌≡◌, ℕ, suc, ◌+◌, ◌≤◌, eqb, ltb, List, [], ◌∷◌, ◌++◌, length, sym, refl, ap, ◌∙◌, arith, length-append}
 use Rattle.words.specs.Loop.{pick}
 use Rattle.words.proofs.Branch.{pick_yes, pick_no, pick_all}
 use Rattle.night_totals.specs.Entries.{AllFit}
-use Rattle.night_totals.specs.Totals.{sum_of, runs_of, largest_of, first_of, totals_of}
+use Rattle.night_totals.specs.Totals.{sum_of, largest_of, first_of, totals_of}
 use Rattle.night_totals.specs.Reads.{Reads, totals, malformed, too_many}
 use Rattle.night_totals.specs.declared.entry.Entry.{Entry}
 use Rattle.night_totals.specs.declared.totals.Totals.{Totals}
 use Rattle.night_totals.specs.declared.night.Outcome.{Outcome}
 use Rattle.night_totals.specs.declared.night.Outcome.TheVariants as told
-use Rattle.night_totals.proofs.TotalsLaws.{sum-append, runs_append, largest-append, place_of, place-append}
+use Rattle.night_totals.proofs.TotalsLaws.{sum-append, runs_append, largest-append, place-append}
 use Rattle.night_totals.proofs.TotalsLaws.{counted, runs-all, sum-few}
 use Rattle.night_totals.proofs.FormLaws.{split}
-use Rattle.night_join.specs.declared.joining.Joining.{Joining}
 use Rattle.night_join.specs.declared.joining.Joining.TheVariants as joining
-use Rattle.night_join.specs.Join.{fit_totals, Fit, place_of_both, sum_totals, join_of}
-use Rattle.night_join.proofs.JoinLaws.{Good, good, fit, left-many, join-few}
+use Rattle.night_join.specs.Join.{Fit, place_of_both, sum_totals, join_of}
+use Rattle.night_join.proofs.JoinLaws.{fit, left-many, join-few}
 
 largest-few : (es : List Entry) → largest_of es ≤ sum_of (λ e. e.ode) es
 unfolding largest_of sum_of

@@ -1,16 +1,13 @@
 -- Totals of no lines are neutral on either side; exchanged sides differ in the place alone; 28 and 26 exactly.
-use Rattle.std.proofs.Common.{◌≡◌, ℕ, ◌+◌, ◌*◌, ◌<◌, ◌≤◌, max, Bool, true, false, eqb, ltb, sym, refl, ap, ◌∙◌, true≢false, arith, ltb-false, ltb-true, le-ltb, lt-ltb, eq-eqb, ne_eqb, eqb-true}
-use mathlib.Core.Bool.{false≢true}
-use borrow.Author.Tests.{eqb-false}
+use Rattle.std.proofs.Common.{◌≡◌, ℕ, ◌+◌, ◌≤◌, max, eqb, ltb, sym, refl, ap, ◌∙◌, arith, le-ltb, eqb-true}
 use Rattle.words.specs.Loop.{pick}
 use Rattle.words.proofs.Branch.{pick_yes, pick_no, pick_all}
 use Rattle.night_totals.specs.Night.{no_totals}
 use Rattle.night_totals.specs.declared.totals.Totals.{Totals}
 use Rattle.night_totals.proofs.FormLaws.{split}
-use Rattle.night_join.specs.declared.joining.Joining.{Joining}
 use Rattle.night_join.specs.declared.joining.Joining.TheVariants as joining
 use Rattle.night_join.specs.Join.{runs_in, fit_totals, Fit, place_of_both, sum_totals, join_of, placeless, but_place}
-use Rattle.night_join.proofs.JoinLaws.{Good, good, fit, each, left-first, left-second, left-many, join-few}
+use Rattle.night_join.proofs.JoinLaws.{good, fit, each, left-first, left-second, left-many, join-few}
 
 -- ---- neutral
 

@@ -1,14 +1,14 @@
 -- The place of the largest ode of totals that are joined. A side counts by its key: one more than its largest ode, and
 -- 0 where it has no lines.
-use Rattle.std.proofs.Common.{◌≡◌, ℕ, ◌+◌, ◌*◌, ◌<◌, ◌≤◌, max, true, false, eqb, ltb, sym, refl, ap, ◌∙◌, arith, ltb-false, ltb-true, le-ltb, lt-ltb, eq-eqb, ne_eqb, eqb-true}
+use Rattle.std.proofs.Common.{◌≡◌, ℕ, ◌+◌, ◌<◌, ◌≤◌, max, true, false, eqb, ltb, sym, ap, ◌∙◌, arith, ltb-false, ltb-true, le-ltb, lt-ltb, ne_eqb, eqb-true}
 use borrow.Author.Tests.{eqb-false}
 use Rattle.words.specs.Loop.{pick}
 use Rattle.words.proofs.Branch.{pick_yes, pick_no, pick_all}
 use Rattle.night_totals.specs.declared.totals.Totals.{Totals}
 use Rattle.night_totals.proofs.FormLaws.{split}
-use Rattle.night_join.specs.Join.{Fit, place_of_both, sum_totals}
+use Rattle.night_join.specs.Join.{place_of_both, sum_totals}
 use Rattle.night_join.proofs.TestLaws.{ltb-by}
-use Rattle.night_join.proofs.JoinLaws.{Good, good}
+use Rattle.night_join.proofs.JoinLaws.{Good}
 
 abbrev sign : ℕ → ℕ
 sign lines = pick (eqb lines 0) 0 1

@@ -9,7 +9,6 @@ use Rattle.night_totals.specs.Night.{no_totals}
 use Rattle.night_totals.specs.declared.entry.Entry.{Entry}
 use Rattle.night_totals.specs.declared.totals.Totals.{Totals}
 use Rattle.night_totals.specs.declared.night.Outcome.TheVariants as told
-use Rattle.night_join.specs.declared.joining.Joining.{Joining}
 use Rattle.night_join.specs.declared.joining.Joining.TheVariants as joining
 use Rattle.night_join.specs.Join.{Fit, Unfit, join_of, then_join, join_then, but_place}
 use Rattle.night_join.proofs.AssociativeLaws.{associative-proof}

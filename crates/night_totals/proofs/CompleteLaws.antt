@@ -1,13 +1,13 @@
 -- A text of a form is taken to its end, and its numbers are found.
-use Rattle.std.proofs.Common.{◌≡◌, ℕ, zero, suc, ◌+◌, ◌-◌, ◌*◌, ◌/◌, ◌%◌, ◌^◌, ◌<◌, ◌≤◌, Bool, true, false, eqb, ltb, leb, List, [], ◌∷◌, ◌++◌, length, get_or, set, sym, refl, ap, ◌∙◌, true≢false, append_assoc, append-nil, mod-lt, mod-eq_of_lt, div-add-mod', add-one, arith, length-append, length-set, ltb-false, ltb-true, le-ltb, lt-ltb, eq-eqb, ne_eqb, eqb-true}
+use Rattle.std.proofs.Common.{◌≡◌, ℕ, zero, suc, ◌+◌, ◌-◌, ◌*◌, ◌/◌, ◌%◌, ◌^◌, ◌<◌, ◌≤◌, Bool, true, false, eqb, ltb, List, [], ◌∷◌, ◌++◌, length, get_or, set, sym, refl, ap, ◌∙◌, append_assoc, append-nil, mod-lt, mod-eq_of_lt, div-add-mod', arith, length-append, ltb-false, ltb-true, le-ltb, lt-ltb, eq-eqb, ne_eqb, eqb-true}
 use mathlib.Core.Bool.{false≢true}
-use borrow.Author.Tests.{lt-leb, eqb-false}
-use lib.Seq.{get_or-append_seam, append_snoc}
+use borrow.Author.Tests.{lt-leb}
+use lib.Seq.{get_or-append_seam}
 use Rattle.words.specs.Loop.{pick}
 use Rattle.words.proofs.Branch.{pick_yes, pick_no, pick_all}
 use Rattle.forecast_text.specs.Printed.{numeral_of}
 use Rattle.night_totals.specs.Form.{spelt}
-use Rattle.night_totals.specs.Filling.{blank_of, spoilt_of, numbered_at, onward, valued_of, kept}
+use Rattle.night_totals.specs.Filling.{blank_of, numbered_at, onward, valued_of, kept}
 use Rattle.night_totals.specs.Filling.{passed_of, digit_of, stored_of, behind_of, number_of, filled_of}
 use Rattle.night_totals.specs.declared.filling.Filling.{Filling}
 use Rattle.night_totals.proofs.NumeralLaws.{numeral-one, numeral-more}

@@ -1,11 +1,9 @@
 -- A fit line is taken whole, and added.
-use Rattle.std.proofs.Common.{◌≡◌, ℕ, zero, suc, ◌+◌, ◌^◌, ◌<◌, ◌≤◌, Bool, true, false, eqb, ltb, leb, List, [], ◌∷◌, ◌++◌, length, get_or, sym, refl, ap, ◌∙◌, true≢false, append_assoc, append-nil, arith, length-append, le-ltb, eq-eqb, ne_eqb, eqb-true, le-leb}
-use mathlib.Core.Bool.{false≢true}
+use Rattle.std.proofs.Common.{◌≡◌, ℕ, zero, suc, ◌+◌, ◌<◌, ◌≤◌, true, false, eqb, leb, List, [], ◌∷◌, ◌++◌, length, get_or, sym, refl, ap, ◌∙◌, true≢false, append_assoc, append-nil, arith, length-append, le-ltb, eq-eqb, eqb-true, le-leb}
 use borrow.Author.Tests.{lt-leb, eqb-false}
 use Rattle.words.specs.Loop.{pick}
 use Rattle.words.proofs.Branch.{pick_yes, pick_no, pick_all}
 use Rattle.forecast_text.specs.Printed.{text}
-use Rattle.night_totals.specs.Form.{spelt}
 use Rattle.night_totals.specs.Entries.{line_form, numbers_of, line_of, written, known_status, fit_entry, Fit, AllFit}
 use Rattle.night_totals.specs.Entries.{none, and}
 use Rattle.night_totals.specs.Totals.{totals_of}

@@ -1,12 +1,12 @@
 -- What follows of what a text comes to.
-use Rattle.std.proofs.Common.{◌≡◌, ℕ, ◌+◌, ◌*◌, ◌≤◌, Bool, true, false, eqb, leb, List, [], ◌∷◌, ◌++◌, length, sym, refl, ap, ◌∙◌, append_assoc, append-nil, arith, le-leb}
+use Rattle.std.proofs.Common.{◌≡◌, ℕ, ◌+◌, ◌*◌, ◌≤◌, true, List, [], ◌∷◌, length, sym, refl, ◌∙◌, append_assoc, append-nil, arith, le-leb}
 use Rattle.words.specs.Loop.{pick}
 use Rattle.words.proofs.Branch.{pick_yes}
 use Rattle.state.specs.declared.talk.IntegrationResult.{IntegrationResult}
 use Rattle.state.specs.declared.run.Status.{Status}
 use Rattle.state.specs.declared.run.Status.TheVariants as status
 use Rattle.state.specs.Numbers.{status_number}
-use Rattle.forecast_text.specs.Printed.{text, numeral_of, status_line}
+use Rattle.forecast_text.specs.Printed.{text, status_line}
 use Rattle.night_totals.specs.Form.{spelt}
 use Rattle.night_totals.specs.Entries.{known_status, small_count, fit_entry, Fit, AllFit, none, and}
 use Rattle.night_totals.specs.Entries.{line_of, written}

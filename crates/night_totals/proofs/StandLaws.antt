@@ -1,12 +1,12 @@
 -- Where the record stands after any bytes behind whole lines.
-use Rattle.std.proofs.Common.{◌≡◌, ℕ, zero, suc, ◌+◌, ◌%◌, ◌^◌, ◌<◌, ◌≤◌, Bool, true, false, eqb, ltb, leb, List, [], ◌∷◌, ◌++◌, length, get_or, take, sym, refl, ap, ◌∙◌, true≢false, append_assoc, append-nil, le_antisymm, arith, length-append, take_all, ltb-true, eq-eqb, ne_eqb, eqb-true, leb-false, leb-true}
+use Rattle.std.proofs.Common.{◌≡◌, ℕ, zero, suc, ◌+◌, ◌<◌, ◌≤◌, true, false, eqb, leb, List, [], ◌∷◌, ◌++◌, length, take, sym, refl, ap, ◌∙◌, true≢false, append_assoc, append-nil, le_antisymm, arith, length-append, take_all, eqb-true, leb-false, leb-true}
 use mathlib.Core.Bool.{false≢true}
 use borrow.Author.Tests.{eqb-false}
 use Rattle.words.specs.Loop.{pick}
 use Rattle.words.proofs.Branch.{pick_yes, pick_no, pick_all}
-use Rattle.forecast_text.specs.Printed.{text, numeral_of}
+use Rattle.forecast_text.specs.Printed.{text}
 use Rattle.night_totals.specs.Form.{spelt}
-use Rattle.night_totals.specs.Entries.{line_form, numbers_of, line_of, written, fit_entry, Fit, AllFit, none, and}
+use Rattle.night_totals.specs.Entries.{line_form, line_of, written, fit_entry, Fit, AllFit}
 use Rattle.night_totals.specs.Totals.{totals_of}
 use Rattle.night_totals.specs.Filling.{blank_of, spoilt_of, numbered_at, filled_of}
 use Rattle.night_totals.specs.Night.{added_of, entry_from, night_at, full_of, judged_of, step_of, fed_of}
@@ -18,7 +18,7 @@ use Rattle.night_totals.proofs.FedLaws.{fed_then}
 use Rattle.night_totals.proofs.SoundLaws.{past, Sound, blank-sound, blank-past, filled_next}
 use Rattle.night_totals.proofs.FormLaws.{split}
 use Rattle.night_totals.proofs.TotalsLaws.{added_is}
-use Rattle.night_totals.proofs.LineLaws.{line-length, step-judged, judged-on, at_line, fit-one, line-fed}
+use Rattle.night_totals.proofs.LineLaws.{line-length, step-judged, at_line, fit-one, line-fed}
 
 -- the bytes behind the lines es are the lines fs, and then those of c
 pub record Split (es : List Entry) (s : List ℕ) : Type 0 where

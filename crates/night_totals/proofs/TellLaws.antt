@@ -1,9 +1,7 @@
 -- What is told of a text is what it comes to, and nothing else is.
-use Rattle.std.proofs.Common.{◌≡◌, ℕ, zero, suc, ◌+◌, ◌%◌, ◌^◌, ◌<◌, ◌≤◌, Bool, true, false, eqb, leb, ◌↔◌, List, [], ◌∷◌, ◌++◌, length, sym, refl, ap, ◌∙◌, append_assoc, append-nil, mod-eq_of_lt, add-one, arith, length-append, eqb-true, le-leb}
-use borrow.Author.Tests.{eqb-false}
-use Rattle.words.specs.Loop.{pick}
+use Rattle.std.proofs.Common.{◌≡◌, ℕ, suc, ◌<◌, ◌≤◌, true, false, eqb, ◌↔◌, List, [], ◌∷◌, ◌++◌, length, sym, refl, ap, ◌∙◌, append_assoc, append-nil, mod-eq_of_lt, add-one, arith, eqb-true, le-leb}
 use Rattle.words.proofs.Branch.{pick_yes, pick_no}
-use Rattle.night_totals.specs.Entries.{line_form, line_of, written, Fit, AllFit, none, and}
+use Rattle.night_totals.specs.Entries.{line_of, written, Fit, AllFit, none, and}
 use Rattle.night_totals.specs.Totals.{sum_of, runs_of, largest_of, first_of, totals_of}
 use Rattle.night_totals.specs.Reads.{Reads, totals, malformed, too_many}
 use Rattle.night_totals.specs.Filling.{blank_of, spoilt_of}
@@ -17,7 +15,7 @@ use Rattle.night_totals.specs.declared.night.Outcome.TheVariants as told
 use Rattle.night_totals.proofs.FedLaws.{fed_then}
 use Rattle.night_totals.proofs.FormLaws.{split}
 use Rattle.night_totals.proofs.LineLaws.{at_line, lines-fed}
-use Rattle.night_totals.proofs.StandLaws.{Going, Wrong, Beyond, Stand, going, wrong, beyond}
+use Rattle.night_totals.proofs.StandLaws.{Going, Wrong, Stand, going, wrong, beyond}
 use Rattle.night_totals.proofs.StandLaws.{past-none, begun-some, stand, no-line}
 
 start_is : start_of ≡ at_line []

@@ -1,7 +1,7 @@
 -- What a user cites: each theorem in words, its statement, and where it is proved. What lines are read is `written`
 -- with `Fit` (specs/Entries.antt), their totals `totals_of` (specs/Totals.antt), and what a text comes to
 -- `Reads` (specs/Reads.antt).
-use Rattle.std.proofs.Common.{◌≡◌, ℕ, ◌+◌, ◌*◌, ◌≤◌, ◌↔◌, List, [], ◌∷◌, ◌++◌}
+use Rattle.std.proofs.Common.{◌≡◌, ℕ, ◌+◌, ◌↔◌, List, [], ◌∷◌, ◌++◌}
 use Rattle.state.specs.declared.talk.IntegrationResult.{IntegrationResult}
 use Rattle.forecast_text.specs.Printed.{status_line}
 use Rattle.night_totals.specs.Entries.{line_of}

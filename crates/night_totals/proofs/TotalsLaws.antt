@@ -1,14 +1,12 @@
 -- The totals of lines one after the other, and how large they are.
-use Rattle.std.proofs.Common.{◌≡◌, ℕ, zero, suc, ◌+◌, ◌*◌, ◌%◌, ◌^◌, ◌<◌, ◌≤◌, max, Bool, true, false, eqb, ltb, leb, List, [], ◌∷◌, ◌++◌, length, sym, refl, ap, ◌∙◌, mod-eq_of_lt, arith, length-append, ltb-false, ltb-true, le-ltb, lt-ltb, eq-eqb, ne_eqb, eqb-true, leb-true}
-use mathlib.Core.Bool.{false≢true}
+use Rattle.std.proofs.Common.{◌≡◌, ℕ, zero, suc, ◌+◌, ◌*◌, ◌<◌, ◌≤◌, max, Bool, true, false, eqb, ltb, leb, List, [], ◌∷◌, ◌++◌, length, sym, refl, ap, ◌∙◌, mod-eq_of_lt, arith, length-append, ltb-false, ltb-true, eq-eqb, ne_eqb, eqb-true, leb-true}
 use borrow.Author.Tests.{eqb-false}
 use Rattle.words.specs.Loop.{pick}
 use Rattle.words.proofs.Branch.{pick_yes, pick_no, pick_all}
-use Rattle.night_totals.specs.Entries.{known_status, small_count, fit_entry, Fit, AllFit, none, and}
+use Rattle.night_totals.specs.Entries.{known_status, small_count, fit_entry, Fit, AllFit, and}
 use Rattle.night_totals.specs.Totals.{sum_of, runs_of, largest_of, first_of, totals_of}
 use Rattle.night_totals.specs.Night.{plus, raised_of, leads_of, added_of}
 use Rattle.night_totals.specs.declared.entry.Entry.{Entry}
-use Rattle.night_totals.specs.declared.totals.Totals.{Totals}
 use Rattle.night_totals.proofs.FormLaws.{split}
 use Rattle.night_totals.proofs.CompleteLaws.{both_true}
 

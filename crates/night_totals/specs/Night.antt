@@ -1,6 +1,6 @@
 -- What a byte, and a piece of bytes, does to the record of a night: the code's own definition. What it comes to for the
 -- whole text is Reads, and that the two agree a theorem.
-use Rattle.std.specs.Prelude.{ℕ, ◌+◌, ◌%◌, ◌^◌, Bool, true, false, List, [], ◌∷◌, length, ◌==◌, nat_le, nat_lt, slice_index}
+use Rattle.std.specs.Prelude.{ℕ, ◌+◌, ◌%◌, ◌^◌, Bool, true, false, List, [], ◌∷◌, ◌==◌, nat_le, nat_lt, slice_index}
 use Rattle.words.specs.Loop.{pick}
 use Rattle.night_totals.specs.Filling.{blank_of, spoilt_of, filled_of}
 use Rattle.night_totals.specs.Entries.{line_form, most_lines, fit_entry}

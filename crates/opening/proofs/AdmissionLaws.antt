@@ -21,7 +21,8 @@ use Rattle.opening.specs.Admission.{all_unfit, unfit_of, state_rows, count_rows,
 use Rattle.opening.proofs.RowLaws.{joined, verdict-append, verdict-first-proof}
 use Rattle.opening.proofs.OpeningLaws.{within}
 
-unfit-row : (b : Bool) (r : Refusal) (v : Verdict) → unfit_of (pick b (Refused r) v) ≡ pick b (Refused Unfit) (unfit_of v)
+unfit-row : (b : Bool) (r : Refusal) (v : Verdict)
+    → unfit_of (pick b (Refused r) v) ≡ pick b (Refused Unfit) (unfit_of v)
 unfolding pick unfit_of
 unfit-row true r v = refl
 unfit-row false r v = refl
@@ -52,7 +53,8 @@ later_rows r p ip1 ip2 =
     all_unfit (range_rows r.settings) ++ (state_rows r ip1 ip2 ++ (count_rows r ++ reply_rows r.stage p))
 
 pub later-joined : (r : Run) (p : Reply) (ip1 ip2 : List ℕ) → verdict_of (all_unfit (range_rows r.settings)) ≡ Passed
-    → next_of (verdict_of (state_rows r ip1 ip2)) (next_of (verdict_of (count_rows r)) (verdict_of (reply_rows r.stage p)))
+    → next_of (verdict_of (state_rows r ip1 ip2))
+    (next_of (verdict_of (count_rows r)) (verdict_of (reply_rows r.stage p)))
     ≡ verdict_of (later_rows r p ip1 ip2)
 later-joined r p ip1 ip2 e =
     ap (λ (v : Verdict). next_of (verdict_of (state_rows r ip1 ip2)) v)

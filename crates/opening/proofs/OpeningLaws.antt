@@ -2,12 +2,11 @@
 use Prim.Native.Nat.{ℕ, ◌*◌, ◌≤◌}
 use mathlib.Core.Path.{◌≡◌, refl, sym, ap, ◌∙◌}
 use mathlib.Core.Bool.{Bool, true, false, not, ◌&&◌, ◌||◌, true≢false}
-use mathlib.Core.List.{List, [], ◌∷◌, ◌++◌}
+use mathlib.Core.List.{List}
 use lib.Dec.{eqb, ltb}
 use lib.ListN.{length}
 use lib.Ieee.{Float}
 use borrow.Author.Tests.{eqb-true, ltb-false}
-use Rattle.words.specs.Loop.{pick}
 use Rattle.words.proofs.Branch.{pick_yes, pick_no}
 use Rattle.state.specs.declared.settings.Settings.{Settings}
 use Rattle.state.specs.declared.run.Tolerances.{Tolerances}
@@ -19,14 +18,14 @@ use Rattle.state.specs.declared.talk.Opened.TheVariants as opened
 use Rattle.state.specs.declared.talk.Verdict.{Verdict}
 use Rattle.state.specs.declared.talk.Verdict.TheVariants.{Passed, Refused}
 use Rattle.opening.specs.declared.tolerances.Conversion.{Conversion}
-use Rattle.state.specs.Memory.{Memory, memory, Amounts, amounts, Newton, newton, Given, given}
+use Rattle.state.specs.Memory.{memory, Amounts, amounts, Newton, newton, Given, given}
 use Rattle.state.specs.Memory.{Factors, factors, Differences, differences, amounts_fit, newton_fit}
 use Rattle.state.specs.Memory.{given_fit, factors_fit, differences_fit, lengths_fit, zeros, noughts}
 use Rattle.opening.specs.Rows.{verdict_of, outside, Opening, opening, opening_rows}
 use Rattle.opening.specs.Rows.{value_rows, mass_given, rtol_given, atol_given}
 use Rattle.opening.specs.Tolerances.{Converted, converted, converted_of}
 use Rattle.opening.specs.Opening.{Working, working, mass_kept, cleared_of, first_run}
-use Rattle.opening.specs.Opening.{OpeningOutcome, opening_outcome, accepted_of, by_verdict, open_of}
+use Rattle.opening.specs.Opening.{opening_outcome, accepted_of, by_verdict, open_of}
 
 -- ---- the rows behind the sizes
 

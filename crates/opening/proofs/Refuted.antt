@@ -121,8 +121,8 @@ said_from k = number_of (verdict_of (opening_rows (fails_from k)))
 pub rows-in-order : (said_from 1 ∷ said_from 2 ∷ said_from 3 ∷ said_from 4 ∷ said_from 5 ∷ said_from 6 ∷ said_from 7
     ∷ said_from 8 ∷ said_from 9 ∷ said_from 10 ∷ said_from 11 ∷ said_from 12 ∷ said_from 13 ∷ [])
     ≡ (1 ∷ 2 ∷ 3 ∷ 4 ∷ 5 ∷ 6 ∷ 7 ∷ 8 ∷ 9 ∷ 10 ∷ 11 ∷ 12 ∷ 0 ∷ [])
-unfolding verdict_of pick amounts_fit newton_fit given_fit factors_fit differences_fit bad_number place_of mass_given rtol_given
-    atol_given partition_fails given_zero given_below or_else or_none abs_of le lt eq sub of_bits
+unfolding verdict_of pick amounts_fit newton_fit given_fit factors_fit differences_fit bad_number place_of mass_given
+    rtol_given atol_given partition_fails given_zero given_below or_else or_none abs_of le lt eq sub of_bits
 rows-in-order = refl
 
 -- from 0 to 1 with this partition and these two steps
@@ -134,11 +134,12 @@ verdict_by nind1 nind2 nind3 ceiling floor =
     (memory_of nought)))
 
 -- the ceiling is max_step, else |xend - x0|, here 1 [radau.rs:176-178]
-pub floor-at-ceiling : (verdict_by whole.Absent whole.Absent whole.Absent (number.Given two) (number.Given two) ≡ Passed)
+pub floor-at-ceiling :
+    (verdict_by whole.Absent whole.Absent whole.Absent (number.Given two) (number.Given two) ≡ Passed)
     × (verdict_by whole.Absent whole.Absent whole.Absent number.Absent (number.Given one) ≡ Passed)
     × (verdict_by whole.Absent whole.Absent whole.Absent number.Absent (number.Given two) ≡ Refused refusal.MinStep)
-unfolding verdict_of pick amounts_fit newton_fit given_fit factors_fit differences_fit bad_number place_of mass_given rtol_given
-    atol_given partition_fails given_zero given_below or_else or_none abs_of le lt eq sub of_bits
+unfolding verdict_of pick amounts_fit newton_fit given_fit factors_fit differences_fit bad_number place_of mass_given
+    rtol_given atol_given partition_fails given_zero given_below or_else or_none abs_of le lt eq sub of_bits
 floor-at-ceiling = (refl, refl, refl)
 
 -- in machine words 1 + 2^63 + 2^63 is 1, and so is 2^64 - 1 + 1 + 1, where nind1 alone is above n; 2^63 + 2^63 is 0,
@@ -151,6 +152,6 @@ pub sums-dont-wrap : (verdict_by (whole.Given 1) (whole.Given 9_223_372_036_854_
     × (verdict_by whole.Absent (whole.Given 9_223_372_036_854_775_808)
     (whole.Given 9_223_372_036_854_775_808) number.Absent number.Absent
     ≡ Refused refusal.Partition)
-unfolding verdict_of pick amounts_fit newton_fit given_fit factors_fit differences_fit bad_number place_of mass_given rtol_given
-    atol_given partition_fails given_zero given_below or_else or_none abs_of le lt eq sub of_bits
+unfolding verdict_of pick amounts_fit newton_fit given_fit factors_fit differences_fit bad_number place_of mass_given
+    rtol_given atol_given partition_fails given_zero given_below or_else or_none abs_of le lt eq sub of_bits
 sums-dont-wrap = (refl, refl, refl)

@@ -47,7 +47,8 @@ pub one-test : (b : Bool) (r : Refusal) → verdict_of (test b r ∷ []) ≡ pic
 unfolding verdict_of
 one-test b r = refl
 
-next_row : (b : Bool) (r : Refusal) (v w : Verdict) → pick b (Refused r) (next_of v w) ≡ next_of (pick b (Refused r) v) w
+next_row : (b : Bool) (r : Refusal) (v w : Verdict)
+    → pick b (Refused r) (next_of v w) ≡ next_of (pick b (Refused r) v) w
 unfolding pick next_of
 next_row true r v w = refl
 next_row false r v w = refl

@@ -20,7 +20,6 @@ use Rattle.state.specs.declared.settings.Rule.{Rule}
 use Rattle.state.specs.declared.settings.Rule.TheVariants as rule
 use Rattle.state.specs.declared.run.Tolerances.{Tolerances}
 use Rattle.state.specs.declared.run.Tolerances.TheVariants.{Scalars, Lists}
-use Rattle.state.specs.Memory.{zeros}
 use Rattle.state.specs.Settings.{defaults_of}
 use Rattle.opening.specs.declared.tolerances.Conversion.{Conversion}
 use Rattle.opening.specs.Tolerances.{turn_at, scalar_turns, converted_of, newton_tol_of}
@@ -44,25 +43,25 @@ abbrev scalar_by : Rule → ℕ → Conversion
 scalar_by r n = (converted_of r n (Scalars small smaller) [] []).conversion
 
 pub scalar-once : told (scalar_by rule.Rust 1).tolerances ≡ rust.turned_once
-unfolding converted_of scalar_turns turn_at power_of times_at product keeps halve halved_root root_of_form root_of loop pick le
-    mul div of_bits to_bits
+unfolding converted_of scalar_turns turn_at power_of times_at product keeps halve halved_root root_of_form root_of loop
+    pick le mul div of_bits to_bits
 scalar-once = refl
 
 pub scalar-twice : told (scalar_by rule.Rust 2).tolerances ≡ rust.turned_twice
-unfolding converted_of scalar_turns turn_at power_of times_at product keeps halve halved_root root_of_form root_of loop pick le
-    mul div of_bits to_bits
+unfolding converted_of scalar_turns turn_at power_of times_at product keeps halve halved_root root_of_form root_of loop
+    pick le mul div of_bits to_bits
 scalar-twice = refl
 
 -- by the book once, however many amounts
 pub scalar-book : (n : ℕ) → told (scalar_by rule.Book n).tolerances ≡ rust.turned_once
-unfolding converted_of scalar_turns turn_at power_of times_at product keeps halve halved_root root_of_form root_of loop pick le
-    mul div of_bits to_bits
+unfolding converted_of scalar_turns turn_at power_of times_at product keeps halve halved_root root_of_form root_of loop
+    pick le mul div of_bits to_bits
 scalar-book n = refl
 
 -- the Newton tolerance comes from rtol after its turn
 pub newton-tolerance : (bits_of (newton_tol_of number.Absent defaults_of.uround (scalar_by rule.Rust 1).tolst) ∷ [])
     ≡ rust.newton_tolerance
-unfolding converted_of scalar_turns turn_at newton_tol_of power_of times_at product keeps halve halved_root root_of_form root_of
-    units units_in_one square_of border reaches nearest_root sqrt_of max_of min_of loop pick is_nan le lt mul div of_bits
-    to_bits
+unfolding converted_of scalar_turns turn_at newton_tol_of power_of times_at product keeps halve halved_root root_of_form
+    root_of units units_in_one square_of border reaches nearest_root sqrt_of max_of min_of loop pick is_nan le lt mul
+    div of_bits to_bits
 newton-tolerance = refl

@@ -1,7 +1,6 @@
 -- What an opening promises, from its definition, which the contract of `open` says the code equals: what a user cites,
 -- each theorem in words, its statement, and where it is proved. `FirstHolds`, `NoneHolds` and `FirstPlace` stand in
 -- RowLaws.antt.
-use Prim.Native.Nat.{ℕ}
 use mathlib.Core.Path.{◌≡◌}
 use mathlib.Core.Bool.{Bool}
 use mathlib.Core.List.{List}

@@ -1,11 +1,10 @@
 -- When an opening is refused, when accepted, and what a refusal leaves, from its definition and the law of the first
 -- test that holds: the proofs behind Theorems.antt.
 use Prim.Native.Nat.{ℕ}
-use mathlib.Core.Path.{◌≡◌, refl, sym, ap, ◌∙◌}
+use mathlib.Core.Path.{◌≡◌, refl, sym, ap}
 use mathlib.Core.Logic.{◌↔◌}
 use native.Mathlib.Omega.{arith}
 use Rattle.state.specs.declared.talk.Refusal.{Refusal}
-use Rattle.state.specs.declared.talk.Opened.{Opened}
 use Rattle.state.specs.declared.talk.Opened.TheVariants as opened
 use Rattle.state.specs.declared.talk.Verdict.{Verdict}
 use Rattle.state.specs.declared.talk.Verdict.TheVariants.{Passed, Refused}

@@ -1,7 +1,7 @@
 -- The table of opening's refusals (01, 'Numbers that refuse', 1 to 12): one list of tests, row by row in its order. The
 -- first that holds is the refusal. Row 3 is spelled out float by float in the order of 01's bracket, row 9 by its two
 -- tolerances, row 12 by its two steps, so that a refusal tells which value failed.
-use Rattle.std.specs.Prelude.{ℕ, zero, suc, ◌+◌, ◌*◌, Bool, true, false, not, ◌&&◌, ◌||◌, List, [], ◌∷◌, ◌++◌, leb, ltb, eqb, length, Float}
+use Rattle.std.specs.Prelude.{ℕ, suc, ◌+◌, Bool, true, false, not, ◌||◌, List, [], ◌∷◌, ◌++◌, ltb, eqb, length, Float}
 use Rattle.std.specs.Float.{nan, inf, fin}
 use Rattle.std.specs.Float.Ieee.{le, lt, eq}
 use Rattle.words.specs.Words.{◌⊖◌}
@@ -190,7 +190,8 @@ step_rows s n x0 xend =
 abbrev pub value_rows : Settings → ℕ → Float → Float → List Float → List Float → List Float → List Float → List Test
 value_rows s n x0 xend y m rtol atol =
     end_rows x0 xend
-    ++ (list_rows y m rtol atol ++ (number_rows s ++ (range_rows s ++ (tolerance_rows rtol atol ++ step_rows s n x0 xend))))
+    ++ (list_rows y m rtol atol
+    ++ (number_rows s ++ (range_rows s ++ (tolerance_rows rtol atol ++ step_rows s n x0 xend))))
 
 abbrev pub opening_rows : Opening → List Test
 opening_rows o =

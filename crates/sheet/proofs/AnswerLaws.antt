@@ -10,7 +10,7 @@ use lib.ListN.{length, get_or, take}
 use Rattle.words.specs.Loop.{loop}
 use Rattle.words.proofs.Branch.{pick_yes, pick_no}
 use Rattle.sheet.specs.Fill.{placed, rate_at, species_at}
-use Rattle.sheet.specs.Reader.{whole, broken, Read, accepted, malformed, too_long, told_of, read_of}
+use Rattle.sheet.specs.Reader.{whole, broken, accepted, malformed, too_long, told_of, read_of}
 use Rattle.sheet.specs.Reader.{sheet_of, judged_at, model_from, heading_from, heading_of}
 use Rattle.sheet.specs.Reader.{answer_of, amounts_left, rates_left, species_left}
 use Rattle.sheet.specs.declared.numbers.Progress.{Progress}

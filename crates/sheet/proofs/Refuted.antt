@@ -3,7 +3,7 @@
 --     not-zeros-allowed    a decimal that has zeros in front
 --     not-ends-anywhere    bytes behind the last line
 --     not-any-species      a species that the sheet doesn't have
-use Prim.Native.Nat.{ℕ, ◌+◌, ◌*◌, ◌/◌, ◌%◌}
+use Prim.Native.Nat.{ℕ, ◌%◌}
 use mathlib.Core.Bool.{Bool, true, false, true≢false}
 use mathlib.Core.Path.{◌≡◌, refl, sym, ap}
 use mathlib.Core.List.{List, [], ◌∷◌, ◌++◌}

@@ -1,24 +1,20 @@
 -- What an admission that passes says of the run and the memory: everything that the private functions ask.
-use Prim.Native.Nat.{ℕ, ◌+◌, ◌*◌, ◌≤◌, ◌<◌, ◌^◌}
+use Prim.Native.Nat.{ℕ, ◌+◌, ◌*◌, ◌≤◌}
 use mathlib.Core.Path.{◌≡◌, refl, sym, ap, ◌∙◌}
 use mathlib.Core.Bool.{Bool, true, false, not, ◌&&◌}
 use native.Mathlib.Omega.{arith}
-use lib.Dec.{ltb, eqb}
-use lib.ListN.{length}
 use borrow.Author.Tests.{ltb-false, eqb-true, not-false}
-use Rattle.words.specs.Grid.{Square}
 use Rattle.state.specs.declared.run.Run.{Run}
 use Rattle.state.specs.declared.talk.Reply.{Reply}
 use Rattle.state.specs.declared.talk.Verdict.TheVariants.{Passed}
 use Rattle.state.specs.Memory.{Memory, lengths_fit}
 use Rattle.opening.specs.Rows.{verdict_of}
 use Rattle.opening.specs.Admission.{admission_rows, asking_at}
-use Rattle.opening.proofs.RowLaws.{NoneHolds}
 use Rattle.opening.proofs.Theorems.{verdict-first}
-use Rattle.opening.proofs.OpeningLaws.{within, Groups, groups_of, amounts-long, newton-long}
+use Rattle.opening.proofs.OpeningLaws.{within, groups_of, amounts-long, newton-long}
 use Rattle.opening.proofs.OpeningLaws.{given-long, factors-long, differences-long}
 use Rattle.opening.proofs.AdmissionLaws.{product_small}
-use Rattle.solve_blocks.specs.Needs.{Fit, StageFit, NewtonLong, FactorsLong, MemoryLong}
+use Rattle.solve_blocks.specs.Needs.{Fit, StageFit, MemoryLong}
 
 pub record Admitted (r : Run) (m : Memory) : Type 0 where
   pub fit : Fit 16 r.shape.n r

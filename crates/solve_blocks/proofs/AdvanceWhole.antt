@@ -5,7 +5,7 @@ use Rattle.state.specs.declared.talk.Reply.{Reply}
 use Rattle.state.specs.declared.talk.Verdict.TheVariants as verdict
 use Rattle.state.specs.Memory.{Memory}
 use Rattle.solve_blocks.specs.Events.{Logged, logged, and_then}
-use Rattle.solve_blocks.specs.Advance.{Stepped, Called, AdvanceOutcome, asked}
+use Rattle.solve_blocks.specs.Advance.{Stepped, Called, asked}
 use Rattle.solve_blocks.specs.Advance.{received_of, passed_of, called_of, advance_by}
 
 abbrev pub whole_of : Run → Reply → Memory → Logged Called

@@ -4,7 +4,7 @@
 --     built-anew    the matrices that are built, whatever stood in their cells
 --     stop-anew     the stop of an elimination, whatever the pivots were
 use Prim.Native.Nat.{ℕ, zero, suc, ◌+◌, ◌-◌, ◌*◌, ◌≤◌, ◌<◌}
-use mathlib.Core.Path.{◌≡◌, refl, sym, ap, ap₂, ◌∙◌, subst}
+use mathlib.Core.Path.{◌≡◌, refl, sym, ap₂, ◌∙◌, subst}
 use mathlib.Core.Bool.{Bool, true, false}
 use mathlib.Core.List.{List, [], ◌∷◌}
 use native.Mathlib.Omega.{arith}
@@ -14,8 +14,8 @@ use lib.Ieee.{Float}
 use Rattle.words.specs.Loop.{loop, pick}
 use Rattle.words.specs.Grid.{put}
 use Rattle.words.proofs.Loops.{loop-none, loop-more}
-use Rattle.matrix.specs.Answers.{Stop, nowhere, column}
-use Rattle.matrix.specs.Elimination.{Kind, Work, work, goes_on, pass_with, passed, pass_at, last_tested, single, worked}
+use Rattle.matrix.specs.Answers.{Stop}
+use Rattle.matrix.specs.Elimination.{Kind, Work, work, pass_with, passed, pass_at, last_tested, single, worked}
 use Rattle.state.specs.declared.settings.Mass.{Mass}
 use Rattle.solve_blocks.specs.Entries.{Three, three}
 use Rattle.solve_blocks.specs.Matrices.{build_at, build_row, built_of}

@@ -4,15 +4,14 @@
 --                     position that q says of its core
 --     everyway        so what is closed under the rules holds of the whole advance, up to the next request
 use Prim.Native.Nat.{ℕ, zero, suc, ◌+◌, ◌≤◌}
-use mathlib.Core.Path.{◌≡◌, refl, sym, ap, ◌∙◌, subst}
-use mathlib.Core.Bool.{Bool, true, false, true≢false}
+use mathlib.Core.Path.{◌≡◌, refl, sym, ap, subst}
+use mathlib.Core.Bool.{true, false, true≢false}
 use mathlib.Core.List.{List, [], ◌∷◌, ◌++◌, append-nil, append_assoc}
 use native.Mathlib.Omega.{arith}
 use lib.Dec.{leb, ltb}
 use lib.Ieee.{Float, le}
 use borrow.Author.Tests.{ltb-true, ltb-false, leb-true, leb-false, not-true, not-false}
 use Rattle.words.specs.Constants.{«1·0»}
-use Rattle.words.specs.Loop.{pick}
 use Rattle.words.specs.Grid.{Square}
 use Rattle.words.proofs.Branch.{pick_all}
 use Rattle.matrix.specs.Answers.{nowhere}
@@ -63,7 +62,7 @@ use Rattle.solve_blocks.proofs.FactorsKept.{replied-same}
 use Rattle.solve_blocks.proofs.Decompositions.{Long, set_long, set-square}
 use Rattle.solve_blocks.proofs.Passes.{pass_kept}
 use Rattle.solve_blocks.proofs.Passes as passes
-use Rattle.solve_blocks.proofs.Tries.{built, e1_stop, e2_stop, error-column}
+use Rattle.solve_blocks.proofs.Tries.{built, e1_stop, error-column}
 use Rattle.solve_blocks.proofs.Tries.{no-error, real-answers, complex-answers}
 use Rattle.solve_blocks.proofs.Rules.{Position, replied, reporting, arrived, main, matrices, attempt, failing}
 use Rattle.solve_blocks.proofs.Rules.{newton, estimate, judging, asked, iterated, slowed, is_modified, Closed}
@@ -478,7 +477,7 @@ module _ (r : Run) (p : Reply) (m : Memory) (admits : verdict_of (admission_rows
   unfolding KeptAt
   shaped =
       let there-kept = replied-leads (kept-closed r p [] []) {es = []} r.stage r m going (refl, (refl, refl)) in
-      (kept_step r _ there.step there-kept).1.0
+      (kept_step r (received_of r p m).log there.step there-kept).1.0
 
   factors-long : FactorsLong r.shape.n there.memory.factors
   factors-long =

@@ -10,7 +10,7 @@ use lib.Ieee.{Float, nan, inf, add, sub, mul, div, neg, le, lt, is_nan, of_int, 
 use Rattle.words.specs.Words.{double, ◌⊘◌, ◌!◌}
 use Rattle.words.specs.Constants.{«0·0», «1·2», «0·99», «0·5», «0·1»}
 use Rattle.words.specs.Loop.{loop, pick}
-use Rattle.words.specs.Grid.{at, put}
+use Rattle.words.specs.Grid.{at}
 use Rattle.scalar.specs.Order.{abs_of, max_of, min_of, clamp_of}
 use Rattle.scalar.specs.Products.{times_at, power_of, product}
 use Rattle.words.specs.Patterns.{units, units_in_one}
@@ -36,8 +36,8 @@ use Rattle.solve_blocks.specs.declared.step.Step.TheVariants as step
 use Rattle.solve_blocks.specs.Setters.{◌▸◌, in_control, in_numbers, set_first}
 use Rattle.solve_blocks.specs.Setters.{set_x, set_h, set_hnew, set_theta, set_faccon}
 use Rattle.solve_blocks.specs.Setters.{set_newt, set_here, set_thqold, set_dynold}
-use Rattle.solve_blocks.specs.Entries.{mass_at, jac_at, combined, Three, three}
-use Rattle.solve_blocks.specs.Matrices.{build_at, failed_of, wished_of}
+use Rattle.solve_blocks.specs.Entries.{mass_at, combined, Three, three}
+use Rattle.solve_blocks.specs.Matrices.{failed_of, wished_of}
 use Rattle.solve_blocks.specs.Jacobian.{asked_here}
 use Rattle.solve_blocks.specs.Attempt.{ask_stage_of, began_of, attempt_of}
 use Rattle.solve_blocks.specs.Newton.{sums, mass_sum_at, mass_sums, rate_of}

@@ -13,7 +13,6 @@ use lib.Ieee.{Float, le, lt}
 use borrow.Author.Tests.{ltb-true}
 use Rattle.words.specs.Words.{◌⊖◌, ◌⊗◌, ◌⊘◌}
 use Rattle.words.specs.Constants.{«1·0», «20·0», «0·99», «0·8», «1e-4»}
-use Rattle.words.specs.Loop.{pick}
 use Rattle.words.proofs.Branch.{pick_yes, pick_no, pick_all}
 use Rattle.scalar.specs.Order.{max_of, min_of}
 use Rattle.scalar.specs.Products.{power_of}

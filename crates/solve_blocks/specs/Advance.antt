@@ -1,6 +1,5 @@
 -- An advance: refused by the first row that holds, and then nothing is written; else `solve` goes on from the call of
 -- the host that the reply answers, up to its next one.
-use Rattle.std.specs.Prelude.{List, Float}
 use Rattle.words.specs.Words.{◌⊕◌, ◌⊗◌}
 use Rattle.scalar.specs.Coefficients.{C2}
 use Rattle.state.specs.declared.run.Run.{Run}

@@ -1,6 +1,5 @@
 -- `put_decimal` meets its contract.
 use native.Mathlib.Omega.{arith}
-use borrow.Author.Rules.{rules}
 use Rattle.sheet.proofs.Inverse.{length_digits, width-bound}
 use Rattle.csv_table.proofs.digits.put_decimal.Goals as goal
 

@@ -1,12 +1,9 @@
 -- What each loop of `put_digits` keeps.
 use Prim.Native.Nat.{◌≤◌, ◌<◌}
-use mathlib.Core.Path.{◌≡◌, refl, ◌∙◌}
-use native.Mathlib.Omega.{arith}
-use borrow.Author.Rules.{rules}
-use lib.ListN.{length, length-set}
+use mathlib.Core.Path.{◌≡◌}
+use lib.ListN.{length}
 use lib.Seq.{sets}
 use Rattle.sheet.specs.Digits.{power, digits}
-use Rattle.forecast_text.proofs.DigitLaws.{last_byte, digit-turn, digits-put}
 use Rattle.csv_table.proofs.digits.put_digits.Given as goal
 
 abbrev pub invariant-loop-left : goal.invariant-loop-left

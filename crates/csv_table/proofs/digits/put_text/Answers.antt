@@ -1,9 +1,7 @@
 -- `put_text` meets its contract: with the bytes that are left to put, memory is what it is to be.
-use Prim.Native.Nat.{◌+◌, ◌-◌, ◌≤◌}
-use mathlib.Core.Path.{◌≡◌, refl, ◌∙◌}
+use mathlib.Core.Path.{refl, ◌∙◌}
 use native.Mathlib.Omega.{arith}
-use lib.ListN.{length, drop, length-set}
-use lib.Seq.{sets}
+use lib.ListN.{length-set}
 use Rattle.forecast_text.proofs.PutLaws.{text-first, text-more, text-all}
 use Rattle.csv_table.proofs.digits.put_text.Goals as goal
 

@@ -1,10 +1,7 @@
 -- `put_amounts` meets its contract: the amounts passed are put.
-use Prim.Native.Nat.{◌+◌, ◌-◌, ◌*◌, ◌≤◌}
-use mathlib.Core.Path.{◌≡◌, refl, ap}
+use mathlib.Core.Path.{refl}
 use native.Mathlib.Omega.{arith}
-use lib.ListN.{length, take}
 use lib.Seq.{take_all}
-use Rattle.forecast_text.specs.Put.{Put}
 use Rattle.forecast_text.proofs.PutLaws.{put-none, put_then}
 use Rattle.csv_table.specs.Table.{amounts_text}
 use Rattle.csv_table.proofs.LineLaws.{amounts-more}

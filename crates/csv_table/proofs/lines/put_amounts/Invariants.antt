@@ -1,13 +1,9 @@
 -- What each loop of `put_amounts` keeps.
-use Prim.Native.Nat.{◌+◌, ◌-◌, ◌*◌, ◌≤◌}
-use mathlib.Core.Path.{◌≡◌, refl, ap}
-use native.Mathlib.Omega.{arith}
+use Prim.Native.Nat.{◌+◌, ◌*◌, ◌≤◌}
+use mathlib.Core.Path.{◌≡◌}
 use lib.ListN.{length, take}
-use lib.Seq.{take_all}
 use Rattle.forecast_text.specs.Put.{Put}
-use Rattle.forecast_text.proofs.PutLaws.{put-none, put_then}
 use Rattle.csv_table.specs.Table.{amounts_text}
-use Rattle.csv_table.proofs.LineLaws.{amounts-more}
 use Rattle.csv_table.proofs.lines.put_amounts.Given as goal
 
 abbrev pub invariant-loop-i : goal.invariant-loop-i

@@ -1,6 +1,5 @@
 -- `put_name` meets its contract.
 use native.Mathlib.Omega.{arith}
-use borrow.Author.Rules.{rules}
 use Rattle.forecast_text.specs.Printed.{text}
 use Rattle.forecast_text.proofs.PutLaws.{put_then}
 use Rattle.csv_table.proofs.lines.put_name.Goals as goal

@@ -1,10 +1,7 @@
 -- `put_names` meets its contract: the columns passed are named.
-use Prim.Native.Nat.{◌+◌, ◌-◌, ◌*◌, ◌≤◌}
 use mathlib.Core.Path.{◌≡◌, refl}
 use native.Mathlib.Nat.{le_antisymm}
 use native.Mathlib.Omega.{arith}
-use lib.ListN.{length}
-use Rattle.forecast_text.specs.Put.{Put}
 use Rattle.forecast_text.proofs.PutLaws.{put-none, put_then}
 use Rattle.csv_table.specs.Table.{names_text}
 use Rattle.csv_table.proofs.LineLaws.{names_more}

@@ -1,13 +1,9 @@
 -- What each loop of `put_names` keeps.
-use Prim.Native.Nat.{◌+◌, ◌-◌, ◌*◌, ◌≤◌}
-use mathlib.Core.Path.{◌≡◌, refl}
-use native.Mathlib.Nat.{le_antisymm}
-use native.Mathlib.Omega.{arith}
+use Prim.Native.Nat.{◌+◌, ◌*◌, ◌≤◌}
+use mathlib.Core.Path.{◌≡◌}
 use lib.ListN.{length}
 use Rattle.forecast_text.specs.Put.{Put}
-use Rattle.forecast_text.proofs.PutLaws.{put-none, put_then}
 use Rattle.csv_table.specs.Table.{names_text}
-use Rattle.csv_table.proofs.LineLaws.{names_more}
 use Rattle.csv_table.proofs.lines.put_names.Given as goal
 
 abbrev pub invariant-loop-k : goal.invariant-loop-k

@@ -1,6 +1,5 @@
 -- `put_fraction` meets its contract.
 use native.Mathlib.Omega.{arith}
-use borrow.Author.Rules.{rules}
 use Rattle.forecast_text.specs.Printed.{text}
 use Rattle.forecast_text.proofs.PutLaws.{put-none, put_then}
 use Rattle.sheet.proofs.Inverse.{length_digits}

@@ -1,6 +1,5 @@
 -- `put_magnitude` meets its contract, test by test.
 use native.Mathlib.Omega.{arith}
-use borrow.Author.Rules.{rules}
 use borrow.Author.Tests.{eq-eqb, ne_eqb}
 use Rattle.words.proofs.Branch.{pick_yes, pick_no}
 use Rattle.forecast_text.specs.Printed.{text}

@@ -1,7 +1,6 @@
 -- `put_number` meets its contract: what equals itself is put by its bits.
 use mathlib.Core.Path.{◌≡◌, ◌∙◌}
 use native.Mathlib.Omega.{arith}
-use borrow.Author.Rules.{rules}
 use lib.Ieee.{binary64, to_bits}
 use Rattle.words.proofs.Branch.{pick_yes, pick_no}
 use Rattle.forecast_text.specs.Printed.{text}

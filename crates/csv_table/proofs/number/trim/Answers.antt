@@ -1,6 +1,6 @@
 -- `trim` meets its contract: what is left to look at has the digits that are to be kept.
 use native.Mathlib.Omega.{arith}
-use Rattle.csv_table.proofs.TrimLaws.{Trimming, trimming-first, trimming-next, trimming-last, wide}
+use Rattle.csv_table.proofs.TrimLaws.{trimming-first, trimming-next, trimming-last, wide}
 use Rattle.csv_table.proofs.number.trim.Goals as goal
 
 pub loop-value-init : goal.loop-value-init

@@ -1,6 +1,5 @@
 -- What each loop of `trim` keeps.
-use native.Mathlib.Omega.{arith}
-use Rattle.csv_table.proofs.TrimLaws.{Trimming, trimming-first, trimming-next, trimming-last, wide}
+use Rattle.csv_table.proofs.TrimLaws.{Trimming}
 use Rattle.csv_table.proofs.number.trim.Given as goal
 
 abbrev pub invariant-loop-value : goal.invariant-loop-value

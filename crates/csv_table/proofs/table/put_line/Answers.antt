@@ -1,6 +1,5 @@
 -- `put_line` meets its contract.
 use mathlib.Core.Path.{refl}
-use borrow.Author.Rules.{rules}
 use borrow.Author.Tests.{le-leb, lt-leb}
 use Rattle.words.proofs.Branch.{yes, no}
 use Rattle.csv_table.specs.Table.{line_of}

@@ -1,7 +1,6 @@
 -- `put_record` meets its contract.
-use mathlib.Core.Path.{◌≡◌, sym, ap, ◌∙◌}
+use mathlib.Core.Path.{sym, ap, ◌∙◌}
 use native.Mathlib.Omega.{arith}
-use borrow.Author.Rules.{rules}
 use lib.ListN.{length}
 use Rattle.csv_table.specs.Table.{line_of, record_text}
 use Rattle.csv_table.proofs.LineLaws.{line-cut, ordered, too_few, too-many}
@@ -14,10 +13,10 @@ pub returns-then-amounts-gt-MOST : goal.returns-then-amounts-gt-MOST
 returns-then-amounts-gt-MOST c = too-many _ _ _ c.if-amounts-gt-MOST.true
 
 pub returns : goal.returns
-returns c = let start = c.before.before.before.before.before.before.before.before.before.before.before.before.before in
-    let out = start.args.out.now in
-    let x = start.args.x in
-    let ys = start.args.amounts.now in
+returns c =
+    let out = c.args.out.now in
+    let x = c.args.x in
+    let ys = c.args.amounts.now in
     let cut = line-cut c.put_record_line-count.ensures.put (omega arith) in
     c.put_line.ensures ∙ ap (λ l. line_of l out) cut
     ∙ sym (ordered (length ys) (record_text x ys) out (omega arith) (omega arith))

@@ -1,12 +1,11 @@
 -- `interpolate` meets its contract. The furthest index read, 3 * n + i, lies below 4 * n, which is at most
-use Prim.Native.Nat.{◌-◌}
+-- the number of coefficients.
 use mathlib.Core.Path.{refl, ap}
 use native.Mathlib.Omega.{arith}
 use lib.ListN.{length-set}
-use borrow.Author.Rules.{rules}
 use borrow.Author.Tests.{lt-ltb, le-ltb}
 use Rattle.words.proofs.Branch.{yes, no}
-use Rattle.words.proofs.Loops.{Ran, begun, turned, ended, Long}
+use Rattle.words.proofs.Loops.{begun, turned, ended}
 use Rattle.dense.specs.declared.answers.Interpolated.TheVariants.{Done}
 use Rattle.dense.specs.Answers.{interpolation}
 use Rattle.dense.specs.Interpolate.{place_of, polynomial_of, amount_of, interpolate_at, interpolate_of}

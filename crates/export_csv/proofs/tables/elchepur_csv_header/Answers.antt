@@ -1,5 +1,4 @@
 -- `elchepur_csv_header` meets its contract.
-use borrow.Author.Rules.{rules}
 use Rattle.export_csv.proofs.ToldLaws.{told-by}
 use Rattle.export_csv.proofs.tables.elchepur_csv_header.Goals as goal
 

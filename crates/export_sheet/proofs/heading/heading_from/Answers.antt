@@ -1,6 +1,5 @@
 -- `heading_from` meets its contract.
 use Rattle.export_sheet.specs.Border.{heading_given}
-use borrow.Author.Rules.{rules}
 use Rattle.export_sheet.proofs.heading.heading_from.Goals as goal
 
 pub returns : goal.returns

@@ -1,7 +1,6 @@
 -- `put_counts` meets its contract.
 use Rattle.export_sheet.proofs.BorderLaws.{sets_over}
 use Rattle.export_sheet.specs.Border.{count_words}
-use borrow.Author.Rules.{rules}
 use Rattle.export_sheet.proofs.heading.put_counts.Goals as goal
 
 pub returns : goal.returns

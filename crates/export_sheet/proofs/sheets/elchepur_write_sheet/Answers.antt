@@ -3,7 +3,6 @@ use mathlib.Core.Path.{sym, ap, ◌∙◌}
 use Rattle.sheet_write.specs.Writer.{number_of}
 use Rattle.export_sheet.specs.Border.{length_left}
 use Rattle.export_sheet.proofs.BorderLaws.{left-unknown, left-written}
-use borrow.Author.Rules.{rules}
 use Rattle.export_sheet.proofs.sheets.elchepur_write_sheet.Goals as goal
 
 pub returns-then-rule-gt-LAST_RULE : goal.returns-then-rule-gt-LAST_RULE

@@ -1,6 +1,5 @@
 -- `elchepur_ask_shelf` meets its contract: it is `shelf`'s own, read field by field.
 use mathlib.Core.Path.{ap, ◌∙◌}
-use borrow.Author.Rules.{rules}
 use Rattle.shelf.specs.Answers.{asking_number}
 use Rattle.shelf.specs.Ask.{ask_of}
 use Rattle.export_shelf.proofs.shelves.elchepur_ask_shelf.Goals as goal

@@ -1,6 +1,5 @@
 -- `elchepur_empty_shelf` meets its contract.
 use mathlib.Core.Path.{ap}
-use borrow.Author.Rules.{rules}
 use Rattle.export_shelf.specs.Border.{shelf_words}
 use Rattle.export_shelf.proofs.shelves.elchepur_empty_shelf.Goals as goal
 

@@ -1,10 +1,6 @@
 -- `put_digits` meets its contract: with the digits that are left to put, memory is what it is to be.
-use Prim.Native.Nat.{◌≤◌, ◌<◌}
-use mathlib.Core.Path.{◌≡◌, refl, ◌∙◌}
+use mathlib.Core.Path.{refl, ◌∙◌}
 use native.Mathlib.Omega.{arith}
-use borrow.Author.Rules.{rules}
-use lib.Seq.{sets}
-use Rattle.sheet.specs.Digits.{power, digits}
 use Rattle.forecast_text.proofs.DigitLaws.{last_byte, digit-turn, digits-put}
 use Rattle.forecast_text.proofs.digits.put_digits.Goals as goal
 

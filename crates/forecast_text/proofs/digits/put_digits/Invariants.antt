@@ -1,11 +1,8 @@
 -- What each loop of `put_digits` keeps.
 use Prim.Native.Nat.{◌≤◌, ◌<◌}
-use mathlib.Core.Path.{◌≡◌, refl, ◌∙◌}
-use native.Mathlib.Omega.{arith}
-use borrow.Author.Rules.{rules}
+use mathlib.Core.Path.{◌≡◌}
 use lib.Seq.{sets}
 use Rattle.sheet.specs.Digits.{power, digits}
-use Rattle.forecast_text.proofs.DigitLaws.{last_byte, digit-turn, digits-put}
 use Rattle.forecast_text.proofs.digits.put_digits.Given as goal
 
 abbrev pub invariant-loop-left : goal.invariant-loop-left

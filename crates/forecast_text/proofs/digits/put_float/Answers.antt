@@ -1,6 +1,5 @@
 -- `put_float` meets its contract: sixteen hexadecimal digits spell every pattern.
 use native.Mathlib.Omega.{arith}
-use borrow.Author.Rules.{rules}
 use Rattle.sheet.proofs.DigitsLaws.{sixteen}
 use Rattle.sheet.proofs.Inverse.{length_digits}
 use Rattle.forecast_text.proofs.digits.put_float.Goals as goal

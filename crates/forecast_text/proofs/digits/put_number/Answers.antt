@@ -1,6 +1,5 @@
 -- `put_number` meets its contract.
 use native.Mathlib.Omega.{arith}
-use borrow.Author.Rules.{rules}
 use Rattle.sheet.proofs.Inverse.{length_digits}
 use Rattle.forecast_text.proofs.DigitLaws.{width_few, width-spells, twenty}
 use Rattle.forecast_text.proofs.digits.put_number.Goals as goal

@@ -1,6 +1,5 @@
 -- `put_amount` meets its contract.
 use native.Mathlib.Omega.{arith}
-use borrow.Author.Rules.{rules}
 use Rattle.forecast_text.specs.Printed.{text}
 use Rattle.forecast_text.proofs.PutLaws.{put_then}
 use Rattle.forecast_text.proofs.lines.put_amount.Goals as goal

@@ -1,12 +1,9 @@
 -- `put_amounts` meets its contract: the amounts passed are put.
-use Prim.Native.Nat.{◌+◌, ◌-◌, ◌*◌, ◌≤◌}
 use mathlib.Core.Path.{◌≡◌, ap, ◌∙◌}
 use native.Mathlib.Nat.{le_antisymm}
 use native.Mathlib.Omega.{arith}
-use borrow.Author.Rules.{rules}
 use lib.ListN.{length, take}
 use Rattle.forecast_text.specs.Printed.{amounts_text}
-use Rattle.forecast_text.specs.Put.{Put}
 use Rattle.forecast_text.proofs.PutLaws.{put-none, put_then}
 use Rattle.forecast_text.proofs.LineLaws.{few-taken, amounts-more}
 use Rattle.forecast_text.proofs.lines.put_amounts.Goals as goal
@@ -17,8 +14,8 @@ loop-i-init c = (omega arith, omega arith, put-none _ _)
 
 pub loop-i-preserved : goal.loop-i-preserved
 loop-i-preserved c = let i = c.loop-i.i in
-    let ys = c.args.t3 in
-    let l : length ys ≡ 32 = c.well_formed.1.1.0.1.0.1 in (
+    let ys = c.args.amounts in
+    let l : length ys ≡ 32 = omega arith in (
       omega arith,
       omega arith,
       rw (amounts-more ys i (omega arith))
@@ -26,8 +23,8 @@ loop-i-preserved c = let i = c.loop-i.i in
     )
 
 pub returns : goal.returns
-returns c = let ys = c.args.t3 in
-    let l : length ys ≡ 32 = c.well_formed.1.1.0.1.0.1 in
+returns c = let ys = c.args.amounts in
+    let l : length ys ≡ 32 = omega arith in
     let e : take c.loop-i.i ys
     ≡ take c.args.species ys =
     ap (λ n. take n ys)

@@ -1,14 +1,8 @@
 -- What each loop of `put_amounts` keeps.
-use Prim.Native.Nat.{◌+◌, ◌-◌, ◌*◌, ◌≤◌}
-use mathlib.Core.Path.{◌≡◌, ap, ◌∙◌}
-use native.Mathlib.Nat.{le_antisymm}
-use native.Mathlib.Omega.{arith}
-use borrow.Author.Rules.{rules}
-use lib.ListN.{length, take}
+use Prim.Native.Nat.{◌+◌, ◌*◌, ◌≤◌}
+use lib.ListN.{take}
 use Rattle.forecast_text.specs.Printed.{amounts_text}
 use Rattle.forecast_text.specs.Put.{Put}
-use Rattle.forecast_text.proofs.PutLaws.{put-none, put_then}
-use Rattle.forecast_text.proofs.LineLaws.{few-taken, amounts-more}
 use Rattle.forecast_text.proofs.lines.put_amounts.Given as goal
 
 abbrev pub invariant-loop-i : goal.invariant-loop-i

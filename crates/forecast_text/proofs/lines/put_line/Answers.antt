@@ -1,5 +1,4 @@
 -- `put_line` meets its contract.
-use borrow.Author.Rules.{rules}
 use Rattle.forecast_text.specs.Printed.{text}
 use Rattle.forecast_text.proofs.PutLaws.{put_then}
 use Rattle.forecast_text.proofs.lines.put_line.Goals as goal

@@ -1,6 +1,5 @@
 -- `put_named` meets its contract.
 use native.Mathlib.Omega.{arith}
-use borrow.Author.Rules.{rules}
 use Rattle.forecast_text.proofs.PutLaws.{put_then}
 use Rattle.forecast_text.proofs.lines.put_named.Goals as goal
 

@@ -1,6 +1,5 @@
 -- `put_status` meets its contract.
 use native.Mathlib.Omega.{arith}
-use borrow.Author.Rules.{rules}
 use Rattle.forecast_text.specs.Printed.{text, numeral_of}
 use Rattle.forecast_text.proofs.PutLaws.{put_then}
 use Rattle.forecast_text.proofs.LineLaws.{put-named}

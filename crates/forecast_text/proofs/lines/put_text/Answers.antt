@@ -1,9 +1,6 @@
 -- `put_text` meets its contract: with the bytes that are left to put, memory is what it is to be.
-use Prim.Native.Nat.{◌+◌, ◌-◌, ◌≤◌}
-use mathlib.Core.Path.{◌≡◌, refl, ◌∙◌}
+use mathlib.Core.Path.{refl, ◌∙◌}
 use native.Mathlib.Omega.{arith}
-use lib.ListN.{length, drop}
-use lib.Seq.{sets}
 use Rattle.forecast_text.proofs.PutLaws.{text-first, text-more, text-all}
 use Rattle.forecast_text.proofs.lines.put_text.Goals as goal
 

@@ -1,10 +1,8 @@
 -- What each loop of `put_text` keeps.
-use Prim.Native.Nat.{◌+◌, ◌-◌, ◌≤◌}
-use mathlib.Core.Path.{◌≡◌, refl, ◌∙◌}
-use native.Mathlib.Omega.{arith}
+use Prim.Native.Nat.{◌+◌, ◌≤◌}
+use mathlib.Core.Path.{◌≡◌}
 use lib.ListN.{length, drop}
 use lib.Seq.{sets}
-use Rattle.forecast_text.proofs.PutLaws.{text-first, text-more, text-all}
 use Rattle.forecast_text.proofs.lines.put_text.Given as goal
 
 abbrev pub invariant-loop-i : goal.invariant-loop-i

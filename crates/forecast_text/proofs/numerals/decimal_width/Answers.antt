@@ -1,6 +1,6 @@
 -- `decimal_width` meets its contract: each division by ten drops a digit.
 use native.Mathlib.Omega.{arith}
-use Rattle.forecast_text.proofs.DigitLaws.{Wide, wide-first, wide-next, wide-last}
+use Rattle.forecast_text.proofs.DigitLaws.{wide-first, wide-next, wide-last}
 use Rattle.forecast_text.proofs.numerals.decimal_width.Goals as goal
 
 pub loop-left-init : goal.loop-left-init

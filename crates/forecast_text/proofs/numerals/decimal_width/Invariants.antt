@@ -1,6 +1,5 @@
 -- What each loop of `decimal_width` keeps.
-use native.Mathlib.Omega.{arith}
-use Rattle.forecast_text.proofs.DigitLaws.{Wide, wide-first, wide-next, wide-last}
+use Rattle.forecast_text.proofs.DigitLaws.{Wide}
 use Rattle.forecast_text.proofs.numerals.decimal_width.Given as goal
 
 abbrev pub invariant-loop-left : goal.invariant-loop-left

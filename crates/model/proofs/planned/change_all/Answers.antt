@@ -1,9 +1,9 @@
 -- `change_all` meets its contract. After i turns the first i reactions have their changes.
-use Prim.Native.Nat.{ℕ, ◌-◌, ◌+◌, ◌*◌, ◌≤◌}
-use mathlib.Core.Path.{◌≡◌, subst, ap, ◌∙◌}
+use Prim.Native.Nat.{ℕ, ◌+◌, ◌*◌}
+use mathlib.Core.Path.{subst, ap, ◌∙◌}
 use native.Mathlib.Nat.{le_antisymm}
 use native.Mathlib.Omega.{arith}
-use lib.ListN.{length, get_or}
+use lib.ListN.{get_or}
 use Rattle.model.specs.Model.{times_amount, speed_of}
 use Rattle.model.specs.Plan.{Changes}
 use Rattle.model.proofs.PlanLaws.{changes-none, changes-more}

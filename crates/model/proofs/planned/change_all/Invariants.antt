@@ -1,12 +1,8 @@
 -- What each loop of `change_all` keeps.
-use Prim.Native.Nat.{ℕ, ◌-◌, ◌+◌, ◌*◌, ◌≤◌}
-use mathlib.Core.Path.{◌≡◌, subst, ap, ◌∙◌}
-use native.Mathlib.Nat.{le_antisymm}
-use native.Mathlib.Omega.{arith}
-use lib.ListN.{length, get_or}
-use Rattle.model.specs.Model.{times_amount, speed_of}
+use Prim.Native.Nat.{◌≤◌}
+use mathlib.Core.Path.{◌≡◌}
+use lib.ListN.{length}
 use Rattle.model.specs.Plan.{Changes}
-use Rattle.model.proofs.PlanLaws.{changes-none, changes-more}
 use Rattle.model.proofs.planned.change_all.Given as goal
 
 abbrev pub invariant-loop-i : goal.invariant-loop-i

@@ -1,6 +1,6 @@
 -- `list_all` meets its contract. After s turns the first s species are listed.
-use Prim.Native.Nat.{ℕ, ◌-◌, ◌≤◌}
-use mathlib.Core.Path.{◌≡◌, subst}
+use Prim.Native.Nat.{ℕ}
+use mathlib.Core.Path.{subst}
 use native.Mathlib.Nat.{le_antisymm}
 use native.Mathlib.Omega.{arith}
 use Rattle.model.specs.Plan.{Listings}
@@ -23,7 +23,7 @@ loop-s-preserved c = let a = c.args in
     let l = c.loop-s in (
       omega arith,
       listings-more a.species.now a.count l.s l.starts l.terms
-          c.list_species.new.1.1.1.0 c.list_species.result (omega arith) (omega arith) l.invariant.1
+          c.list_species.new.terms c.list_species.result (omega arith) (omega arith) l.invariant.1
           c.list_species.ensures,
     )
 

@@ -1,10 +1,6 @@
 -- What each loop of `list_all` keeps.
-use Prim.Native.Nat.{ℕ, ◌-◌, ◌≤◌}
-use mathlib.Core.Path.{◌≡◌, subst}
-use native.Mathlib.Nat.{le_antisymm}
-use native.Mathlib.Omega.{arith}
+use Prim.Native.Nat.{◌≤◌}
 use Rattle.model.specs.Plan.{Listings}
-use Rattle.model.proofs.PlanLaws.{listings-none, listings-more}
 use Rattle.model.proofs.planned.list_all.Given as goal
 
 abbrev pub invariant-loop-s : goal.invariant-loop-s

@@ -1,6 +1,5 @@
 -- `list_place` meets its contract.
 use native.Mathlib.Omega.{arith}
-use borrow.Author.Rules.{rules}
 use Rattle.model.proofs.PlanLaws.{lists-passed, lists-full, lists-put}
 use Rattle.model.proofs.planned.list_place.Goals as goal
 

@@ -1,10 +1,6 @@
 -- What each loop of `list_species` keeps.
-use Prim.Native.Nat.{ℕ, ◌-◌, ◌≤◌}
-use mathlib.Core.Path.{◌≡◌, subst}
-use native.Mathlib.Nat.{le_antisymm}
-use native.Mathlib.Omega.{arith}
+use Prim.Native.Nat.{◌≤◌}
 use Rattle.model.specs.Plan.{Lists}
-use Rattle.model.proofs.PlanLaws.{lists-none}
 use Rattle.model.proofs.planned.list_species.Given as goal
 
 abbrev pub invariant-loop-k : goal.invariant-loop-k

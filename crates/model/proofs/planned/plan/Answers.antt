@@ -4,7 +4,6 @@ use mathlib.Core.Path.{sym, ◌∙◌}
 use native.Mathlib.Omega.{arith}
 use lib.ListN.{length, length-set}
 use lib.Seq.{get_or-set_same}
-use borrow.Author.Rules.{rules}
 use Rattle.model.specs.Derivative.{unknown}
 use Rattle.model.proofs.TestLaws.{all_known}
 use Rattle.model.proofs.PlanLaws.{plannable, all-planned}
@@ -62,7 +61,7 @@ returns-then-n-reactions c = let a = c.args in
     let l = c.list_all in
     let f = plannable a.n a.reactions (length a.species.now)
     c.if-n-reactions.true in
-    λ h. all-planned a.n a.reactions a.species.now l.new.1.1.1.0 l.new.1.1.1.1.0
+    λ h. all-planned a.n a.reactions a.species.now l.new.starts l.new.terms
     (omega (arith, f.few)) f.handful f.enough
     (all_known a.n a.species.now (4 * a.reactions)
     (sym c.unknown_among.ensures

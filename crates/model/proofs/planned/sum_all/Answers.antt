@@ -1,10 +1,8 @@
 -- `sum_all` meets its contract. After s turns the first s species have their sums.
-use Prim.Native.Nat.{ℕ, ◌-◌, ◌+◌, ◌≤◌, ◌<◌}
-use mathlib.Core.Path.{◌≡◌}
+use Prim.Native.Nat.{ℕ, ◌+◌}
 use native.Mathlib.Omega.{arith}
-use lib.ListN.{length, get_or, length-set}
+use lib.ListN.{get_or, length-set}
 use Rattle.words.specs.Constants.{«0·0»}
-use Rattle.words.specs.Words.{◌!◌}
 use Rattle.words.specs.Loop.{loop}
 use Rattle.model.specs.Plan.{term_at}
 use Rattle.model.proofs.PlanLaws.{sums-more}

@@ -1,13 +1,11 @@
 -- What each loop of `sum_all` keeps.
-use Prim.Native.Nat.{ℕ, ◌-◌, ◌+◌, ◌≤◌, ◌<◌}
+use Prim.Native.Nat.{ℕ, ◌+◌, ◌≤◌, ◌<◌}
 use mathlib.Core.Path.{◌≡◌}
-use native.Mathlib.Omega.{arith}
-use lib.ListN.{length, get_or, length-set}
+use lib.ListN.{length, get_or}
 use Rattle.words.specs.Constants.{«0·0»}
 use Rattle.words.specs.Words.{◌!◌}
 use Rattle.words.specs.Loop.{loop}
 use Rattle.model.specs.Plan.{term_at}
-use Rattle.model.proofs.PlanLaws.{sums-more}
 use Rattle.model.proofs.planned.sum_all.Given as goal
 
 abbrev pub invariant-loop-s : goal.invariant-loop-s

@@ -1,10 +1,8 @@
 -- `sum_of` meets its contract.
-use Prim.Native.Nat.{ℕ, ◌-◌}
-use mathlib.Core.Path.{refl, ap}
+use mathlib.Core.Path.{refl}
 use native.Mathlib.Omega.{arith}
 use lib.Ieee.{of_bits}
-use Rattle.words.specs.Constants.{«0·0»}
-use Rattle.words.proofs.Loops.{Ran, begun, turned, ended, Any}
+use Rattle.words.proofs.Loops.{begun, turned, ended}
 use Rattle.model.specs.Plan.{term_at}
 use Rattle.model.proofs.planned.sum_of.Goals as goal
 

@@ -1,10 +1,6 @@
 -- What each loop of `sum_of` keeps.
-use Prim.Native.Nat.{ℕ, ◌-◌}
-use mathlib.Core.Path.{refl, ap}
-use native.Mathlib.Omega.{arith}
-use lib.Ieee.{of_bits}
 use Rattle.words.specs.Constants.{«0·0»}
-use Rattle.words.proofs.Loops.{Ran, begun, turned, ended, Any}
+use Rattle.words.proofs.Loops.{Ran, Any}
 use Rattle.model.specs.Plan.{term_at}
 use Rattle.model.proofs.planned.sum_of.Given as goal
 

@@ -1,5 +1,4 @@
 -- `react` meets its contract.
-use borrow.Author.Rules.{rules}
 use Rattle.model.specs.Model.{speed_of, reacted}
 use Rattle.model.proofs.reactions.react.Goals as goal
 

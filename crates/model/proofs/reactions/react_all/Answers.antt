@@ -1,9 +1,8 @@
 -- `react_all` meets its contract. After i turns the first i reactions have had their share.
-use Prim.Native.Nat.{ℕ, ◌-◌, ◌+◌, ◌*◌, ◌≤◌}
-use mathlib.Core.Path.{◌≡◌, refl, ap, ◌∙◌}
+use Prim.Native.Nat.{ℕ, ◌+◌, ◌*◌}
+use mathlib.Core.Path.{refl, ap, ◌∙◌}
 use native.Mathlib.Nat.{le_antisymm}
 use native.Mathlib.Omega.{arith}
-use lib.ListN.{length}
 use Rattle.model.specs.Model.{all_reacted}
 use Rattle.model.specs.Derivative.{reaction_at, reactions_of}
 use Rattle.model.proofs.ReactionLaws.{turn, turn-length}

@@ -1,12 +1,9 @@
 -- What each loop of `react_all` keeps.
-use Prim.Native.Nat.{ℕ, ◌-◌, ◌+◌, ◌*◌, ◌≤◌}
-use mathlib.Core.Path.{◌≡◌, refl, ap, ◌∙◌}
-use native.Mathlib.Nat.{le_antisymm}
-use native.Mathlib.Omega.{arith}
+use Prim.Native.Nat.{◌≤◌}
+use mathlib.Core.Path.{◌≡◌}
 use lib.ListN.{length}
 use Rattle.model.specs.Model.{all_reacted}
-use Rattle.model.specs.Derivative.{reaction_at, reactions_of}
-use Rattle.model.proofs.ReactionLaws.{turn, turn-length}
+use Rattle.model.specs.Derivative.{reactions_of}
 use Rattle.model.proofs.reactions.react_all.Given as goal
 
 abbrev pub invariant-loop-i : goal.invariant-loop-i

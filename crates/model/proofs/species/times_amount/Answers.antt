@@ -1,6 +1,5 @@
 -- `times_amount` meets its contract.
 use mathlib.Core.Path.{refl}
-use borrow.Author.Rules.{rules}
 use borrow.Author.Tests.{eq-eqb, ne_eqb}
 use Rattle.words.proofs.Branch.{yes, no}
 use Rattle.model.specs.Model.{times_amount}

@@ -1,9 +1,7 @@
 -- `unknown_among` meets its contract.
-use Prim.Native.Nat.{◌-◌}
-use mathlib.Core.Bool.{false}
 use mathlib.Core.Path.{refl}
 use native.Mathlib.Omega.{arith}
-use Rattle.words.proofs.Loops.{Ran, begun, turned, ended, Any}
+use Rattle.words.proofs.Loops.{begun, turned, ended}
 use Rattle.model.specs.Derivative.{unknown_at}
 use Rattle.model.proofs.species.unknown_among.Goals as goal
 

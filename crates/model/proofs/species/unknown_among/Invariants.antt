@@ -1,9 +1,6 @@
 -- What each loop of `unknown_among` keeps.
-use Prim.Native.Nat.{◌-◌}
 use mathlib.Core.Bool.{false}
-use mathlib.Core.Path.{refl}
-use native.Mathlib.Omega.{arith}
-use Rattle.words.proofs.Loops.{Ran, begun, turned, ended, Any}
+use Rattle.words.proofs.Loops.{Ran, Any}
 use Rattle.model.specs.Derivative.{unknown_at}
 use Rattle.model.proofs.species.unknown_among.Given as goal
 

@@ -1,7 +1,6 @@
 -- `fed` meets its contract: with the bytes that are left, the record comes to what it is to be.
-use Rattle.std.proofs.Common.{◌≡◌, ◌-◌, ◌≤◌, length, drop, sym, refl, ap, ◌∙◌, arith, rules}
+use Rattle.std.proofs.Common.{sym, refl, ◌∙◌, arith}
 use Rattle.night_chain.proofs.FedLaws.{fed-more, fed-all}
-use Rattle.night_chain.specs.Chain.{fed_of}
 use Rattle.night_chain.proofs.chain.fed.Goals as goal
 
 pub loop-i-init : goal.loop-i-init

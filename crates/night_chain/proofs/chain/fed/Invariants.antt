@@ -1,6 +1,5 @@
 -- What each loop of `fed` keeps.
-use Rattle.std.proofs.Common.{◌≡◌, ◌-◌, ◌≤◌, length, drop, sym, refl, ap, ◌∙◌, arith, rules}
-use Rattle.night_chain.proofs.FedLaws.{fed-more, fed-all}
+use Rattle.std.proofs.Common.{◌≡◌, ◌≤◌, length, drop}
 use Rattle.night_chain.specs.Chain.{fed_of}
 use Rattle.night_chain.proofs.chain.fed.Given as goal
 

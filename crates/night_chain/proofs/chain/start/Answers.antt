@@ -1,5 +1,4 @@
 -- `start` meets its contract.
-use Rattle.std.proofs.Common.{rules}
 use Rattle.night_chain.proofs.chain.start.Goals as goal
 
 pub returns : goal.returns

@@ -1,5 +1,5 @@
 -- `step` meets its contract.
-use Rattle.std.proofs.Common.{refl, rules}
+use Rattle.std.proofs.Common.{refl}
 use Rattle.words.proofs.Branch.{yes, no}
 use Rattle.forecast_text.specs.Printed.{text}
 use Rattle.night_chain.specs.Chain.{step_of}

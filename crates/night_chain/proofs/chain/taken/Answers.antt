@@ -1,5 +1,5 @@
 -- `taken` meets its contract.
-use Rattle.std.proofs.Common.{rules, eq-eqb, ne_eqb}
+use Rattle.std.proofs.Common.{eq-eqb, ne_eqb}
 use Rattle.words.proofs.Branch.{yes, no}
 use Rattle.night_chain.specs.Chain.{taken_of}
 use Rattle.night_chain.proofs.chain.taken.Goals as goal

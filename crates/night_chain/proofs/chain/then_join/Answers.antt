@@ -1,6 +1,5 @@
 -- `then_join` meets its contract.
 use Rattle.night_chain.proofs.ChainLaws.{then-joined, then-unfit, then_many}
-use Rattle.std.proofs.Common.{rules}
 use Rattle.night_chain.proofs.chain.then_join.Goals as goal
 
 pub returns-in-Joined : goal.returns-in-Joined

@@ -1,5 +1,5 @@
 -- `told` meets its contract.
-use Rattle.std.proofs.Common.{rules, eq-eqb, ne_eqb}
+use Rattle.std.proofs.Common.{eq-eqb, ne_eqb}
 use Rattle.words.proofs.Branch.{yes, no}
 use Rattle.night_chain.specs.Chain.{told_of}
 use Rattle.night_chain.proofs.ChainLaws.{answer-joined, answer-unfit, answer-many}
@@ -7,12 +7,12 @@ use Rattle.night_chain.proofs.chain.told.Goals as goal
 
 pub returns-then-filling : goal.returns-then-filling
 unfolding told_of
-returns-then-filling c = yes _ _ _ c.if-filling.true (rw c.wrapping_add_u64.ensures)
+returns-then-filling c = yes _ _ _ c.if-filling.true (rw c.wrapping_add_u64.ensures.value)
 
 pub returns-then-filling-ne0 : goal.returns-then-filling-ne0
 unfolding told_of
 returns-then-filling-ne0 c = no _ _ _ c.if-filling.false
-    (no _ _ _ (ne_eqb _ _ c.if-filling-ne0.true) (rw c.wrapping_add_u64-then-filling-ne0.ensures))
+    (no _ _ _ (ne_eqb _ _ c.if-filling-ne0.true) (rw c.wrapping_add_u64-then-filling-ne0.ensures.value))
 
 pub returns-in-Joined : goal.returns-in-Joined
 unfolding told_of

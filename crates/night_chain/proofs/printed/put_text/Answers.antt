@@ -1,6 +1,5 @@
 -- `put_text` meets its contract: with the bytes that are left to put, memory is what it is to be.
-use Rattle.std.proofs.Common.{◌≡◌, ◌+◌, ◌-◌, ◌≤◌, length, drop, refl, ◌∙◌, arith}
-use lib.Seq.{sets}
+use Rattle.std.proofs.Common.{refl, ◌∙◌, arith}
 use Rattle.night_chain.proofs.PutLaws.{put-more, put_all, put_whole}
 use Rattle.night_chain.proofs.printed.put_text.Goals as goal
 

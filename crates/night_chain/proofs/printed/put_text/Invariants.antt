@@ -1,7 +1,6 @@
 -- What each loop of `put_text` keeps.
-use Rattle.std.proofs.Common.{◌≡◌, ◌+◌, ◌-◌, ◌≤◌, length, drop, refl, ◌∙◌, arith}
+use Rattle.std.proofs.Common.{◌≡◌, ◌≤◌, length, drop}
 use lib.Seq.{sets}
-use Rattle.night_chain.proofs.PutLaws.{put-more, put_all, put_whole}
 use Rattle.night_chain.proofs.printed.put_text.Given as goal
 
 abbrev pub invariant-loop-i : goal.invariant-loop-i

@@ -1,5 +1,4 @@
 -- `all_within` meets its contract.
-use Rattle.std.proofs.Common.{rules}
 use Rattle.night_join.proofs.joining.all_within.Goals as goal
 
 pub returns : goal.returns

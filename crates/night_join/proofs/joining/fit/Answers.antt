@@ -1,5 +1,5 @@
 -- `fit` meets its contract.
-use Rattle.std.proofs.Common.{refl, rules, le-ltb, lt-ltb}
+use Rattle.std.proofs.Common.{refl, le-ltb, lt-ltb}
 use Rattle.words.proofs.Branch.{yes, no}
 use Rattle.night_join.specs.Join.{fit_totals}
 use Rattle.night_join.proofs.joining.fit.Goals as goal

@@ -1,5 +1,5 @@
 -- `join` meets its contract, way by way.
-use Rattle.std.proofs.Common.{◌≡◌, sym, refl, ◌∙◌, rules}
+use Rattle.std.proofs.Common.{sym, ◌∙◌}
 use borrow.Author.Tests.{not-true, not-false}
 use Rattle.night_join.proofs.JoinLaws.{left-first, left-second, left-many, left-joined}
 use Rattle.night_join.proofs.joining.join.Goals as goal

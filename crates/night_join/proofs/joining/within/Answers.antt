@@ -1,5 +1,5 @@
 -- `within` meets its contract.
-use Rattle.std.proofs.Common.{refl, rules}
+use Rattle.std.proofs.Common.{refl}
 use Rattle.night_join.specs.Join.{sum_within}
 use Rattle.night_join.proofs.joining.within.Goals as goal
 

@@ -1,17 +1,16 @@
 -- `added` meets its contract.
-use Rattle.std.proofs.Common.{rules}
 use Rattle.night_totals.proofs.adding.added.Goals as goal
 
 pub returns : goal.returns
 returns c = rw (
   c.chosen-2.ensures,
   c.chosen.ensures,
-  c.wrapping_add_u64-6.ensures,
-  c.wrapping_add_u64-5.ensures,
-  c.wrapping_add_u64-4.ensures,
-  c.wrapping_add_u64-3.ensures,
-  c.wrapping_add_u64-2.ensures,
-  c.wrapping_add_u64.ensures,
+  c.wrapping_add_u64-6.ensures.value,
+  c.wrapping_add_u64-5.ensures.value,
+  c.wrapping_add_u64-4.ensures.value,
+  c.wrapping_add_u64-3.ensures.value,
+  c.wrapping_add_u64-2.ensures.value,
+  c.wrapping_add_u64.ensures.value,
   c.raised-6.ensures,
   c.raised-5.ensures,
   c.raised-4.ensures,
@@ -19,5 +18,5 @@ returns c = rw (
   c.raised-2.ensures,
   c.raised.ensures,
   c.leads-first.ensures,
-  c.wrapping_add_u64-lines.ensures,
+  c.wrapping_add_u64-lines.ensures.value,
 )

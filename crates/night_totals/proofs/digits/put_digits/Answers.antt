@@ -1,7 +1,5 @@
 -- `put_digits` meets its contract: with the digits that are left to put, memory is what it is to be.
-use Rattle.std.proofs.Common.{◌≡◌, ◌<◌, ◌≤◌, refl, ◌∙◌, arith, rules}
-use lib.Seq.{sets}
-use Rattle.sheet.specs.Digits.{power, digits}
+use Rattle.std.proofs.Common.{refl, ◌∙◌, arith}
 use Rattle.forecast_text.proofs.DigitLaws.{last_byte, digit-turn, digits-put}
 use Rattle.night_totals.proofs.digits.put_digits.Goals as goal
 

@@ -1,8 +1,7 @@
 -- What each loop of `put_digits` keeps.
-use Rattle.std.proofs.Common.{◌≡◌, ◌<◌, ◌≤◌, refl, ◌∙◌, arith, rules}
+use Rattle.std.proofs.Common.{◌≡◌, ◌<◌, ◌≤◌}
 use lib.Seq.{sets}
 use Rattle.sheet.specs.Digits.{power, digits}
-use Rattle.forecast_text.proofs.DigitLaws.{last_byte, digit-turn, digits-put}
 use Rattle.night_totals.proofs.digits.put_digits.Given as goal
 
 abbrev pub invariant-loop-left : goal.invariant-loop-left

@@ -1,5 +1,5 @@
 -- `put_number` meets its contract.
-use Rattle.std.proofs.Common.{arith, rules}
+use Rattle.std.proofs.Common.{arith}
 use Rattle.sheet.proofs.Inverse.{length_digits}
 use Rattle.forecast_text.proofs.DigitLaws.{width_few, width-spells, twenty}
 use Rattle.night_totals.proofs.digits.put_number.Goals as goal

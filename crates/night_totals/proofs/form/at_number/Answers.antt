@@ -1,5 +1,5 @@
 -- `at_number` meets its contract.
-use Rattle.std.proofs.Common.{rules, le-ltb, lt-ltb}
+use Rattle.std.proofs.Common.{le-ltb, lt-ltb}
 use Rattle.night_totals.specs.Filling.{number_of}
 use Rattle.words.proofs.Branch.{yes, no}
 use Rattle.night_totals.proofs.form.at_number.Goals as goal

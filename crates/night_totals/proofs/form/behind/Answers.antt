@@ -1,5 +1,4 @@
 -- `behind` meets its contract.
-use Rattle.std.proofs.Common.{rules}
 use Rattle.night_totals.specs.Filling.{behind_of}
 use Rattle.words.proofs.Branch.{yes, no}
 use Rattle.night_totals.proofs.form.behind.Goals as goal

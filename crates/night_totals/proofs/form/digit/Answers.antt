@@ -1,5 +1,5 @@
 -- `digit` meets its contract.
-use Rattle.std.proofs.Common.{rules, eq-eqb, ne_eqb, le-leb}
+use Rattle.std.proofs.Common.{eq-eqb, ne_eqb, le-leb}
 use borrow.Author.Tests.{lt-leb, not-true, not-false}
 use Rattle.night_totals.specs.Filling.{digit_of}
 use Rattle.words.proofs.Branch.{yes, no}

@@ -1,5 +1,5 @@
 -- `filled` meets its contract.
-use Rattle.std.proofs.Common.{sym, ◌∙◌, rules, eq-eqb, ne_eqb}
+use Rattle.std.proofs.Common.{sym, ◌∙◌, eq-eqb, ne_eqb}
 use Rattle.night_totals.specs.Filling.{filled_of}
 use Rattle.words.proofs.Branch.{yes, no}
 use Rattle.night_totals.proofs.form.filled.Goals as goal

@@ -1,5 +1,5 @@
 -- `numbered` meets its contract.
-use Rattle.std.proofs.Common.{refl, rules, le-ltb, lt-ltb}
+use Rattle.std.proofs.Common.{refl, le-ltb, lt-ltb}
 use Rattle.night_totals.specs.Filling.{numbered_at}
 use Rattle.words.proofs.Branch.{yes, no}
 use Rattle.night_totals.proofs.form.numbered.Goals as goal

@@ -1,5 +1,5 @@
 -- `passed` meets its contract.
-use Rattle.std.proofs.Common.{refl, rules, eq-eqb, ne_eqb, le-leb}
+use Rattle.std.proofs.Common.{refl, eq-eqb, ne_eqb, le-leb}
 use borrow.Author.Tests.{lt-leb}
 use Rattle.night_totals.specs.Filling.{passed_of}
 use Rattle.words.proofs.Branch.{yes, no}

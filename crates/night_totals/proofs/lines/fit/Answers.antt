@@ -1,5 +1,4 @@
 -- `fit` meets its contract.
-use Rattle.std.proofs.Common.{rules}
 use Rattle.night_totals.specs.Entries.{fit_entry}
 use Rattle.night_totals.proofs.lines.fit.Goals as goal
 

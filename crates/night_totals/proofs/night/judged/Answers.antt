@@ -1,5 +1,5 @@
 -- `judged` meets its contract.
-use Rattle.std.proofs.Common.{sym, ap, ◌∙◌, rules, eq-eqb, ne_eqb}
+use Rattle.std.proofs.Common.{sym, ap, ◌∙◌, eq-eqb, ne_eqb}
 use Rattle.night_totals.specs.Entries.{fit_entry}
 use Rattle.night_totals.specs.Night.{judged_of}
 use Rattle.words.proofs.Branch.{yes, no}

@@ -1,5 +1,5 @@
 -- `step` meets its contract.
-use Rattle.std.proofs.Common.{sym, refl, ◌∙◌, rules}
+use Rattle.std.proofs.Common.{sym, refl, ◌∙◌}
 use Rattle.night_totals.specs.Night.{step_of}
 use Rattle.forecast_text.specs.Printed.{text}
 use Rattle.words.proofs.Branch.{yes, no}

@@ -1,5 +1,5 @@
 -- `told` meets its contract.
-use Rattle.std.proofs.Common.{refl, rules, eq-eqb, ne_eqb}
+use Rattle.std.proofs.Common.{refl, eq-eqb, ne_eqb}
 use Rattle.night_totals.specs.Night.{told_of}
 use Rattle.words.proofs.Branch.{yes, no}
 use Rattle.night_totals.proofs.night.told.Goals as goal
@@ -10,11 +10,11 @@ returns-then-night c = yes _ _ _ c.if-night.true refl
 
 pub returns-then-filling : goal.returns-then-filling
 unfolding told_of
-returns-then-filling c = no _ _ _ c.if-night.false (yes _ _ _ c.if-filling.true (rw c.wrapping_add_u64.ensures))
+returns-then-filling c = no _ _ _ c.if-night.false (yes _ _ _ c.if-filling.true (rw c.wrapping_add_u64.ensures.value))
 
 pub returns-then-filling-ne0 : goal.returns-then-filling-ne0
 unfolding told_of
-returns-then-filling-ne0 c = no _ _ _ c.if-night.false (no _ _ _ c.if-filling.false (no _ _ _ (ne_eqb _ _ c.if-filling-ne0.true) (rw c.wrapping_add_u64-then-filling-ne0.ensures)))
+returns-then-filling-ne0 c = no _ _ _ c.if-night.false (no _ _ _ c.if-filling.false (no _ _ _ (ne_eqb _ _ c.if-filling-ne0.true) (rw c.wrapping_add_u64-then-filling-ne0.ensures.value)))
 
 pub returns : goal.returns
 unfolding told_of

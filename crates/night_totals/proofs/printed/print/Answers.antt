@@ -1,5 +1,4 @@
 -- `print` meets its contract.
-use Rattle.std.proofs.Common.{rules}
 use Rattle.night_totals.proofs.WrittenLaws.{printed-put}
 use Rattle.night_totals.specs.Printed.{printed_of}
 use Rattle.forecast_text.specs.Printed.{text}
@@ -7,7 +6,7 @@ use Rattle.night_totals.proofs.printed.print.Goals as goal
 
 pub returns-in-Totals : goal.returns-in-Totals
 unfolding printed_of text
-returns-in-Totals c = let all = printed-put c.args.outcome _ c.in-Totals.is (rw c.before.Numbers-of.ensures at c.put_form.ensures.put) c.put_form.ensures.upper_bound in
+returns-in-Totals c = let all = printed-put c.args.outcome _ c.in-Totals.is (rw c.numbers_of.ensures at c.put_form.ensures.put) c.put_form.ensures.upper_bound in
     record { out_after = all.0; value = all.1 }
 
 pub returns-in-Malformed : goal.returns-in-Malformed

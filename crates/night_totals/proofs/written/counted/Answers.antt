@@ -1,5 +1,5 @@
 -- `counted` meets its contract.
-use Rattle.std.proofs.Common.{ℕ, arith, rules, eq-eqb, ne_eqb}
+use Rattle.std.proofs.Common.{ℕ, arith, eq-eqb, ne_eqb}
 use Rattle.words.proofs.Branch.{pick_yes, pick_no}
 use Rattle.night_totals.proofs.written.counted.Goals as goal
 

@@ -1,10 +1,9 @@
 -- `put_form` meets its contract: the pieces passed are put.
-use Rattle.std.proofs.Common.{◌≡◌, ◌-◌, ◌*◌, ◌≤◌, length, take, sym, refl, ap, ◌∙◌, arith, take_all, rules}
+use Rattle.std.proofs.Common.{sym, refl, ◌∙◌, arith, take_all}
 use Rattle.night_totals.proofs.WrittenLaws.{piece-more, slots-more}
 use Rattle.night_totals.proofs.FormLaws.{slots_in}
 use Rattle.night_totals.specs.Form.{spelt}
 use Rattle.forecast_text.proofs.PutLaws.{put-none, put_then}
-use Rattle.forecast_text.specs.Put.{Put}
 use Rattle.night_totals.proofs.written.put_form.Goals as goal
 
 pub loop-i-init : goal.loop-i-init

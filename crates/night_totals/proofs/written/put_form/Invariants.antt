@@ -1,9 +1,7 @@
 -- What each loop of `put_form` keeps.
-use Rattle.std.proofs.Common.{◌≡◌, ◌-◌, ◌*◌, ◌≤◌, length, take, sym, refl, ap, ◌∙◌, arith, take_all, rules}
-use Rattle.night_totals.proofs.WrittenLaws.{piece-more, slots-more}
+use Rattle.std.proofs.Common.{◌≡◌, ◌*◌, ◌≤◌, length, take}
 use Rattle.night_totals.proofs.FormLaws.{slots_in}
 use Rattle.night_totals.specs.Form.{spelt}
-use Rattle.forecast_text.proofs.PutLaws.{put-none, put_then}
 use Rattle.forecast_text.specs.Put.{Put}
 use Rattle.night_totals.proofs.written.put_form.Given as goal
 

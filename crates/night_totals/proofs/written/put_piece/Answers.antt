@@ -1,5 +1,5 @@
 -- `put_piece` meets its contract.
-use Rattle.std.proofs.Common.{arith, rules, eq-eqb, ne_eqb}
+use Rattle.std.proofs.Common.{arith, eq-eqb, ne_eqb}
 use Rattle.night_totals.proofs.WrittenLaws.{byte_put}
 use Rattle.words.proofs.Branch.{pick_yes, pick_no}
 use Rattle.night_totals.proofs.written.put_piece.Goals as goal

@@ -1,5 +1,4 @@
 -- `ceiling` meets its contract.
-use borrow.Author.Rules.{rules}
 use Rattle.opening.proofs.absent.ceiling.Goals as goal
 
 pub returns : goal.returns

@@ -1,5 +1,4 @@
 -- `or_else` meets its contract.
-use borrow.Author.Rules.{rules}
 use Rattle.state.specs.Settings.{or_else}
 use Rattle.opening.proofs.absent.or_else.Goals as goal
 

@@ -1,5 +1,4 @@
 -- `or_none` meets its contract.
-use borrow.Author.Rules.{rules}
 use Rattle.state.specs.Settings.{or_none}
 use Rattle.opening.proofs.absent.or_none.Goals as goal
 

@@ -1,6 +1,5 @@
 -- `admit` meets its contract.
 use mathlib.Core.Path.{sym, ◌∙◌}
-use borrow.Author.Rules.{rules}
 use Rattle.opening.proofs.AdmissionLaws.{settings-bounded, later-joined, later-refused}
 use Rattle.opening.proofs.admission.admit.Goals as goal
 

@@ -1,5 +1,4 @@
 -- `answers_report` meets its contract.
-use borrow.Author.Rules.{rules}
 use Rattle.opening.specs.Admission.{answers_report}
 use Rattle.opening.proofs.admission.answers_report.Goals as goal
 

@@ -1,5 +1,4 @@
 -- `asking_at` meets its contract.
-use borrow.Author.Rules.{rules}
 use Rattle.opening.specs.Admission.{asking_at}
 use Rattle.opening.proofs.admission.asking_at.Goals as goal
 

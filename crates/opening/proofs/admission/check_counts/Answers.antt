@@ -1,6 +1,5 @@
 -- `check_counts` meets its contract.
 use native.Mathlib.Omega.{arith}
-use borrow.Author.Rules.{rules}
 use Rattle.opening.proofs.RowLaws.{no_test}
 use Rattle.opening.proofs.AdmissionLaws.{product_small}
 use Rattle.opening.proofs.admission.check_counts.Goals as goal

@@ -1,5 +1,4 @@
 -- `check_reply` meets its contract.
-use borrow.Author.Rules.{rules}
 use Rattle.opening.proofs.RowLaws.{no_test}
 use Rattle.opening.proofs.admission.check_reply.Goals as goal
 

@@ -1,5 +1,4 @@
 -- `check_settings` meets its contract.
-use borrow.Author.Rules.{rules}
 use Rattle.opening.specs.Rows.{range_rows}
 use Rattle.opening.proofs.AdmissionLaws.{unfit-all}
 use Rattle.opening.proofs.admission.check_settings.Goals as goal

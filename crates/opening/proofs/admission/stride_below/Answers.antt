@@ -1,5 +1,4 @@
 -- `stride_below` meets its contract.
-use borrow.Author.Rules.{rules}
 use Rattle.opening.proofs.admission.stride_below.Goals as goal
 
 pub returns-in-Between : goal.returns-in-Between

@@ -1,5 +1,4 @@
 -- `unfit` meets its contract.
-use borrow.Author.Rules.{rules}
 use Rattle.opening.specs.Admission.{unfit_of}
 use Rattle.opening.proofs.admission.unfit.Goals as goal
 

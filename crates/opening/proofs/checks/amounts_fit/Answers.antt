@@ -1,6 +1,5 @@
 -- `amounts_fit` meets its contract.
 use mathlib.Core.Path.{refl}
-use native.Mathlib.Omega.{arith}
 use Rattle.state.specs.Memory.{amounts_fit}
 use Rattle.opening.proofs.checks.amounts_fit.Goals as goal
 

@@ -1,5 +1,4 @@
 -- `check_values` meets its contract.
-use borrow.Author.Rules.{rules}
 use Rattle.opening.proofs.RowLaws.{values-joined}
 use Rattle.opening.proofs.checks.check_values.Goals as goal
 

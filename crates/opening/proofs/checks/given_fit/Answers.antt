@@ -1,7 +1,5 @@
 -- `given_fit` meets its contract.
 use mathlib.Core.Path.{refl}
-use native.Mathlib.Nat.{mul-le-mul}
-use native.Mathlib.Omega.{arith}
 use Rattle.state.specs.Memory.{given_fit}
 use Rattle.opening.proofs.checks.given_fit.Goals as goal
 

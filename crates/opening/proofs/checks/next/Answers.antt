@@ -1,5 +1,4 @@
 -- `next` meets its contract.
-use borrow.Author.Rules.{rules}
 use Rattle.opening.specs.Rows.{next_of}
 use Rattle.opening.proofs.checks.next.Goals as goal
 

@@ -1,7 +1,6 @@
 -- `sum_differs` meets its contract.
 use Prim.Native.Nat.{◌+◌}
 use native.Mathlib.Omega.{arith}
-use borrow.Author.Rules.{rules}
 use Rattle.opening.proofs.RowLaws.{not_equal}
 use Rattle.opening.proofs.checks.sum_differs.Goals as goal
 

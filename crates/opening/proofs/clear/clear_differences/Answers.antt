@@ -1,5 +1,4 @@
 -- `clear_differences` meets its contract.
-use borrow.Author.Rules.{rules}
 use Rattle.opening.proofs.clear.clear_differences.Goals as goal
 
 pub returns : goal.returns

@@ -1,5 +1,4 @@
 -- `clear_factors` meets its contract.
-use borrow.Author.Rules.{rules}
 use Rattle.opening.proofs.clear.clear_factors.Goals as goal
 
 pub returns : goal.returns

@@ -1,5 +1,4 @@
 -- `clear_newton` meets its contract.
-use borrow.Author.Rules.{rules}
 use Rattle.opening.proofs.clear.clear_newton.Goals as goal
 
 pub returns : goal.returns

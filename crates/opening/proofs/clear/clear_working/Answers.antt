@@ -1,5 +1,4 @@
 -- `clear_working` meets its contract.
-use borrow.Author.Rules.{rules}
 use Rattle.opening.proofs.clear.clear_working.Goals as goal
 
 pub returns : goal.returns

@@ -1,5 +1,4 @@
 -- `first_h` meets its contract.
-use borrow.Author.Rules.{rules}
 use Rattle.opening.specs.Opening.{first_step_of}
 use Rattle.opening.proofs.first.first_h.Goals as goal
 

@@ -1,5 +1,4 @@
 -- `first_run` meets its contract.
-use borrow.Author.Rules.{rules}
 use Rattle.opening.specs.Opening.{first_run}
 use Rattle.opening.proofs.first.first_run.Goals as goal
 

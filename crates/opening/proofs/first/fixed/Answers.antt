@@ -1,5 +1,4 @@
 -- `fixed` meets its contract.
-use borrow.Author.Rules.{rules}
 use Rattle.opening.specs.Opening.{fixed_of}
 use Rattle.opening.proofs.first.fixed.Goals as goal
 

@@ -1,5 +1,4 @@
 -- `keep_mass` meets its contract.
-use borrow.Author.Rules.{rules}
 use Rattle.opening.specs.Opening.{mass_kept}
 use Rattle.opening.proofs.first.keep_mass.Goals as goal
 

@@ -1,6 +1,5 @@
 -- `left_of` meets its contract.
 use native.Mathlib.Omega.{arith}
-use borrow.Author.Rules.{rules}
 use Rattle.opening.specs.Opening.{nind1_of}
 use Rattle.opening.proofs.first.left_of.Goals as goal
 

@@ -1,5 +1,4 @@
 -- `nind1` meets its contract.
-use borrow.Author.Rules.{rules}
 use Rattle.opening.specs.Opening.{nind1_of}
 use Rattle.opening.proofs.first.nind1.Goals as goal
 

@@ -1,5 +1,4 @@
 -- `shape` meets its contract.
-use borrow.Author.Rules.{rules}
 use Rattle.opening.specs.Opening.{shape_of}
 use Rattle.opening.proofs.first.shape.Goals as goal
 

@@ -1,5 +1,4 @@
 -- `wished_step` meets its contract.
-use borrow.Author.Rules.{rules}
 use Rattle.opening.specs.Opening.{wished_step}
 use Rattle.opening.proofs.first.wished_step.Goals as goal
 

@@ -1,5 +1,4 @@
 -- `check_given` meets its contract.
-use borrow.Author.Rules.{rules}
 use Rattle.opening.specs.Rows.{mass_given}
 use Rattle.opening.proofs.opening.check_given.Goals as goal
 

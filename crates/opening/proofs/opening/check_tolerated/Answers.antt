@@ -1,5 +1,4 @@
 -- `check_tolerated` meets its contract.
-use borrow.Author.Rules.{rules}
 use Rattle.opening.specs.Rows.{rtol_given, atol_given}
 use Rattle.opening.proofs.opening.check_tolerated.Goals as goal
 

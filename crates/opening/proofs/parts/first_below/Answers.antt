@@ -1,9 +1,6 @@
 -- `first_below` meets its contract.
-use Prim.Native.Nat.{◌-◌}
 use native.Mathlib.Omega.{arith}
-use lib.ListN.{length}
-use Rattle.opening.specs.Rows.{below}
-use Rattle.opening.proofs.PartLaws.{Searched, searching, passed, found, searched}
+use Rattle.opening.proofs.PartLaws.{passed, found, searched}
 use Rattle.opening.proofs.parts.first_below.Goals as goal
 
 pub returns-then-part-i : goal.returns-then-part-i

@@ -1,9 +1,6 @@
 -- `first_not_above` meets its contract.
-use Prim.Native.Nat.{◌-◌}
 use native.Mathlib.Omega.{arith}
-use lib.ListN.{length}
-use Rattle.opening.specs.Rows.{not_above}
-use Rattle.opening.proofs.PartLaws.{Searched, searching, passed, found, searched}
+use Rattle.opening.proofs.PartLaws.{passed, found, searched}
 use Rattle.opening.proofs.parts.first_not_above.Goals as goal
 
 pub returns-then-part-i : goal.returns-then-part-i

@@ -1,9 +1,8 @@
 -- What each loop of `first_not_above` keeps.
 use Prim.Native.Nat.{◌-◌}
-use native.Mathlib.Omega.{arith}
 use lib.ListN.{length}
 use Rattle.opening.specs.Rows.{not_above}
-use Rattle.opening.proofs.PartLaws.{Searched, searching, passed, found, searched}
+use Rattle.opening.proofs.PartLaws.{Searched}
 use Rattle.opening.proofs.parts.first_not_above.Given as goal
 
 abbrev pub invariant-loop-i : goal.invariant-loop-i

@@ -1,10 +1,6 @@
 -- `first_not_finite` meets its contract.
-use Prim.Native.Nat.{◌-◌}
 use native.Mathlib.Omega.{arith}
-use lib.ListN.{length}
-use borrow.Author.Rules.{rules}
-use Rattle.opening.specs.Rows.{not_finite}
-use Rattle.opening.proofs.PartLaws.{Searched, searching, passed, found, searched}
+use Rattle.opening.proofs.PartLaws.{passed, found, searched}
 use Rattle.opening.proofs.parts.first_not_finite.Goals as goal
 
 pub returns-then-is_not_finite : goal.returns-then-is_not_finite

@@ -13,3 +13,6 @@ between nan = refl
 between (inf true) = refl
 between (inf false) = refl
 between (fin s m e) = refl
+
+pub returns : goal.returns
+returns c = between _

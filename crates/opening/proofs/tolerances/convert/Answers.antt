@@ -1,5 +1,4 @@
 -- `convert` meets its contract.
-use borrow.Author.Rules.{rules}
 use Rattle.opening.proofs.ToleranceLaws.{by-scalars, by-lists}
 use Rattle.opening.proofs.tolerances.convert.Goals as goal
 

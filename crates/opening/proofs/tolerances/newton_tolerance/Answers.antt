@@ -1,5 +1,4 @@
 -- `newton_tolerance` meets its contract.
-use borrow.Author.Rules.{rules}
 use Rattle.opening.specs.Tolerances.{newton_tol_of}
 use Rattle.opening.proofs.tolerances.newton_tolerance.Goals as goal
 

@@ -1,5 +1,4 @@
 -- `scalar_turns` meets its contract.
-use borrow.Author.Rules.{rules}
 use Rattle.opening.specs.Tolerances.{scalar_turns}
 use Rattle.opening.proofs.tolerances.scalar_turns.Goals as goal
 

@@ -1,5 +1,4 @@
 -- `turn` meets its contract.
-use borrow.Author.Rules.{rules}
 use Rattle.opening.specs.Tolerances.{turn_at}
 use Rattle.opening.proofs.tolerances.turn.Goals as goal
 

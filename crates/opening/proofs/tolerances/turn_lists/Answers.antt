@@ -1,11 +1,9 @@
 -- `turn_lists` meets its contract: its loop is the definition's, over both lists at once.
-use Prim.Native.Nat.{◌-◌}
-use mathlib.Core.Path.{◌≡◌, refl, ◌∙◌}
+use mathlib.Core.Path.{refl}
 use native.Mathlib.Omega.{arith}
-use lib.ListN.{length, length-set}
-use Rattle.words.proofs.Loops.{Ran, begun, turned, ended}
-use Rattle.opening.specs.Tolerances.{Columns, columns, turn_at, list_turn_at}
-use Rattle.opening.proofs.tolerances.turn_lists.Invariants.{Kept}
+use lib.ListN.{length-set}
+use Rattle.words.proofs.Loops.{begun, turned, ended}
+use Rattle.opening.specs.Tolerances.{turn_at, list_turn_at}
 use Rattle.opening.proofs.tolerances.turn_lists.Goals as goal
 
 pub loop-i-init : goal.loop-i-init

@@ -1,8 +1,7 @@
 -- `turn_scalars` meets its contract: its loop is the definition's, whose turns don't depend on their number.
-use Prim.Native.Nat.{◌-◌}
-use mathlib.Core.Path.{refl, ◌∙◌}
+use mathlib.Core.Path.{refl}
 use native.Mathlib.Omega.{arith}
-use Rattle.words.proofs.Loops.{Ran, Any, begun, turned, ended}
+use Rattle.words.proofs.Loops.{begun, turned, ended}
 use Rattle.opening.specs.Tolerances.{turn_at}
 use Rattle.opening.proofs.tolerances.turn_scalars.Goals as goal
 

@@ -1,8 +1,6 @@
 -- What each loop of `turn_scalars` keeps.
 use Prim.Native.Nat.{◌-◌}
-use mathlib.Core.Path.{refl, ◌∙◌}
-use native.Mathlib.Omega.{arith}
-use Rattle.words.proofs.Loops.{Ran, Any, begun, turned, ended}
+use Rattle.words.proofs.Loops.{Ran, Any}
 use Rattle.opening.specs.Tolerances.{turn_at}
 use Rattle.opening.proofs.tolerances.turn_scalars.Given as goal
 

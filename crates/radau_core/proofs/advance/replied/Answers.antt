@@ -24,206 +24,192 @@ four a b n e f = omega (arith, e, f)
 
 pub reported-heard-requires : goal.reported-heard-requires
 reported-heard-requires c = record {
-  sized = c.before.before.before.before.before.before.before.before.before.before.before.before.before.before.before.before.before.before.before.before.before.before.before.before.before.before.pre.0;
-  doubles_bound = omega (arith, c.before.before.before.before.before.before.before.before.before.before.before.before.before.before.before.before.before.before.before.before.before.before.before.before.before.before.pre.1.0.0);
+  sized = c.requires.sized;
+  doubles_bound = omega (arith, c.requires.fit.0);
 }
 
 pub started-requires : goal.started-requires
-started-requires c = let start = c.before.before.before.before.before.before.before.before.before.before.before.before.before.before.before.before.before.before.before.before.before.before.before.before.before.before.before.before.before.before.before in
-    let m = start.pre.1.1 in
-    let a = start.args in
+started-requires c = let a = c.args in
     let n = a.words.now # 16 in
     let y = length a.y.now in (
-      heard-asks start.pre.1.0.0 FirstDerivativeAgain a.reply y c.reported-heard.ensures.doubles_after m.y,
-      same (length a.rtol.now) y n m.rtol m.y,
-      same (length a.atol.now) y n m.atol m.y,
-      same (length a.scal.now) y n m.scal m.y,
+      heard-asks c.requires.fit.0 FirstDerivativeAgain a.reply y c.reported-heard.ensures.doubles_after c.requires.memory_long.y,
+      same (length a.rtol.now) y n c.requires.memory_long.rtol c.requires.memory_long.y,
+      same (length a.atol.now) y n c.requires.memory_long.atol c.requires.memory_long.y,
+      same (length a.scal.now) y n c.requires.memory_long.scal c.requires.memory_long.y,
     )
 
 pub started-requires-in-2 : goal.started-requires-in-2
-started-requires-in-2 c = let start = c.before.before.before.before.before.before.before.before.before.before.before.before.before.before.before.before.before.before.before.before.before.before.before.before.before.before.before.before in
-    let m = start.pre.1.1 in
-    let a = start.args in
+started-requires-in-2 c = let a = c.args in
     let n = a.words.now # 16 in
     let y = length a.y.now in (
-      again-heard start.pre.1.0.0 y m.y,
-      same (length a.rtol.now) y n m.rtol m.y,
-      same (length a.atol.now) y n m.atol m.y,
-      same (length a.scal.now) y n m.scal m.y,
+      again-heard c.requires.fit.0 y c.requires.memory_long.y,
+      same (length a.rtol.now) y n c.requires.memory_long.rtol c.requires.memory_long.y,
+      same (length a.atol.now) y n c.requires.memory_long.atol c.requires.memory_long.y,
+      same (length a.scal.now) y n c.requires.memory_long.scal c.requires.memory_long.y,
     )
 
 pub column-requires : goal.column-requires
 column-requires c =
     let part_at : ℕ = c.args.words.now # 1 in
-    let start = c.before.before.before.before.before.before.before.before.before.before.before.before.before.before.before.before.before.before.before.before.before.before.before.before.before.before.before.before.before.before in let m = start.pre.1.1 in
-    let f = start.pre.1.0.0 in record {
-      sized = start.pre.0;
+    record {
+      sized = c.requires.sized;
       bound = (
-        f.low,
-        column-asks start.pre.1.0.1 (place.at-column part_at c.in-4.is),
-        m.y,
-        m.y_perturbed,
-        m.f_perturbed,
-        m.f_origin,
-        m.jac,
+        c.requires.fit.0.low,
+        column-asks c.requires.fit.1 (place.at-column part_at c.in-4.is),
+        c.requires.memory_long.y,
+        c.requires.memory_long.y_perturbed,
+        c.requires.memory_long.f_perturbed,
+        c.requires.memory_long.f_origin,
+        c.requires.memory_long.jac,
       );
     }
 
 pub ask_stage-requires : goal.ask_stage-requires
-ask_stage-requires c = let start = c.before.before.before.before.before.before.before.before.before.before.before.before.before.before.before.before.before.before.before.before.before.before.before.before.before.before.before.before.before.before.before in
-    let m = start.pre.1.1 in record {
-      sized = start.pre.0;
-      fit = omega (arith, start.pre.1.0.0);
-      y_len = (m.y, m.newton.z2, m.cont);
-    }
+ask_stage-requires c = record {
+  sized = c.requires.sized;
+  fit = omega (arith, c.requires.fit.0);
+  y_len = (c.requires.memory_long.y, c.requires.memory_long.newton.z2, c.requires.memory_long.cont);
+}
 
 pub ask_stage-requires-in-6 : goal.ask_stage-requires-in-6
-ask_stage-requires-in-6 c = let start = c.before.before.before.before.before.before.before.before.before.before.before.before.before.before.before.before.before.before.before.before.before.before.before.before.before.before.before.before.before.before in
-    let m = start.pre.1.1 in record {
-      sized = start.pre.0;
-      fit = omega (arith, start.pre.1.0.0);
-      y_len = (m.y, m.newton.z3, m.cont);
-    }
+ask_stage-requires-in-6 c = record {
+  sized = c.requires.sized;
+  fit = omega (arith, c.requires.fit.0);
+  y_len = (c.requires.memory_long.y, c.requires.memory_long.newton.z3, c.requires.memory_long.cont);
+}
 
 pub round-verdict-requires : goal.round-verdict-requires
-round-verdict-requires c = let m = c.before.before.before.before.before.before.before.before.before.before.before.before.before.before.before.before.before.before.before.before.before.before.before.before.before.before.before.before.before.before.before.before.before.pre.1.1 in
-    record {
-      sized = c.before.before.before.before.before.before.before.before.before.before.before.before.before.before.before.before.before.before.before.before.before.before.before.before.before.before.before.before.before.before.before.before.before.pre.0;
-      fit = (omega (arith, c.before.before.before.before.before.before.before.before.before.before.before.before.before.before.before.before.before.before.before.before.before.before.before.before.before.before.before.before.before.before.before.before.before.pre.1.0.0), c.before.before.before.before.before.before.before.before.before.before.before.before.before.before.before.before.before.before.before.before.before.before.before.before.before.before.before.before.before.before.before.before.before.pre.1.0.1.rounds, m.mass, m.scal);
-      newton_long = m.newton;
-    }
+round-verdict-requires c = record {
+  sized = c.requires.sized;
+  fit = (omega (arith, c.requires.fit.0), c.requires.fit.1.rounds, c.requires.memory_long.mass, c.requires.memory_long.scal);
+  newton_long = c.requires.memory_long.newton;
+}
 
 pub conclude-requires : goal.conclude-requires
 conclude-requires c =
     let newton-at : Newton = let a = c.args in newton a.z1.now a.z2.now a.z3.now a.f1.now a.f2.now a.f3.now in
     let factors-at : Factors = let a = c.args in factors a.e1.now a.e2r.now a.e2i.now a.ip1.now a.ip2.now in
-    let start = c.before.before.before.before.before.before.before.before.before.before.before.before.before.before.before.before.before.before.before.before.before.before.before.before.before.before.before.before.before.before.before.before.before.before.before.before.before.before.before.before.before.before.before.before.before.before.before.before.before.before.before.before.before.before.before.before in
-    let m = start.pre.1.1 in
-    let a = start.args in
+    let a = c.args in
     let n = a.words.now # 16 in
     let y = length a.y.now in
-    let k = c.round-verdict in record {
-      sized = k.ensures.0;
+    record {
+      sized = c.round-verdict.ensures.sized_2;
       round_fit = (
-        round-asks start.pre.1.0.0 a.mass.now a.scal.now factors-at newton-at y
-            start.pre.1.0.1.rounds k.ensures.1 m.y,
-        square-at {a = a.mass.now} y m.y m.mass,
-        same (length a.f0.now) y n m.f0 m.y,
-        same (length a.scal.now) y n m.scal m.y,
-        four (length a.cont.now) y n m.cont m.y,
+        round-asks c.requires.fit.0 a.mass.now a.scal.now factors-at newton-at y
+            c.requires.fit.1.rounds c.round-verdict.ensures.f3_after c.requires.memory_long.y,
+        square-at {a = a.mass.now} y c.requires.memory_long.y c.requires.memory_long.mass,
+        same (length a.f0.now) y n c.requires.memory_long.f0 c.requires.memory_long.y,
+        same (length a.scal.now) y n c.requires.memory_long.scal c.requires.memory_long.y,
+        four (length a.cont.now) y n c.requires.memory_long.cont c.requires.memory_long.y,
       );
       z1_len = (
-        same (length k.last.1.1.1.1.1.1.1.1.1.0) y n
-            (k.kept.1.1.1.1.1.1.1.1.1.0 ∙ m.newton.z1) m.y,
-        same (length k.last.1.1.1.1.1.1.1.1.1.1.0) y n
-            (k.kept.1.1.1.1.1.1.1.1.1.1.0 ∙ m.newton.z2) m.y,
-        same (length k.last.1.1.1.1.1.1.1.1.1.1.1.0) y n
-            (k.kept.1.1.1.1.1.1.1.1.1.1.1.0 ∙ m.newton.z3) m.y,
-        same (length k.last.1.1.1.1.1.1.1.1.1.1.1.1.0) y n
-            (k.kept.1.1.1.1.1.1.1.1.1.1.1.1.0 ∙ m.newton.f1) m.y,
-        same (length k.last.1.1.1.1.1.1.1.1.1.1.1.1.1.0) y n
-            (k.kept.1.1.1.1.1.1.1.1.1.1.1.1.1.0 ∙ m.newton.f2) m.y,
+        same (length c.round-verdict.new.z1) y n
+            (c.round-verdict.auto.z1 ∙ c.requires.memory_long.newton.z1) c.requires.memory_long.y,
+        same (length c.round-verdict.new.z2) y n
+            (c.round-verdict.auto.z2 ∙ c.requires.memory_long.newton.z2) c.requires.memory_long.y,
+        same (length c.round-verdict.new.z3) y n
+            (c.round-verdict.auto.z3 ∙ c.requires.memory_long.newton.z3) c.requires.memory_long.y,
+        same (length c.round-verdict.new.f1) y n
+            (c.round-verdict.auto.f1 ∙ c.requires.memory_long.newton.f1) c.requires.memory_long.y,
+        same (length c.round-verdict.new.f2) y n
+            (c.round-verdict.auto.f2 ∙ c.requires.memory_long.newton.f2) c.requires.memory_long.y,
       );
     }
 
 pub refined-requires : goal.refined-requires
-refined-requires c = let start = c.before.before.before.before.before.before.before.before.before.before.before.before.before.before.before.before.before.before.before.before.before.before.before.before.before.before.before.before.before.before.before.before.before.before in
-    let m = start.pre.1.1 in
-    let z = m.newton in record {
-      sized = start.pre.0;
-      fit = (omega (arith, start.pre.1.0.0), m.scal, m.y, m.cont);
-      z1_len = (
-        z.z1,
-        z.z2,
-        z.z3,
-        z.f1,
-        z.f2,
-      );
-    }
+refined-requires c = record {
+  sized = c.requires.sized;
+  fit = (omega (arith, c.requires.fit.0), c.requires.memory_long.scal, c.requires.memory_long.y, c.requires.memory_long.cont);
+  z1_len = (
+    c.requires.memory_long.newton.z1,
+    c.requires.memory_long.newton.z2,
+    c.requires.memory_long.newton.z3,
+    c.requires.memory_long.newton.f1,
+    c.requires.memory_long.newton.f2,
+  );
+}
 
 pub scaled-requires : goal.scaled-requires
-scaled-requires c = let start = c.before.before.before.before.before.before.before.before.before.before.before.before.before.before.before.before.before.before.before.before.before.before.before.before.before.before.before.before.before.before in
-    let m = start.pre.1.1 in (m.rtol, m.atol, m.y, m.scal)
+scaled-requires c = (c.requires.memory_long.rtol, c.requires.memory_long.atol, c.requires.memory_long.y, c.requires.memory_long.scal)
 
 pub ask_report-requires : goal.ask_report-requires
-ask_report-requires c = let start = c.before.before.before.before.before.before.before.before.before.before.before.before.before.before.before.before.before.before.before.before.before.before.before.before.before.before.before.before.before.before.before.before.before.before.before in
-    start.pre.0
+ask_report-requires c = c.requires.sized
 
 pub reported-heard-requires-in-10 : goal.reported-heard-requires-in-10
 reported-heard-requires-in-10 c = record {
-  sized = c.before.before.before.before.before.before.before.before.before.before.before.before.before.before.before.before.before.before.before.before.before.before.before.before.before.before.pre.0;
-  doubles_bound = omega (arith, c.before.before.before.before.before.before.before.before.before.before.before.before.before.before.before.before.before.before.before.before.before.before.before.before.before.before.pre.1.0.0);
+  sized = c.requires.sized;
+  doubles_bound = omega (arith, c.requires.fit.0);
 }
 
 pub returned-requires : goal.returned-requires
 returned-requires c = c.reported-heard-in-10.ensures.sized_2
 
 pub arrived-requires : goal.arrived-requires
-arrived-requires c = c.before.before.before.before.before.before.before.before.before.before.before.before.before.before.before.before.before.before.before.before.before.before.before.before.before.before.pre.0
+arrived-requires c = c.requires.sized
 
 pub ended-requires : goal.ended-requires
-ended-requires c = c.before.before.before.before.before.before.before.before.before.before.before.before.before.before.before.before.before.before.before.before.before.before.before.before.before.before.before.before.pre.0
+ended-requires c = c.requires.sized
 
 pub ask_first_report-requires : goal.ask_first_report-requires
-ask_first_report-requires c = c.before.before.before.before.before.before.before.before.before.before.before.before.before.before.before.before.before.before.before.before.before.before.before.before.before.before.pre.0
+ask_first_report-requires c = c.requires.sized
 
 pub shape_of-scal-in-1 : goal.shape_of-scal-in-1
-shape_of-scal-in-1 c = c.started.auto.1.1.1.1.1.1.0
+shape_of-scal-in-1 c = c.started.auto.scal
 
 pub shape_of-scal-in-2 : goal.shape_of-scal-in-2
-shape_of-scal-in-2 c = c.started-in-2.auto.1.1.1.1.1.1.0
+shape_of-scal-in-2 c = c.started-in-2.auto.scal
 
 pub shape_of-jac : goal.shape_of-jac
-shape_of-jac c = c.column.auto.1.1.1.1.1.1.1.0
+shape_of-jac c = c.column.auto.jac
 
 pub shape_of-y_perturbed : goal.shape_of-y_perturbed
-shape_of-y_perturbed c = c.column.auto.1.1.1.1.0
+shape_of-y_perturbed c = c.column.auto.y_perturbed
 
 pub shape_of-cont-in-5 : goal.shape_of-cont-in-5
-shape_of-cont-in-5 c = c.ask_stage.auto.1.1.1.1.1.1.1.0
+shape_of-cont-in-5 c = c.ask_stage.auto.cont
 
 pub shape_of-cont-in-6 : goal.shape_of-cont-in-6
-shape_of-cont-in-6 c = c.ask_stage-in-6.auto.1.1.1.1.1.1.1.0
+shape_of-cont-in-6 c = c.ask_stage-in-6.auto.cont
 
 pub shape_of-y-in-7 : goal.shape_of-y-in-7
-shape_of-y-in-7 c = c.conclude.auto.1.1.1.1.1.1.1.1.0
+shape_of-y-in-7 c = c.conclude.auto.y
 
 pub shape_of-cont-in-7 : goal.shape_of-cont-in-7
-shape_of-cont-in-7 c = c.conclude.auto.1.1.1.1.1.1.1.1.1.0
+shape_of-cont-in-7 c = c.conclude.auto.cont
 
 pub shape_of-z1-in-7 : goal.shape_of-z1-in-7
-shape_of-z1-in-7 c = c.round-verdict.kept.1.1.1.1.1.1.1.1.1.0
+shape_of-z1-in-7 c = c.round-verdict.auto.z1
 
 pub shape_of-z2-in-7 : goal.shape_of-z2-in-7
-shape_of-z2-in-7 c = c.round-verdict.kept.1.1.1.1.1.1.1.1.1.1.0
+shape_of-z2-in-7 c = c.round-verdict.auto.z2
 
 pub shape_of-z3-in-7 : goal.shape_of-z3-in-7
-shape_of-z3-in-7 c = c.round-verdict.kept.1.1.1.1.1.1.1.1.1.1.1.0
+shape_of-z3-in-7 c = c.round-verdict.auto.z3
 
 pub shape_of-f1-in-7 : goal.shape_of-f1-in-7
-shape_of-f1-in-7 c = c.conclude.auto.1.1.1.1.1.1.1.1.1.1.1.1.1.0 ∙ c.round-verdict.kept.1.1.1.1.1.1.1.1.1.1.1.1.0
+shape_of-f1-in-7 c = c.conclude.auto.f1 ∙ c.round-verdict.auto.f1
 
 pub shape_of-f2-in-7 : goal.shape_of-f2-in-7
-shape_of-f2-in-7 c = c.conclude.auto.1.1.1.1.1.1.1.1.1.1.1.1.1.1.0 ∙ c.round-verdict.kept.1.1.1.1.1.1.1.1.1.1.1.1.1.0
+shape_of-f2-in-7 c = c.conclude.auto.f2 ∙ c.round-verdict.auto.f2
 
 pub shape_of-f3 : goal.shape_of-f3
-shape_of-f3 c = c.round-verdict.kept.1.1.1.1.1.1.1.1.1.1.1.1.1.1.0
+shape_of-f3 c = c.round-verdict.auto.f3
 
 pub shape_of-y-in-8 : goal.shape_of-y-in-8
-shape_of-y-in-8 c = c.refined.auto.1.1.1.1.1.0
+shape_of-y-in-8 c = c.refined.auto.y
 
 pub shape_of-cont-in-8 : goal.shape_of-cont-in-8
-shape_of-cont-in-8 c = c.refined.auto.1.1.1.1.1.1.0
+shape_of-cont-in-8 c = c.refined.auto.cont
 
 pub shape_of-scal-in-9 : goal.shape_of-scal-in-9
-shape_of-scal-in-9 c = c.scaled.auto.1.1.1.1.1.0
+shape_of-scal-in-9 c = c.scaled.auto.scal
 
 pub returns-in-1 : goal.returns-in-1
 returns-in-1 c =
     let run-at : Run = run_at c.args.words.now c.args.doubles.now in
     let newton-at : Newton = let a = c.args in newton a.z1.now a.z2.now a.z3.now a.f1.now a.f2.now a.f3.now in
     let factors-at : Factors = let a = c.args in factors a.e1.now a.e2r.now a.e2i.now a.ip1.now a.ip2.now in
-    let differences-at : Differences = let a = c.args in differences a.y-perturbed.now a.f-perturbed.now a.f-origin.now in
+    let differences-at : Differences = let a = c.args in differences a.y_perturbed.now a.f_perturbed.now a.f_origin.now in
     let memory-at : Memory = let a = c.args in
     memory
     (amounts a.y.now a.f0.now a.scal.now a.cont.now)
@@ -232,11 +218,10 @@ returns-in-1 c =
     factors-at
     differences-at in
     let part_at : ℕ = c.args.words.now # 1 in
-    let start = c.before.before.before.before.before.before.before.before.before.before.before.before.before.before.before.before.before.before.before.before.before.before.before.before.before.before.before.before.before.before.before.before.before.before in
-    let a = start.args in record {
+    let a = c.args in record {
       sized_2 = c.reported-heard.ensures.sized_2;
-      f_origin_after = first-report run-at start.args.reply memory-at (heard_at c.reported-heard.result
-          (run_at c.reported-heard.new.0 c.reported-heard.new.1.0)) _
+      f_origin_after = first-report run-at c.args.reply memory-at (heard_at c.reported-heard.result
+          (run_at c.reported-heard.new.words c.reported-heard.new.doubles)) _
           (place.at-first-report part_at c.in-1.is) c.reported-heard.ensures.doubles_after
           (c.started.ensures a.f0.now a.cont.now a.mass.now a.jac.now
           newton-at factors-at differences-at);
@@ -247,7 +232,7 @@ returns-in-2 c =
     let run-at : Run = run_at c.args.words.now c.args.doubles.now in
     let newton-at : Newton = let a = c.args in newton a.z1.now a.z2.now a.z3.now a.f1.now a.f2.now a.f3.now in
     let factors-at : Factors = let a = c.args in factors a.e1.now a.e2r.now a.e2i.now a.ip1.now a.ip2.now in
-    let differences-at : Differences = let a = c.args in differences a.y-perturbed.now a.f-perturbed.now a.f-origin.now in
+    let differences-at : Differences = let a = c.args in differences a.y_perturbed.now a.f_perturbed.now a.f_origin.now in
     let memory-at : Memory = let a = c.args in
     memory
     (amounts a.y.now a.f0.now a.scal.now a.cont.now)
@@ -256,11 +241,10 @@ returns-in-2 c =
     factors-at
     differences-at in
     let part_at : ℕ = c.args.words.now # 1 in
-    let start = c.before.before.before.before.before.before.before.before.before.before.before.before.before.before.before.before.before.before.before.before.before.before.before.before.before.before.before.before.before.before.before in
-    let a = start.args in record {
-      sized_2 = start.pre.0;
-      f_origin_after = first-again run-at start.args.reply memory-at _ (place.at-first-derivative-again (part_at
-          start) c.in-2.is)
+    let a = c.args in record {
+      sized_2 = c.requires.sized;
+      f_origin_after = first-again run-at c.args.reply memory-at _ (place.at-first-derivative-again (part_at
+          c) c.in-2.is)
           (c.started-in-2.ensures a.f0.now a.cont.now a.mass.now a.jac.now
           newton-at factors-at differences-at);
     }
@@ -270,7 +254,7 @@ returns-in-3 c =
     let run-at : Run = run_at c.args.words.now c.args.doubles.now in
     let newton-at : Newton = let a = c.args in newton a.z1.now a.z2.now a.z3.now a.f1.now a.f2.now a.f3.now in
     let factors-at : Factors = let a = c.args in factors a.e1.now a.e2r.now a.e2i.now a.ip1.now a.ip2.now in
-    let differences-at : Differences = let a = c.args in differences a.y-perturbed.now a.f-perturbed.now a.f-origin.now in
+    let differences-at : Differences = let a = c.args in differences a.y_perturbed.now a.f_perturbed.now a.f_origin.now in
     let memory-at : Memory = let a = c.args in
     memory
     (amounts a.y.now a.f0.now a.scal.now a.cont.now)
@@ -279,10 +263,10 @@ returns-in-3 c =
     factors-at
     differences-at in
     let part_at : ℕ = c.args.words.now # 1 in
-    let start = c.before.before.before.before.before.before.before.before.before.before.before.before.before.before.before.before.before.before.before.before.before.before.before.before in record {
-      sized_2 = start.pre.0;
-      f_origin_after = jacobian-made run-at start.args.reply memory-at (place.at-jacobian (part_at
-          start) c.in-3.is);
+    record {
+      sized_2 = c.requires.sized;
+      f_origin_after = jacobian-made run-at c.args.reply memory-at (place.at-jacobian (part_at
+          c) c.in-3.is);
     }
 
 pub returns-in-4 : goal.returns-in-4
@@ -290,7 +274,7 @@ returns-in-4 c =
     let run-at : Run = run_at c.args.words.now c.args.doubles.now in
     let newton-at : Newton = let a = c.args in newton a.z1.now a.z2.now a.z3.now a.f1.now a.f2.now a.f3.now in
     let factors-at : Factors = let a = c.args in factors a.e1.now a.e2r.now a.e2i.now a.ip1.now a.ip2.now in
-    let differences-at : Differences = let a = c.args in differences a.y-perturbed.now a.f-perturbed.now a.f-origin.now in
+    let differences-at : Differences = let a = c.args in differences a.y_perturbed.now a.f_perturbed.now a.f_origin.now in
     let memory-at : Memory = let a = c.args in
     memory
     (amounts a.y.now a.f0.now a.scal.now a.cont.now)
@@ -299,11 +283,11 @@ returns-in-4 c =
     factors-at
     differences-at in
     let part_at : ℕ = c.args.words.now # 1 in
-    let start = c.before.before.before.before.before.before.before.before.before.before.before.before.before.before.before.before.before.before.before.before.before.before.before.before.before.before.before.before.before.before.before.before.before.before.before in record {
+    record {
       sized_2 = c.column.ensures.sized_2;
-      f_origin_after = column-made run-at start.args.reply memory-at _ (step_at c.column.result (run_at
-          c.column.new.0 c.column.new.1.0))
-          c.column.new.1.1.1.1.0 c.column.new.1.1.1.1.1.1.1.0 (place.at-column
+      f_origin_after = column-made run-at c.args.reply memory-at _ (step_at c.column.result (run_at
+          c.column.new.words c.column.new.doubles))
+          c.column.new.y_perturbed c.column.new.jac (place.at-column
           part_at c.in-4.is) c.column.ensures.jac_after;
     }
 
@@ -312,7 +296,7 @@ returns-in-5 c =
     let run-at : Run = run_at c.args.words.now c.args.doubles.now in
     let newton-at : Newton = let a = c.args in newton a.z1.now a.z2.now a.z3.now a.f1.now a.f2.now a.f3.now in
     let factors-at : Factors = let a = c.args in factors a.e1.now a.e2r.now a.e2i.now a.ip1.now a.ip2.now in
-    let differences-at : Differences = let a = c.args in differences a.y-perturbed.now a.f-perturbed.now a.f-origin.now in
+    let differences-at : Differences = let a = c.args in differences a.y_perturbed.now a.f_perturbed.now a.f_origin.now in
     let memory-at : Memory = let a = c.args in
     memory
     (amounts a.y.now a.f0.now a.scal.now a.cont.now)
@@ -321,11 +305,11 @@ returns-in-5 c =
     factors-at
     differences-at in
     let part_at : ℕ = c.args.words.now # 1 in
-    let start = c.before.before.before.before.before.before.before.before.before.before.before.before.before.before.before.before.before.before.before.before.before.before.before.before.before.before.before.before.before.before.before.before.before.before in record {
+    record {
       sized_2 = c.ask_stage.ensures.sized_2;
-      f_origin_after = newton-1 run-at start.args.reply memory-at (call_at c.ask_stage.result
-          (run_at c.ask_stage.new.0 c.ask_stage.new.1.0))
-          c.ask_stage.new.1.1.1.1.1.1.1.0 (place.at-newton-1 part_at c.in-5.is) c.ask_stage.ensures.cont_after;
+      f_origin_after = newton-1 run-at c.args.reply memory-at (call_at c.ask_stage.result
+          (run_at c.ask_stage.new.words c.ask_stage.new.doubles))
+          c.ask_stage.new.cont (place.at-newton-1 part_at c.in-5.is) c.ask_stage.ensures.cont_after;
     }
 
 pub returns-in-6 : goal.returns-in-6
@@ -333,7 +317,7 @@ returns-in-6 c =
     let run-at : Run = run_at c.args.words.now c.args.doubles.now in
     let newton-at : Newton = let a = c.args in newton a.z1.now a.z2.now a.z3.now a.f1.now a.f2.now a.f3.now in
     let factors-at : Factors = let a = c.args in factors a.e1.now a.e2r.now a.e2i.now a.ip1.now a.ip2.now in
-    let differences-at : Differences = let a = c.args in differences a.y-perturbed.now a.f-perturbed.now a.f-origin.now in
+    let differences-at : Differences = let a = c.args in differences a.y_perturbed.now a.f_perturbed.now a.f_origin.now in
     let memory-at : Memory = let a = c.args in
     memory
     (amounts a.y.now a.f0.now a.scal.now a.cont.now)
@@ -342,11 +326,11 @@ returns-in-6 c =
     factors-at
     differences-at in
     let part_at : ℕ = c.args.words.now # 1 in
-    let start = c.before.before.before.before.before.before.before.before.before.before.before.before.before.before.before.before.before.before.before.before.before.before.before.before.before.before.before.before.before.before.before.before.before in record {
+    record {
       sized_2 = c.ask_stage-in-6.ensures.sized_2;
-      f_origin_after = newton-2 run-at start.args.reply memory-at (call_at c.ask_stage-in-6.result
-          (run_at c.ask_stage-in-6.new.0 c.ask_stage-in-6.new.1.0))
-          c.ask_stage-in-6.new.1.1.1.1.1.1.1.0 (place.at-newton-2 part_at c.in-6.is) c.ask_stage-in-6.ensures.cont_after;
+      f_origin_after = newton-2 run-at c.args.reply memory-at (call_at c.ask_stage-in-6.result
+          (run_at c.ask_stage-in-6.new.words c.ask_stage-in-6.new.doubles))
+          c.ask_stage-in-6.new.cont (place.at-newton-2 part_at c.in-6.is) c.ask_stage-in-6.ensures.cont_after;
     }
 
 pub returns-in-7 : goal.returns-in-7
@@ -354,7 +338,7 @@ returns-in-7 c =
     let run-at : Run = run_at c.args.words.now c.args.doubles.now in
     let newton-at : Newton = let a = c.args in newton a.z1.now a.z2.now a.z3.now a.f1.now a.f2.now a.f3.now in
     let factors-at : Factors = let a = c.args in factors a.e1.now a.e2r.now a.e2i.now a.ip1.now a.ip2.now in
-    let differences-at : Differences = let a = c.args in differences a.y-perturbed.now a.f-perturbed.now a.f-origin.now in
+    let differences-at : Differences = let a = c.args in differences a.y_perturbed.now a.f_perturbed.now a.f_origin.now in
     let memory-at : Memory = let a = c.args in
     memory
     (amounts a.y.now a.f0.now a.scal.now a.cont.now)
@@ -363,15 +347,14 @@ returns-in-7 c =
     factors-at
     differences-at in
     let part_at : ℕ = c.args.words.now # 1 in
-    let start = c.before.before.before.before.before.before.before.before.before.before.before.before.before.before.before.before.before.before.before.before.before.before.before.before.before.before.before.before.before.before.before.before.before.before.before.before.before.before.before.before.before.before.before.before.before.before.before.before.before.before.before.before.before.before.before.before.before.before.before.before.before.before.before.before.before in
-    let a = start.args in
-    let l = c.round-verdict.last in record {
+    let a = c.args in
+    record {
       sized_2 = c.conclude.ensures.sized_2;
-      f_origin_after = newton-3 run-at start.args.reply memory-at (round_at c.round-verdict.result (run_at l.0
-          l.1.0))
-          (newton l.1.1.1.1.1.1.1.1.1.0 l.1.1.1.1.1.1.1.1.1.1.0 l.1.1.1.1.1.1.1.1.1.1.1.0 l.1.1.1.1.1.1.1.1.1.1.1.1.0 l.1.1.1.1.1.1.1.1.1.1.1.1.1.0 l.1.1.1.1.1.1.1.1.1.1.1.1.1.1.0)
+      f_origin_after = newton-3 run-at c.args.reply memory-at (round_at c.round-verdict.result (run_at c.round-verdict.new.words
+          c.round-verdict.new.doubles))
+          (newton c.round-verdict.new.z1 c.round-verdict.new.z2 c.round-verdict.new.z3 c.round-verdict.new.f1 c.round-verdict.new.f2 c.round-verdict.new.f3)
           _ (place.at-newton-3 part_at c.in-7.is) c.round-verdict.ensures.f3_after
-          (c.conclude.ensures.d_after l.1.1.1.1.1.1.1.1.1.1.1.1.1.1.0 a.rtol.now a.atol.now a.jac.now a.e2r.now a.e2i.now
+          (c.conclude.ensures.d_after c.round-verdict.new.f3 a.rtol.now a.atol.now a.jac.now a.e2r.now a.e2i.now
           a.ip2.now differences-at);
     }
 
@@ -380,7 +363,7 @@ returns-in-8 c =
     let run-at : Run = run_at c.args.words.now c.args.doubles.now in
     let newton-at : Newton = let a = c.args in newton a.z1.now a.z2.now a.z3.now a.f1.now a.f2.now a.f3.now in
     let factors-at : Factors = let a = c.args in factors a.e1.now a.e2r.now a.e2i.now a.ip1.now a.ip2.now in
-    let differences-at : Differences = let a = c.args in differences a.y-perturbed.now a.f-perturbed.now a.f-origin.now in
+    let differences-at : Differences = let a = c.args in differences a.y_perturbed.now a.f_perturbed.now a.f_origin.now in
     let memory-at : Memory = let a = c.args in
     memory
     (amounts a.y.now a.f0.now a.scal.now a.cont.now)
@@ -389,13 +372,13 @@ returns-in-8 c =
     factors-at
     differences-at in
     let part_at : ℕ = c.args.words.now # 1 in
-    let at-match = c.before.before.before.before.before.before.before.before.before.before.before.before.before.before.before
+    let at-match = c
     in
     let start = at-match.before.before.before.before.before.before.before.before.before.before.before.before.before.before.before.before.before.before.before.before.before.before.before.before in record {
       sized_2 = c.refined.ensures.sized_2;
       f_origin_after = refinement run-at start.args.reply memory-at (step_at c.refined.result (run_at
-          c.refined.new.0 c.refined.new.1.0))
-          c.refined.new.1.1.1.1.1.0 c.refined.new.1.1.1.1.1.1.0
+          c.refined.new.words c.refined.new.doubles))
+          c.refined.new.y c.refined.new.cont
           (place.at-refinement part_at at-match.match.keys8) (c.refined.ensures.cont_after start.args.f3.now);
     }
 
@@ -404,7 +387,7 @@ returns-in-9 c =
     let run-at : Run = run_at c.args.words.now c.args.doubles.now in
     let newton-at : Newton = let a = c.args in newton a.z1.now a.z2.now a.z3.now a.f1.now a.f2.now a.f3.now in
     let factors-at : Factors = let a = c.args in factors a.e1.now a.e2r.now a.e2i.now a.ip1.now a.ip2.now in
-    let differences-at : Differences = let a = c.args in differences a.y-perturbed.now a.f-perturbed.now a.f-origin.now in
+    let differences-at : Differences = let a = c.args in differences a.y_perturbed.now a.f_perturbed.now a.f_origin.now in
     let memory-at : Memory = let a = c.args in
     memory
     (amounts a.y.now a.f0.now a.scal.now a.cont.now)
@@ -413,10 +396,10 @@ returns-in-9 c =
     factors-at
     differences-at in
     let part_at : ℕ = c.args.words.now # 1 in
-    let start = c.before.before.before.before.before.before.before.before.before.before.before.before.before.before.before.before.before.before.before.before.before.before.before.before.before.before.before.before.before.before.before.before.before.before.before.before in record {
+    record {
       sized_2 = c.ask_report.ensures.sized;
-      f_origin_after = accepted-there run-at start.args.reply memory-at (call_at c.ask_report.result (run_at c.ask_report.new.0 c.ask_report.new.1.0))
-          c.scaled.new.1.1.1.1.1.0 (place.at-accepted part_at c.in-9.is) c.ask_report.ensures.doubles_after
+      f_origin_after = accepted-there run-at c.args.reply memory-at (call_at c.ask_report.result (run_at c.ask_report.new.words c.ask_report.new.doubles))
+          c.scaled.new.scal (place.at-accepted part_at c.in-9.is) c.ask_report.ensures.doubles_after
           (rw c.tolerances_at-tolerances.ensures at c.scaled.ensures);
     }
 
@@ -425,7 +408,7 @@ returns-in-10 c =
     let run-at : Run = run_at c.args.words.now c.args.doubles.now in
     let newton-at : Newton = let a = c.args in newton a.z1.now a.z2.now a.z3.now a.f1.now a.f2.now a.f3.now in
     let factors-at : Factors = let a = c.args in factors a.e1.now a.e2r.now a.e2i.now a.ip1.now a.ip2.now in
-    let differences-at : Differences = let a = c.args in differences a.y-perturbed.now a.f-perturbed.now a.f-origin.now in
+    let differences-at : Differences = let a = c.args in differences a.y_perturbed.now a.f_perturbed.now a.f_origin.now in
     let memory-at : Memory = let a = c.args in
     memory
     (amounts a.y.now a.f0.now a.scal.now a.cont.now)
@@ -434,10 +417,10 @@ returns-in-10 c =
     factors-at
     differences-at in
     let part_at : ℕ = c.args.words.now # 1 in
-    let start = c.before.before.before.before.before.before.before.before.before.before.before.before.before.before.before.before.before.before.before.before.before.before.before.before.before.before.before.before.before.before in record {
+    record {
       sized_2 = c.returned.ensures.sized;
-      f_origin_after = report-answered run-at start.args.reply memory-at (heard_at c.reported-heard-in-10.result (run_at c.reported-heard-in-10.new.0 c.reported-heard-in-10.new.1.0))
-          (step_at c.returned.result (run_at c.returned.new.0 c.returned.new.1.0)) (place.at-report
+      f_origin_after = report-answered run-at c.args.reply memory-at (heard_at c.reported-heard-in-10.result (run_at c.reported-heard-in-10.new.words c.reported-heard-in-10.new.doubles))
+          (step_at c.returned.result (run_at c.returned.new.words c.returned.new.doubles)) (place.at-report
           part_at c.in-10.is) c.reported-heard-in-10.ensures.doubles_after c.returned.ensures.doubles_after;
     }
 
@@ -446,7 +429,7 @@ returns-in-11 c =
     let run-at : Run = run_at c.args.words.now c.args.doubles.now in
     let newton-at : Newton = let a = c.args in newton a.z1.now a.z2.now a.z3.now a.f1.now a.f2.now a.f3.now in
     let factors-at : Factors = let a = c.args in factors a.e1.now a.e2r.now a.e2i.now a.ip1.now a.ip2.now in
-    let differences-at : Differences = let a = c.args in differences a.y-perturbed.now a.f-perturbed.now a.f-origin.now in
+    let differences-at : Differences = let a = c.args in differences a.y_perturbed.now a.f_perturbed.now a.f_origin.now in
     let memory-at : Memory = let a = c.args in
     memory
     (amounts a.y.now a.f0.now a.scal.now a.cont.now)
@@ -455,9 +438,9 @@ returns-in-11 c =
     factors-at
     differences-at in
     let part_at : ℕ = c.args.words.now # 1 in
-    let start = c.before.before.before.before.before.before.before.before.before.before.before.before.before.before.before.before.before.before.before.before.before.before.before.before.before.before.before in record {
+    record {
       sized_2 = c.arrived.ensures.sized;
-      f_origin_after = derivative-again run-at start.args.reply memory-at (step_at c.arrived.result (run_at c.arrived.new.0 c.arrived.new.1.0))
+      f_origin_after = derivative-again run-at c.args.reply memory-at (step_at c.arrived.result (run_at c.arrived.new.words c.arrived.new.doubles))
           (place.at-derivative-again part_at c.in-11.is) c.arrived.ensures.doubles_after;
     }
 
@@ -466,7 +449,7 @@ returns-in-12 c =
     let run-at : Run = run_at c.args.words.now c.args.doubles.now in
     let newton-at : Newton = let a = c.args in newton a.z1.now a.z2.now a.z3.now a.f1.now a.f2.now a.f3.now in
     let factors-at : Factors = let a = c.args in factors a.e1.now a.e2r.now a.e2i.now a.ip1.now a.ip2.now in
-    let differences-at : Differences = let a = c.args in differences a.y-perturbed.now a.f-perturbed.now a.f-origin.now in
+    let differences-at : Differences = let a = c.args in differences a.y_perturbed.now a.f_perturbed.now a.f_origin.now in
     let memory-at : Memory = let a = c.args in
     memory
     (amounts a.y.now a.f0.now a.scal.now a.cont.now)
@@ -475,9 +458,9 @@ returns-in-12 c =
     factors-at
     differences-at in
     let part_at : ℕ = c.args.words.now # 1 in
-    let start = c.before.before.before.before.before.before.before.before.before.before.before.before.before.before.before.before.before.before.before.before.before.before.before.before.before.before.before.before.before in record {
+    record {
       sized_2 = c.ended.ensures.sized;
-      f_origin_after = ended-already run-at start.args.reply memory-at _ (call_at c.ended.result (run_at c.ended.new.0 c.ended.new.1.0))
+      f_origin_after = ended-already run-at c.args.reply memory-at _ (call_at c.ended.result (run_at c.ended.new.words c.ended.new.doubles))
           (place.at_ended part_at c.in-12.is) (rw c.status_at-status.ensures at c.ended.ensures.doubles_after);
     }
 
@@ -486,7 +469,7 @@ returns-in_default c =
     let run-at : Run = run_at c.args.words.now c.args.doubles.now in
     let newton-at : Newton = let a = c.args in newton a.z1.now a.z2.now a.z3.now a.f1.now a.f2.now a.f3.now in
     let factors-at : Factors = let a = c.args in factors a.e1.now a.e2r.now a.e2i.now a.ip1.now a.ip2.now in
-    let differences-at : Differences = let a = c.args in differences a.y-perturbed.now a.f-perturbed.now a.f-origin.now in
+    let differences-at : Differences = let a = c.args in differences a.y_perturbed.now a.f_perturbed.now a.f_origin.now in
     let memory-at : Memory = let a = c.args in
     memory
     (amounts a.y.now a.f0.now a.scal.now a.cont.now)
@@ -495,10 +478,10 @@ returns-in_default c =
     factors-at
     differences-at in
     let part_at : ℕ = c.args.words.now # 1 in
-    let start = c.before.before.before.before.before.before.before.before.before.before.before.before.before.before.before.before.before.before.before.before.before.before.before.before.before.before.before in record {
+    record {
       sized_2 = c.ask_first_report.ensures.sized;
-      f_origin_after = first-derivative run-at start.args.reply memory-at (call_at c.ask_first_report.result
-          (run_at c.ask_first_report.new.0 c.ask_first_report.new.1.0))
+      f_origin_after = first-derivative run-at c.args.reply memory-at (call_at c.ask_first_report.result
+          (run_at c.ask_first_report.new.words c.ask_first_report.new.doubles))
           (place.at-first-derivative part_at c.in_default.rest.0.0.0.0.0.0.0.0.0.0.0.1
           c.in_default.rest.0.0.0.0.0.0.0.0.0.0.1 c.in_default.rest.0.0.0.0.0.0.0.0.0.1 c.in_default.rest.0.0.0.0.0.0.0.0.1 c.in_default.rest.0.0.0.0.0.0.0.1
           c.in_default.rest.0.0.0.0.0.0.1 c.in_default.rest.0.0.0.0.0.1 c.in_default.rest.0.0.0.0.1 c.in_default.rest.0.0.0.1 c.in_default.rest.0.0.1 c.in_default.rest.0.1 c.in_default.rest.1)

@@ -26,7 +26,7 @@ returns-in-Asked c = λ f0 cont mass jac z f d. let a = c.args in
     (ap (λ (h : Heard). heard_at h r) c.in-Asked.is)
 
 pub shape_of-scal : goal.shape_of-scal
-shape_of-scal c = c.scaled.auto.1.1.1.1.1.0
+shape_of-scal c = c.scaled.auto.scal
 
 pub returns-in-Reported : goal.returns-in-Reported
 returns-in-Reported c = λ f0 cont mass jac z f d. let a = c.args in

@@ -9,24 +9,25 @@ use Rattle.radau_core.proofs.PlaceLaws.{words-at, resized}
 use Rattle.radau_core.proofs.attempt.attempt.Goals as goal
 
 pub ended-requires : goal.ended-requires
-ended-requires c = resized c.before.before.before.before.before.before.before.before.before.before.before.before.before.before.pre.0 (simp length-set) refl
+ended-requires c = resized c.requires.sized (simp length-set) refl
 
 pub ended-requires-then-abs-doubles : goal.ended-requires-then-abs-doubles
-ended-requires-then-abs-doubles c = resized c.before.before.before.before.before.before.before.before.before.before.before.before.before.before.before.before.before.before.before.before.pre.0 (simp length-set) refl
+ended-requires-then-abs-doubles c = resized c.requires.sized (simp length-set) refl
 
 pub began-requires : goal.began-requires
-began-requires c = let all = (
-  resized c.before.before.before.before.before.before.before.before.before.before.before.before.before.before.before.before.before.before.before.before.before.before.before.before.before.before.before.before.pre.0 (simp length-set) refl,
-  rw (words-at c.before.before.before.before.before.before.before.before.before.before.before.before.before.before.before.before.before.before.before.before.before.before.before.before.before.before.before.before.pre.0) (counted-fit c.before.before.before.before.before.before.before.before.before.before.before.before.before.before.before.before.before.before.before.before.before.before.before.before.before.before.before.before.pre.1.0, c.before.before.before.before.before.before.before.before.before.before.before.before.before.before.before.before.before.before.before.before.before.before.before.before.before.before.before.before.pre.1.1),
-) in
-    record { sized = all.0; fit = all.1.0; y_len = all.1.1 }
+began-requires c = let others = rw (words-at c.requires.sized) (counted-fit c.requires.fit, c.requires.y_len) in
+    record {
+      sized = resized c.requires.sized (simp length-set) refl;
+      fit = others.0;
+      y_len = others.1;
+    }
 
 pub returns-then-most-total : goal.returns-then-most-total
 returns-then-most-total c = let a = c.args in record {
   sized_2 = c.ended.ensures.sized;
   f3_after = attempt-over (run_at a.words.now a.doubles.now) a.y.now a.scal.now a.cont.now
       (newton a.z1.now a.z2.now a.z3.now a.f1.now a.f2.now a.f3.now)
-      c.if-most-total.true _ (rw (words-at c.before.before.before.before.before.before.before.before.before.before.before.before.before.before.before.pre.0) at c.ended.ensures.doubles_after);
+      c.if-most-total.true _ (rw (words-at c.requires.sized) at c.ended.ensures.doubles_after);
 }
 
 pub returns-then-abs-doubles : goal.returns-then-abs-doubles
@@ -35,7 +36,7 @@ returns-then-abs-doubles c = let a = c.args in record {
   f3_after = attempt-small (run_at a.words.now a.doubles.now) a.y.now a.scal.now a.cont.now
       (newton a.z1.now a.z2.now a.z3.now a.f1.now a.f2.now a.f3.now)
       c.if-most-total.false _ _ c.abs.ensures c.abs-2.ensures c.if-abs-doubles.true _
-      (rw (words-at c.before.before.before.before.before.before.before.before.before.before.before.before.before.before.before.before.before.before.before.before.before.pre.0) at c.ended-then-abs-doubles.ensures.doubles_after);
+      (rw (words-at c.requires.sized) at c.ended-then-abs-doubles.ensures.doubles_after);
 }
 
 pub returns : goal.returns
@@ -43,6 +44,6 @@ returns c = let a = c.args in record {
   sized_2 = c.began.ensures.sized_2;
   f3_after = attempt-begun (run_at a.words.now a.doubles.now) a.y.now a.scal.now a.cont.now
       (newton a.z1.now a.z2.now a.z3.now a.f1.now a.f2.now a.f3.now)
-      c.if-most-total.left _ _ c.abs.ensures c.abs-2.ensures c.if-abs-doubles.left _
-      (rw (words-at c.before.before.before.before.before.before.before.before.before.before.before.before.before.before.before.before.before.before.before.before.before.before.before.before.before.before.before.before.before.before.before.before.before.before.before.before.before.before.before.before.before.before.before.before.before.pre.0) at c.began.ensures.f3_after);
+      c.if-most-total.false _ _ c.abs.ensures c.abs-2.ensures c.if-abs-doubles.false _
+      (rw (words-at c.requires.sized) at c.began.ensures.f3_after);
 }

@@ -15,7 +15,4 @@ returns-then-first c = let a = c.args in
 
 pub returns : goal.returns
 unfolding guess_of
-returns c = let at-guess-from =
-    c.before.before.before.before.before.before.before.before.before.before.before.before in
-    let at-if1 = at-guess-from.before.before.before.before.before.before.before in
-    no _ _ _ at-if1.if1.left at-guess-from.guess-from.ensures
+returns c = no _ _ _ c.if-first.false c.guess_from.ensures

@@ -10,24 +10,23 @@ use Rattle.radau_core.proofs.PlaceLaws.{doubles-at, resized}
 use Rattle.radau_core.proofs.control.accepted.Goals as goal
 
 pub remembered-requires : goal.remembered-requires
-remembered-requires c = let start = c.before.before.before.before.before.before in
-    resized start.requires.0 refl (simp length-set)
+remembered-requires c = resized c.requires.sized refl (simp length-set)
 
 pub accepted_point-requires : goal.accepted_point-requires
-accepted_point-requires c = let start = c.before.before.before.before.before.before.before.before.before in record {
+accepted_point-requires c = record {
   sized = c.remembered.ensures.sized;
   doubles_bound = omega (
     arith,
     ap (λ (k : Counts). k.accepted) (remembered-counts _ _ _ c.remembered.ensures.doubles_after),
-    start.requires.1,
+    c.requires.doubles_bound,
   );
 }
 
 pub returns : goal.returns
-returns c = let start = c.before.before.before.before.before.before.before.before.before.before in record {
+returns c = record {
   sized_2 = c.accepted_point.ensures.sized_2;
-  doubles_after = accepted-by (run_at start.args.words.now start.args.doubles.now) start.args.err start.args.quot
+  doubles_after = accepted-by (run_at c.args.words.now c.args.doubles.now) c.args.err c.args.quot
       _ _ _ c.predictive_quot.ensures
-      (rw (doubles-at start.requires.0) at c.remembered.ensures.doubles_after)
+      (rw (doubles-at c.requires.sized) at c.remembered.ensures.doubles_after)
       c.accepted_point.ensures.doubles_after;
 }

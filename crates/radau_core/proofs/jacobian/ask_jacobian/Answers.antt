@@ -28,7 +28,7 @@ unfolding ask_jacobian_by
 returns-in-Host c = let a = c.args in record {
   sized_2 = c.at_stage.ensures.sized;
   f_origin_after = asked_by (run_at a.words.now a.doubles.now) a.y.now
-      (differences a.y-perturbed.now a.f-perturbed.now a.f-origin.now)
+      (differences a.y_perturbed.now a.f_perturbed.now a.f_origin.now)
       (sym c.source_mode-source.ensures ∙ c.in-Host.is)
       (same-but-run (c.at_stage.ensures.doubles_after ∙ ap (at_stage stage.Jacobian) c.wanted.ensures.doubles_after));
 }

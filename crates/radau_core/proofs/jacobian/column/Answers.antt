@@ -15,12 +15,12 @@ returns-then-c-eq0 c = record {
 
 pub ask_column-requires-then-c-n : goal.ask_column-requires-then-c-n
 ask_column-requires-then-c-n c = record {
-  sized = c.before.before.before.before.before.before.before.before.before.before.before.before.before.before.before.before.before.before.pre.0;
+  sized = c.requires.sized;
   col_bound = simp length-set (omega arith);
 }
 
 pub shape_of-y_perturbed-then-c-n : goal.shape_of-y_perturbed-then-c-n
-shape_of-y_perturbed-then-c-n c = simp length-set at c.ask_column-then-c-n.auto.1.1.1.1.0
+shape_of-y_perturbed-then-c-n c = simp length-set at c.ask_column-then-c-n.auto.y_perturbed
 
 pub returns-then-c-n : goal.returns-then-c-n
 returns-then-c-n c = record {

@@ -10,57 +10,52 @@ use Rattle.radau_core.specs.Places.{run_at}
 use Rattle.radau_core.proofs.judge.estimate.Goals as goal
 
 pub solve_first-requires : goal.solve_first-requires
-solve_first-requires c = omega (arith, c.before.before.before.before.before.before.before.before.before.before.before.before.before.before.before.before.before.before.before.before.before.before.before.before.before.before.before.before.before.pre.1, c.error_sides.auto)
+solve_first-requires c = omega (arith, (c.requires.fit, c.requires.z1_len), c.error_sides.auto)
 
 pub error-err-requires : goal.error-err-requires
-error-err-requires c = let start = c.before.before.before.before.before.before.before.before.before.before.before.before.before.before.before.before.before.before.before.before.before.before.before.before.before.before.before.before.before.before.before.before.before in
-    let p = start.pre in (
-      omega (arith, p),
-      omega (arith, p),
-      omega (arith, p, c.error_sides.auto, c.solve_first.auto),
-    )
+error-err-requires c = (
+  omega (arith, (c.requires.sized, c.requires.fit, c.requires.z1_len)),
+  omega (arith, (c.requires.sized, c.requires.fit, c.requires.z1_len)),
+  omega (arith, (c.requires.sized, c.requires.fit, c.requires.z1_len), c.error_sides.auto, c.solve_first.auto),
+)
 
 pub counted-requires : goal.counted-requires
-counted-requires c = let start = c.before.before.before.before.before.before.before.before.before.before.before.before.before.before.before.before.before.before.before.before.before.before.before.before.before.before.before.before.before.before.before.before.before.before.before.before in
-    record {
-      sized = start.pre.0;
-      doubles_bound = omega (arith, start.pre.1.0.0);
-    }
+counted-requires c = record {
+  sized = c.requires.sized;
+  doubles_bound = omega (arith, c.requires.fit.0);
+}
 
 pub tested-requires : goal.tested-requires
-tested-requires c = let start = c.before.before.before.before.before.before.before.before.before.before.before.before.before.before.before.before.before.before.before.before.before.before.before.before.before.before.before.before.before.before.before.before.before.before.before.before.before.before.before.before.before in
-    let p = start.pre in
-    let e = ap (λ (r : Run). r.shape.n) c.counted.ensures.doubles_after in record {
-      sized = c.counted.ensures.sized_2;
-      fit = subst (λ (r : Run). Fit 1 r.shape.n r) (sym c.counted.ensures.doubles_after) (counted-fit p.1.0.0);
-      z1_len = (
-        omega (arith, p, e),
-        omega (arith, p, e),
-        omega (arith, p, e),
-        omega (arith, p, e),
-        omega (arith, p, e, c.error_sides.auto, c.solve_first.auto),
-      );
-    }
+tested-requires c = let e = ap (λ (r : Run). r.shape.n) c.counted.ensures.doubles_after in record {
+  sized = c.counted.ensures.sized_2;
+  fit = subst (λ (r : Run). Fit 1 r.shape.n r) (sym c.counted.ensures.doubles_after) (counted-fit c.requires.fit.0);
+  z1_len = (
+    omega (arith, (c.requires.sized, c.requires.fit, c.requires.z1_len), e),
+    omega (arith, (c.requires.sized, c.requires.fit, c.requires.z1_len), e),
+    omega (arith, (c.requires.sized, c.requires.fit, c.requires.z1_len), e),
+    omega (arith, (c.requires.sized, c.requires.fit, c.requires.z1_len), e),
+    omega (arith, (c.requires.sized, c.requires.fit, c.requires.z1_len), e, c.error_sides.auto, c.solve_first.auto),
+  );
+}
 
 pub shape_of-y : goal.shape_of-y
 shape_of-y c = omega (arith, c.tested.auto)
 
 pub shape_of-cont : goal.shape_of-cont
-shape_of-cont c = omega (arith, c.tested.auto, c.solve_first.kept, c.error_sides.kept)
+shape_of-cont c = omega (arith, c.tested.auto, c.solve_first.auto, c.error_sides.auto)
 
 pub shape_of-f1 : goal.shape_of-f1
-shape_of-f1 c = omega (arith, c.defect.kept)
+shape_of-f1 c = omega (arith, c.defect.auto)
 
 pub shape_of-f2 : goal.shape_of-f2
-shape_of-f2 c = omega (arith, c.error_sides.kept)
+shape_of-f2 c = omega (arith, c.error_sides.auto)
 
 pub returns : goal.returns
-returns c = let start = c.before.before.before.before.before.before.before.before.before.before.before.before.before.before.before.before.before.before.before.before.before.before.before.before.before.before.before.before.before.before.before.before.before.before.before.before.before.before.before.before.before.before.before.before.before.before in
-    let a = start.args in record {
-      sized_2 = c.tested.ensures.sized_2;
-      f2_after = λ f3. estimate-by (run_at a.words.now a.doubles.now) a.e1.now a.ip1.now a.scal.now a.y.now
-          a.cont.now a.z1.now a.z2.now a.z3.now a.f1.now a.f2.now f3 a.mass.now a.f0.now
-          _ _ _ _ _ _ _ _ _ c.defect.ensures (rw c.mass_mode-mode.ensures at c.error_sides.ensures)
-          c.solve_first.ensures c.error-err.ensures c.counted.ensures.doubles_after
-          c.tested.ensures.cont_after;
-    }
+returns c = let a = c.args in record {
+  sized_2 = c.tested.ensures.sized_2;
+  f2_after = λ f3. estimate-by (run_at a.words.now a.doubles.now) a.e1.now a.ip1.now a.scal.now a.y.now
+      a.cont.now a.z1.now a.z2.now a.z3.now a.f1.now a.f2.now f3 a.mass.now a.f0.now
+      _ _ _ _ _ _ _ _ _ c.defect.ensures (rw c.mass_mode-mode.ensures at c.error_sides.ensures)
+      c.solve_first.ensures c.error-err.ensures c.counted.ensures.doubles_after
+      c.tested.ensures.cont_after;
+}

@@ -6,6 +6,4 @@ use Rattle.radau_core.proofs.matrices.build_identity.Goals as goal
 
 pub returns : goal.returns
 unfolding identity_built
-returns c = let at-make-plain =
-    c.before.before.before.before.before.before.before.before.before.before.before.before.before.before.before.before in
-    rw (c.make_diagonal.ensures, at-make-plain.make-plain.ensures)
+returns c = rw (c.make_diagonal.ensures, c.make_plain.ensures)

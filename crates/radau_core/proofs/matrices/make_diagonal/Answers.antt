@@ -10,19 +10,13 @@ use Rattle.solve_blocks.proofs.MatrixLaws.{Squares}
 use Rattle.radau_core.proofs.matrices.make_diagonal.Goals as goal
 
 pub overflow_mul-r : goal.overflow_mul-r
-overflow_mul-r c = let x = c.loop-r.r in
-    let n = c.args.n in
-    omega (arith, cell n x x (omega arith) (omega arith) (omega arith))
+overflow_mul-r c = omega (arith, cell c.args.n c.loop-r.r c.loop-r.r (omega arith) (omega arith) (omega arith))
 
 pub overflow_add-r : goal.overflow_add-r
-overflow_add-r c = let x = c.loop-r.r in
-    let n = c.args.n in
-    omega (arith, cell n x x (omega arith) (omega arith) (omega arith))
+overflow_add-r c = omega (arith, cell c.args.n c.loop-r.r c.loop-r.r (omega arith) (omega arith) (omega arith))
 
 pub make-requires : goal.make-requires
-make-requires c = let x = c.loop-r.r in
-    let n = c.args.n in
-    let here = cell n x x (omega arith) (omega arith) (omega arith) in
+make-requires c = let here = cell c.args.n c.loop-r.r c.loop-r.r (omega arith) (omega arith) (omega arith) in
     (omega arith, omega arith, omega arith, omega arith, omega arith)
 
 pub loop-r-init : goal.loop-r-init

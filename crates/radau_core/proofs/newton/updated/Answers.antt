@@ -6,6 +6,4 @@ use Rattle.radau_core.proofs.newton.updated.Goals as goal
 
 pub returns : goal.returns
 unfolding updated_of
-returns c = let at-add =
-    c.before.before.before.before.before.before.before.before.before.before.before.before.before.before.before.before.before.before.before in
-    rw (← at-add.add.ensures, ← c.back.ensures)
+returns c = rw (← c.add.ensures, ← c.back.ensures)

@@ -24,12 +24,11 @@ written {w} {d} sized s e =
     (ap (λ (x : Strides). in_notes (set_strides x) (run_at w d)) (strides-back s ∙ e))
 
 pub returns : goal.returns
-returns c = let start = c.before.before.before.before.before.before.before.before.before in
-    let a = start.args in record {
-      sized = resized start.requires (simp length-set) (simp length-set);
-      doubles_after = (λ i. run_at (set a.words.now 41 (c.strides_tag.ensures i))
-          (set (set a.doubles.now 29 (c.smallest_stride.ensures i)) 30 (c.largest_stride.ensures i)))
-          ∙ written start.requires c.with_stride-strides.result
-          (c.with_stride-strides.ensures
-          ∙ (λ i. with_stride (c.abs.ensures i) (c.strides_at.ensures i)));
-    }
+returns c = let a = c.args in record {
+  sized = resized c.requires (simp length-set) (simp length-set);
+  doubles_after = (λ i. run_at (set a.words.now 41 (c.strides_tag.ensures i))
+      (set (set a.doubles.now 29 (c.smallest_stride.ensures i)) 30 (c.largest_stride.ensures i)))
+      ∙ written c.requires c.with_stride-strides.result
+      (c.with_stride-strides.ensures
+      ∙ (λ i. with_stride (c.abs.ensures i) (c.strides_at.ensures i)));
+}

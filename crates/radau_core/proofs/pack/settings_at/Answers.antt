@@ -6,25 +6,23 @@ use Rattle.radau_core.specs.Places.{◌#◌}
 use Rattle.radau_core.proofs.pack.settings_at.Goals as goal
 
 pub returns : goal.returns
-returns c = let w = c.args.words.now in
-    let d = c.args.doubles.now in
-    λ i. record {
-      max_steps = w # 21;
-      uround = d ! 21;
-      safety_factor = d ! 22;
-      scale_min = d ! 23;
-      scale_max = d ! 24;
-      max_step = c.number_at.ensures i;
-      min_step = c.number_at-2.ensures i;
-      newton_maxiter = w # 22;
-      newton_tol = c.number_at-3.ensures i;
-      predictive = flag_of (w # 23);
-      nind1 = c.whole_at.ensures i;
-      nind2 = c.whole_at-2.ensures i;
-      nind3 = c.whole_at-3.ensures i;
-      mass = c.mass_mode.ensures i;
-      source = c.source_mode.ensures i;
-      first_step = c.number_at-4.ensures i;
-      dense_output = flag_of (w # 26);
-      rule = c.rule_mode.ensures i;
-    }
+returns c = λ i. record {
+  max_steps = c.args.words.now # 21;
+  uround = c.args.doubles.now ! 21;
+  safety_factor = c.args.doubles.now ! 22;
+  scale_min = c.args.doubles.now ! 23;
+  scale_max = c.args.doubles.now ! 24;
+  max_step = c.number_at.ensures i;
+  min_step = c.number_at-2.ensures i;
+  newton_maxiter = c.args.words.now # 22;
+  newton_tol = c.number_at-3.ensures i;
+  predictive = flag_of (c.args.words.now # 23);
+  nind1 = c.whole_at.ensures i;
+  nind2 = c.whole_at-2.ensures i;
+  nind3 = c.whole_at-3.ensures i;
+  mass = c.mass_mode.ensures i;
+  source = c.source_mode.ensures i;
+  first_step = c.number_at-4.ensures i;
+  dense_output = flag_of (c.args.words.now # 26);
+  rule = c.rule_mode.ensures i;
+}

@@ -4,30 +4,29 @@ use borrow.Author.Rules.{rules}
 use Rattle.radau_core.proofs.pack.words_of.Goals as goal
 
 pub returns : goal.returns
-returns c = let r = c.args.run in
-    λ i. c.stage_tag.ensures i
+returns c = λ i. c.stage_tag.ensures i
     ∷ c.stage_part.ensures i
-    ∷ r.counts.ode
-    ∷ r.counts.jac
-    ∷ r.counts.lu
-    ∷ r.counts.total
-    ∷ r.counts.accepted
-    ∷ r.counts.rejected
+    ∷ c.args.run.counts.ode
+    ∷ c.args.run.counts.jac
+    ∷ c.args.run.counts.lu
+    ∷ c.args.run.counts.total
+    ∷ c.args.run.counts.accepted
+    ∷ c.args.run.counts.rejected
     ∷ c.flag_word.ensures i
     ∷ c.flag_word-2.ensures i
     ∷ c.flag_word-3.ensures i
     ∷ c.flag_word-4.ensures i
     ∷ c.flag_word-5.ensures i
-    ∷ r.control.singular_count
-    ∷ r.control.newt_iter
+    ∷ c.args.run.control.singular_count
+    ∷ c.args.run.control.newt_iter
     ∷ c.number_tag.ensures i
-    ∷ r.shape.n
-    ∷ r.shape.nind1
-    ∷ r.shape.nind2
-    ∷ r.shape.nind3
+    ∷ c.args.run.shape.n
+    ∷ c.args.run.shape.nind1
+    ∷ c.args.run.shape.nind2
+    ∷ c.args.run.shape.nind3
     ∷ c.tolerances_tag.ensures i
-    ∷ r.settings.max_steps
-    ∷ r.settings.newton_maxiter
+    ∷ c.args.run.settings.max_steps
+    ∷ c.args.run.settings.newton_maxiter
     ∷ c.flag_word-6.ensures i
     ∷ c.mass_word.ensures i
     ∷ c.source_word.ensures i

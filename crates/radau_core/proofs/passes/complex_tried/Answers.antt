@@ -10,7 +10,7 @@ use Rattle.radau_core.proofs.passes.complex_tried.Goals as goal
 pub stopping-requires : goal.stopping-requires
 stopping-requires c = record {
   sized = c.counted.ensures.sized_2;
-  singular_count_bound = subst (λ (r : Run). r.control.singular_count ≤ 5) (sym c.counted.ensures.doubles_after) c.before.before.before.before.before.before.before.before.before.before.before.before.before.before.before.before.before.before.before.before.before.before.pre.1.failures;
+  singular_count_bound = subst (λ (r : Run). r.control.singular_count ≤ 5) (sym c.counted.ensures.doubles_after) c.requires.fit.failures;
 }
 
 pub returns-then-is_err : goal.returns-then-is_err

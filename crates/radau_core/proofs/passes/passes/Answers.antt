@@ -25,13 +25,14 @@ returns-then-not-passes_on c = record {
 }
 
 pub tried-s-requires : goal.tried-s-requires
-tried-s-requires c = let start = c.before.before.before.before.before.before.before.before.before.before.before.before.before.before.before.before.before.before.before in let all = (
-  c.loop.invariant.0,
-  pass-asks (next-fit _ _ _ c.loop.invariant.1 start.requires.1.0 (omega arith)
-      (sym (c.passes_on.ensures c.loop.doubles) ∙ not-false c.passes_on.result c.if-not-passes_on.false-raw) (sym (run-back c.loop.s _)))
-      start.requires.1.1.0 start.requires.1.1.1 c.loop.invariant.1.kept,
-) in
-    record { sized = all.0; fit = all.1.0; square = all.1.1 }
+tried-s-requires c = let others = pass-asks (next-fit _ _ _ c.loop.invariant.1 c.requires.step_fit (omega arith)
+    (sym (c.passes_on.ensures c.loop.doubles) ∙ not-false c.passes_on.result c.if-not-passes_on.false-raw) (sym (run-back c.loop.s _)))
+    c.requires.square.0 c.requires.square.1 c.loop.invariant.1.kept in
+    record {
+      sized = c.loop.invariant.0;
+      fit = others.0;
+      square = others.1;
+    }
 
 pub loop-preserved : goal.loop-preserved
 loop-preserved c = (

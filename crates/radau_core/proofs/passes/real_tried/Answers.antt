@@ -12,13 +12,13 @@ use Rattle.radau_core.proofs.passes.real_tried.Goals as goal
 pub stopping-requires : goal.stopping-requires
 stopping-requires c = record {
   sized = c.counted.ensures.sized_2;
-  singular_count_bound = subst (λ (r : Run). r.control.singular_count ≤ 5) (sym c.counted.ensures.doubles_after) c.before.before.before.before.before.before.before.before.before.before.before.before.before.before.before.before.before.before.before.before.before.pre.1.failures;
+  singular_count_bound = subst (λ (r : Run). r.control.singular_count ≤ 5) (sym c.counted.ensures.doubles_after) c.requires.fit.failures;
 }
 
 pub complex_tried-requires : goal.complex_tried-requires
 complex_tried-requires c = record {
   sized = c.counted.ensures.sized_2;
-  fit = subst (λ (r : Run). Fit 1 r.shape.n r) (sym c.counted.ensures.doubles_after) (counted-fit c.before.before.before.before.before.before.before.before.before.before.before.before.before.before.before.before.before.before.before.before.before.before.before.pre.1);
+  fit = subst (λ (r : Run). Fit 1 r.shape.n r) (sym c.counted.ensures.doubles_after) (counted-fit c.requires.fit);
 }
 
 pub returns-then-is_err : goal.returns-then-is_err

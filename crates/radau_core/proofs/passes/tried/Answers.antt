@@ -10,7 +10,7 @@ pub returns-then-words-ne0 : goal.returns-then-words-ne0
 returns-then-words-ne0 c = record {
   sized_2 = c.real_tried.ensures.sized_2;
   ip2_after = pass-made (run_at c.args.words.now c.args.doubles.now) _ _ (factors _ _ _ _ _) _ _ _
-      (flag-set c.if-words-ne0.taken)
+      (flag-set c.if-words-ne0.true)
       (rw c.mass_mode-mode.ensures at c.built.ensures)
       c.real_tried.ensures.ip2_after;
 }

@@ -26,7 +26,7 @@ returns-in-3 c =
 pub returns-in-4 : goal.returns-in-4
 returns-in-4 c =
     let part_at : ℕ = c.args.words.now # 1 in
-    let start = c.before.before.before in sym (place.at-column part_at c.in-4.is)
+    sym (place.at-column part_at c.in-4.is)
 
 pub returns-in-5 : goal.returns-in-5
 returns-in-5 c =
@@ -66,7 +66,7 @@ returns-in-11 c =
 pub returns-in-12 : goal.returns-in-12
 returns-in-12 c =
     let part_at : ℕ = c.args.words.now # 1 in
-    let start = c.before.before.before.before in ap (λ (s : Status). stage.Ended s) c.status_at.ensures ∙ sym (place.at_ended part_at c.in-12.is)
+    ap (λ (s : Status). stage.Ended s) c.status_at.ensures ∙ sym (place.at_ended part_at c.in-12.is)
 
 pub returns-in_default : goal.returns-in_default
 returns-in_default c =

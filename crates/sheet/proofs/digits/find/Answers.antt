@@ -1,9 +1,5 @@
 -- `find` meets its contract: no byte passed is the one looked for.
-use Prim.Native.Nat.{◌+◌, ◌≤◌, ◌-◌}
-use mathlib.Core.Path.{◌≡◌}
 use native.Mathlib.Omega.{arith}
-use lib.ListN.{length, drop}
-use Rattle.sheet.specs.Digits.{found_of}
 use Rattle.sheet.proofs.DigitsLaws.{found_here, found-later, found_nowhere}
 use Rattle.sheet.proofs.digits.find.Goals as goal
 

@@ -1,10 +1,8 @@
 -- What each loop of `find` keeps.
 use Prim.Native.Nat.{◌+◌, ◌≤◌, ◌-◌}
 use mathlib.Core.Path.{◌≡◌}
-use native.Mathlib.Omega.{arith}
 use lib.ListN.{length, drop}
 use Rattle.sheet.specs.Digits.{found_of}
-use Rattle.sheet.proofs.DigitsLaws.{found_here, found-later, found_nowhere}
 use Rattle.sheet.proofs.digits.find.Given as goal
 
 abbrev pub invariant-loop-i : goal.invariant-loop-i

@@ -1,10 +1,7 @@
 -- `spelled` meets its contract: the bytes passed spell the value so far.
-use Prim.Native.Nat.{◌≤◌, ◌<◌, ◌-◌}
-use mathlib.Core.Path.{◌≡◌, refl, ◌∙◌}
+use mathlib.Core.Path.{refl, ◌∙◌}
 use native.Mathlib.Omega.{arith}
-use borrow.Author.Rules.{rules}
-use lib.ListN.{length, drop}
-use Rattle.sheet.specs.Digits.{spelled_of, power}
+use Rattle.sheet.specs.Digits.{power}
 use Rattle.sheet.proofs.DigitsLaws.{spelled-more, spelled-stopped, spelled-all, room}
 use Rattle.sheet.proofs.digits.spelled.Goals as goal
 

@@ -1,11 +1,8 @@
 -- What each loop of `spelled` keeps.
 use Prim.Native.Nat.{◌≤◌, ◌<◌, ◌-◌}
-use mathlib.Core.Path.{◌≡◌, refl, ◌∙◌}
-use native.Mathlib.Omega.{arith}
-use borrow.Author.Rules.{rules}
+use mathlib.Core.Path.{◌≡◌}
 use lib.ListN.{length, drop}
 use Rattle.sheet.specs.Digits.{spelled_of, power}
-use Rattle.sheet.proofs.DigitsLaws.{spelled-more, spelled-stopped, spelled-all, room}
 use Rattle.sheet.proofs.digits.spelled.Given as goal
 
 abbrev pub invariant-loop-i : goal.invariant-loop-i

@@ -1,10 +1,8 @@
 -- `fill_amounts` meets its contract.
-use Prim.Native.Nat.{◌-◌}
 use mathlib.Core.Path.{refl, ◌∙◌}
 use native.Mathlib.Omega.{arith}
-use lib.ListN.{get_or, length-set}
-use Rattle.words.proofs.Loops.{Ran, Long, begun, turned, ended}
-use Rattle.sheet.specs.Fill.{placed}
+use lib.ListN.{length-set}
+use Rattle.words.proofs.Loops.{begun, turned, ended}
 use Rattle.sheet.proofs.fill.fill_amounts.Goals as goal
 
 pub loop-i-init : goal.loop-i-init

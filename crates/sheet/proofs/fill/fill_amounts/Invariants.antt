@@ -1,9 +1,6 @@
 -- What each loop of `fill_amounts` keeps.
-use Prim.Native.Nat.{◌-◌}
-use mathlib.Core.Path.{refl, ◌∙◌}
-use native.Mathlib.Omega.{arith}
-use lib.ListN.{get_or, length-set}
-use Rattle.words.proofs.Loops.{Ran, Long, begun, turned, ended}
+use lib.ListN.{get_or}
+use Rattle.words.proofs.Loops.{Ran, Long}
 use Rattle.sheet.specs.Fill.{placed}
 use Rattle.sheet.proofs.fill.fill_amounts.Given as goal
 

@@ -1,10 +1,8 @@
 -- `fill_rates` meets its contract.
-use Prim.Native.Nat.{◌-◌}
 use mathlib.Core.Path.{refl, ◌∙◌}
 use native.Mathlib.Omega.{arith}
 use lib.ListN.{length-set}
-use Rattle.words.proofs.Loops.{Ran, Long, begun, turned, ended}
-use Rattle.sheet.specs.Fill.{placed, rate_at}
+use Rattle.words.proofs.Loops.{begun, turned, ended}
 use Rattle.sheet.proofs.fill.fill_rates.Goals as goal
 
 pub loop-i-init : goal.loop-i-init

@@ -1,9 +1,5 @@
 -- What each loop of `fill_species` keeps.
-use Prim.Native.Nat.{◌-◌}
-use mathlib.Core.Path.{refl, ◌∙◌}
-use native.Mathlib.Omega.{arith}
-use lib.ListN.{length-set}
-use Rattle.words.proofs.Loops.{Ran, Long, begun, turned, ended}
+use Rattle.words.proofs.Loops.{Ran, Long}
 use Rattle.sheet.specs.Fill.{placed, species_at}
 use Rattle.sheet.proofs.fill.fill_species.Given as goal
 

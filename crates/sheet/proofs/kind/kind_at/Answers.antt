@@ -1,5 +1,4 @@
 -- `kind_at` meets its contract.
-use borrow.Author.Rules.{rules}
 use Rattle.sheet.specs.Kinds.{kind_of}
 use Rattle.sheet.proofs.kind.kind_at.Goals as goal
 

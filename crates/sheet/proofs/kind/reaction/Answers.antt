@@ -1,5 +1,4 @@
 -- `reaction` meets its contract.
-use borrow.Author.Rules.{rules}
 use borrow.Author.Tests.{eq-eqb, ne_eqb, lt-ltb, le-ltb}
 use Rattle.words.proofs.Branch.{yes, no}
 use Rattle.sheet.specs.Kinds.{reaction_of}

@@ -1,5 +1,4 @@
 -- `setting` meets its contract.
-use borrow.Author.Rules.{rules}
 use borrow.Author.Tests.{eq-eqb, ne_eqb, lt-ltb, le-ltb}
 use Rattle.words.proofs.Branch.{yes, no}
 use Rattle.sheet.specs.Kinds.{setting_of}

@@ -3,7 +3,6 @@ use mathlib.Core.Path.{refl}
 use Rattle.sheet.specs.Numbers.{judged_of}
 use Rattle.sheet.proofs.NumbersLaws.{base-small, number-long, number-judged, judged-misfit}
 use Rattle.sheet.proofs.NumbersLaws.{judged-low, judged-high, judged-right}
-use borrow.Author.Rules.{rules}
 use Rattle.sheet.proofs.numbers.number.Goals as goal
 
 pub returns-then-text-gt16 : goal.returns-then-text-gt16

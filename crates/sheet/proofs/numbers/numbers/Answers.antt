@@ -1,12 +1,9 @@
 -- `numbers` meets its contract.
-use Prim.Native.Nat.{◌-◌}
 use mathlib.Core.Path.{refl, sym, ◌∙◌}
 use native.Mathlib.Omega.{arith}
-use borrow.Author.Rules.{rules}
 use borrow.Author.Tests.{not-true, not-false}
-use Rattle.sheet.specs.Kinds.{kind_of}
 use Rattle.sheet.proofs.NumbersLaws.{good-piece, bad-piece, good-passage, bad-passage, ends-few}
-use Rattle.sheet.proofs.NumbersLaws.{Left, left-begun, left-done, left-stuck, left-more}
+use Rattle.sheet.proofs.NumbersLaws.{left-begun, left-done, left-stuck, left-more}
 use Rattle.sheet.proofs.numbers.numbers.Goals as goal
 
 pub loop-i-init : goal.loop-i-init

@@ -4,28 +4,27 @@ use native.Mathlib.Omega.{arith}
 use lib.Seq.{length-take-le}
 use lib.ListN.{length-drop}
 use Rattle.sheet.proofs.NumbersLaws.{good-piece, bad-piece, piece-got, piece-wrong, piece-none, rest-is}
-use borrow.Author.Rules.{rules}
 use Rattle.sheet.proofs.numbers.token_at.Goals as goal
 
 pub slice_bounds-number-end : goal.slice_bounds-number-end
 slice_bounds-number-end c = sym (length-take-le _ _ (omega arith))
 
 pub returns-in-Value : goal.returns-in-Value
-returns-in-Value c = let start = c.before.before.before.before.before.before.before.before.before in (
+returns-in-Value c = (
   good-piece _ _ refl
-      ∙ piece-got start.args.kind start.args.bytes.now start.args.at c.find-end.ensures.0
+      ∙ piece-got c.args.kind c.args.bytes.now c.args.at c.find-end.ensures.0
       (rw (rest-is _ _) at c.if-end-rest.true) c.number-spelt.ensures
       c.in-Value.is,
-  omega (arith, length-drop start.args.at start.args.bytes.now, rw (rest-is _ _) at c.if-end-rest.true),
+  omega (arith, length-drop c.args.at c.args.bytes.now, rw (rest-is _ _) at c.if-end-rest.true),
 )
 
 pub returns-in-Wrong : goal.returns-in-Wrong
-returns-in-Wrong c = let start = c.before.before.before.before.before.before.before.before in (
+returns-in-Wrong c = (
   bad-piece _ _ refl
-      ∙ piece-wrong start.args.kind start.args.bytes.now start.args.at
+      ∙ piece-wrong c.args.kind c.args.bytes.now c.args.at
       c.find-end.ensures.0
       (rw (rest-is _ _) at c.if-end-rest.true) c.number-spelt.ensures c.in-Wrong.is,
-  start.requires,
+  c.requires,
 )
 
 pub returns-else-end-rest : goal.returns-else-end-rest

@@ -1,6 +1,5 @@
 -- `heading_from` meets its contract.
 use Rattle.sheet.specs.Reader.{heading_from}
-use borrow.Author.Rules.{rules}
 use Rattle.sheet.proofs.sheet.heading_from.Goals as goal
 
 pub returns : goal.returns

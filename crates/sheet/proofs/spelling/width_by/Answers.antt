@@ -1,6 +1,5 @@
 -- `width_by` meets its contract.
 use mathlib.Core.Path.{refl}
-use borrow.Author.Rules.{rules}
 use Rattle.words.proofs.Branch.{yes, no}
 use Rattle.sheet.specs.Digits.{width_by}
 use Rattle.sheet.proofs.spelling.width_by.Goals as goal

@@ -1,10 +1,9 @@
 -- `copy` meets its contract: the bytes passed stand over the first ones.
-use Prim.Native.Nat.{◌-◌, ◌≤◌}
-use mathlib.Core.Path.{◌≡◌, refl, ap, ◌∙◌}
+use mathlib.Core.Path.{refl, ap, ◌∙◌}
 use native.Mathlib.Nat.{le_antisymm}
 use native.Mathlib.Numerals.{add-one}
 use native.Mathlib.Omega.{arith}
-use lib.ListN.{length, get_or, take, set, length-set}
+use lib.ListN.{get_or, take, set, length-set}
 use Rattle.sheet.specs.Reader.{over}
 use Rattle.sheet.proofs.FillLaws.{set-over}
 use Rattle.sheet_write.proofs.copy.copy.Goals as goal

@@ -1,9 +1,8 @@
 -- `list_reactions` meets its contract: the numbers of the reactions passed are listed.
-use Prim.Native.Nat.{◌-◌, ◌*◌, ◌≤◌}
-use mathlib.Core.Path.{◌≡◌, refl}
+use mathlib.Core.Path.{refl}
 use native.Mathlib.Nat.{le_antisymm}
 use native.Mathlib.Omega.{arith}
-use lib.ListN.{length, take, length-set}
+use lib.ListN.{length-set}
 use Rattle.sheet_write.specs.Memory.{listed_in}
 use Rattle.sheet_write.proofs.MemoryLaws.{listed_more}
 use Rattle.sheet_write.proofs.listing.list_reactions.Goals as goal

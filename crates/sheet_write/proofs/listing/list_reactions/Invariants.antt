@@ -1,11 +1,8 @@
 -- What each loop of `list_reactions` keeps.
-use Prim.Native.Nat.{◌-◌, ◌*◌, ◌≤◌}
-use mathlib.Core.Path.{◌≡◌, refl}
-use native.Mathlib.Nat.{le_antisymm}
-use native.Mathlib.Omega.{arith}
-use lib.ListN.{length, take, length-set}
+use Prim.Native.Nat.{◌*◌, ◌≤◌}
+use mathlib.Core.Path.{◌≡◌}
+use lib.ListN.{length, take}
 use Rattle.sheet_write.specs.Memory.{listed_in}
-use Rattle.sheet_write.proofs.MemoryLaws.{listed_more}
 use Rattle.sheet_write.proofs.listing.list_reactions.Given as goal
 
 abbrev pub invariant-loop-i : goal.invariant-loop-i

@@ -1,5 +1,4 @@
 -- `settings_of` meets its contract.
-use borrow.Author.Rules.{rules}
 use Rattle.sheet_write.proofs.listing.settings_of.Goals as goal
 
 pub returns : goal.returns

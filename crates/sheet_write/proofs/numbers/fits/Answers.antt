@@ -1,11 +1,6 @@
 -- `fits` meets its contract: what is left to test decides.
-use Prim.Native.Nat.{◌-◌, ◌≤◌}
-use mathlib.Core.Path.{◌≡◌, refl}
+use mathlib.Core.Path.{refl}
 use native.Mathlib.Omega.{arith}
-use borrow.Author.Rules.{rules}
-use lib.ListN.{take, drop}
-use Rattle.sheet.specs.Kinds.{kind_of}
-use Rattle.sheet_write.specs.Writer.{fit_of}
 use Rattle.sheet_write.proofs.KindLaws.{test_below, test-above, test_on, test-all}
 use Rattle.sheet_write.proofs.numbers.fits.Goals as goal
 

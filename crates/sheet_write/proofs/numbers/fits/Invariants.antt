@@ -1,12 +1,9 @@
 -- What each loop of `fits` keeps.
-use Prim.Native.Nat.{◌-◌, ◌≤◌}
-use mathlib.Core.Path.{◌≡◌, refl}
-use native.Mathlib.Omega.{arith}
-use borrow.Author.Rules.{rules}
+use Prim.Native.Nat.{◌≤◌}
+use mathlib.Core.Path.{◌≡◌}
 use lib.ListN.{take, drop}
 use Rattle.sheet.specs.Kinds.{kind_of}
 use Rattle.sheet_write.specs.Writer.{fit_of}
-use Rattle.sheet_write.proofs.KindLaws.{test_below, test-above, test_on, test-all}
 use Rattle.sheet_write.proofs.numbers.fits.Given as goal
 
 abbrev pub invariant-loop-i : goal.invariant-loop-i

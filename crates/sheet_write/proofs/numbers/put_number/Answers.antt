@@ -1,6 +1,5 @@
 -- `put_number` meets its contract.
 use native.Mathlib.Omega.{arith}
-use borrow.Author.Rules.{rules}
 use Rattle.sheet.specs.Writes.{spell_of}
 use Rattle.sheet.proofs.Inverse.{length_digits, width-by-few}
 use Rattle.sheet.proofs.NumbersLaws.{base-small}

@@ -1,12 +1,10 @@
 -- `put_numbers` meets its contract: the numbers passed are put.
-use Prim.Native.Nat.{◌+◌, ◌-◌, ◌*◌, ◌≤◌, ◌<◌}
+use Prim.Native.Nat.{◌<◌}
 use native.Mathlib.Nat.{le_antisymm}
 use native.Mathlib.Omega.{arith}
-use borrow.Author.Rules.{rules}
-use lib.ListN.{length, take}
+use lib.ListN.{length}
 use Rattle.sheet.specs.Kinds.{kind_of}
 use Rattle.sheet.specs.Writes.{writes}
-use Rattle.forecast_text.specs.Put.{Put}
 use Rattle.forecast_text.proofs.PutLaws.{put-none, put_then}
 use Rattle.sheet_write.proofs.KindLaws.{taken_of, writes_more, kind-spells}
 use Rattle.sheet_write.proofs.numbers.put_numbers.Goals as goal

@@ -1,14 +1,9 @@
 -- What each loop of `put_numbers` keeps.
-use Prim.Native.Nat.{◌+◌, ◌-◌, ◌*◌, ◌≤◌, ◌<◌}
-use native.Mathlib.Nat.{le_antisymm}
-use native.Mathlib.Omega.{arith}
-use borrow.Author.Rules.{rules}
-use lib.ListN.{length, take}
+use Prim.Native.Nat.{◌+◌, ◌*◌, ◌≤◌}
+use lib.ListN.{take}
 use Rattle.sheet.specs.Kinds.{kind_of}
 use Rattle.sheet.specs.Writes.{writes}
 use Rattle.forecast_text.specs.Put.{Put}
-use Rattle.forecast_text.proofs.PutLaws.{put-none, put_then}
-use Rattle.sheet_write.proofs.KindLaws.{taken_of, writes_more, kind-spells}
 use Rattle.sheet_write.proofs.numbers.put_numbers.Given as goal
 
 abbrev pub invariant-loop-i : goal.invariant-loop-i

@@ -2,7 +2,6 @@
 use Prim.Native.Nat.{ℕ}
 use mathlib.Core.Path.{sym, ap, ◌∙◌}
 use native.Mathlib.Omega.{arith}
-use borrow.Author.Rules.{rules}
 use lib.ListN.{length, length-replicate}
 use Rattle.sheet.specs.Reader.{over}
 use Rattle.forecast_text.specs.Printed.{printed_of}
@@ -15,15 +14,15 @@ slice_bounds-copy-end c = sym (ap length c.print-count.ensures.out_after ∙ len
 
 pub copy-requires : goal.copy-requires
 copy-requires c = let print = c.print-count in
-    let long = ap length print.ensures.0 ∙ length_over _ _ ∙ length-replicate {A = ℕ} 1024 0 in
-    (omega (arith, print.ensures.1.1, long), omega (arith, print.ensures.1.1))
+    let long = ap length print.ensures.out_after ∙ length_over _ _ ∙ length-replicate {A = ℕ} 1024 0 in
+    (omega (arith, print.ensures.value.1, long), omega (arith, print.ensures.value.1))
 
 pub returns : goal.returns
 returns c = let print = c.print-count in
     let args = c.args in
-    let same = over-taken (printed_of args.forecast) _ print.ensures.0 print.ensures.1.0
-    (omega (arith, print.ensures.1.0, print.ensures.1.1, length-replicate {A = ℕ} 1024 0)) in
+    let same = over-taken (printed_of args.forecast) _ print.ensures.out_after print.ensures.value.0
+    (omega (arith, print.ensures.value.0, print.ensures.value.1, length-replicate {A = ℕ} 1024 0)) in
     record {
       out_after = c.copy.ensures ∙ ap (λ b. over b args.out.now) same;
-      value = print.ensures.1.0;
+      value = print.ensures.value.0;
     }

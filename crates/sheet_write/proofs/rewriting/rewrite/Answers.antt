@@ -2,7 +2,6 @@
 use Prim.Native.Nat.{ℕ}
 use mathlib.Core.Path.{sym, ◌∙◌}
 use native.Mathlib.Omega.{arith}
-use borrow.Author.Rules.{rules}
 use lib.ListN.{length-replicate}
 use Rattle.sheet_write.proofs.RewriteLaws.{rewrote-model, rewrote-line, rewrote-long}
 use Rattle.sheet_write.proofs.rewriting.rewrite.Goals as goal
@@ -15,9 +14,9 @@ returns-in-Read c = let args = c.args in
       amounts = length-replicate {A = ℕ} 32 0;
       rates = length-replicate {A = ℕ} 64 0;
       species = length-replicate {A = ℕ} 256 0;
-    }) (omega (arith, c.put_model-arg-1.given)) _ _ _
-    (sym read.ensures.0 ∙ c.in-Read.is) read.ensures.1.0 read.ensures.1.1.0
-    read.ensures.1.1.1 c.put_model.ensures.value c.put_model.ensures.out_after in
+    }) (omega arith) _ _ _
+    (sym read.ensures.value ∙ c.in-Read.is) read.ensures.amounts_after read.ensures.rates_after
+    read.ensures.species_after c.put_model.ensures.value c.put_model.ensures.out_after in
     record { out_after = all.0; value = all.1 }
 
 pub returns-in-Malformed : goal.returns-in-Malformed

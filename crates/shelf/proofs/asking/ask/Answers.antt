@@ -1,87 +1,146 @@
 -- `ask` meets its contract, way by way.
-use Prim.Native.Nat.{◌+◌, ◌-◌, ◌*◌, ◌≤◌, ◌<◌}
+use Prim.Native.Nat.{ℕ, ◌+◌, ◌-◌, ◌*◌, ◌≤◌, ◌<◌}
 use mathlib.Core.Path.{◌≡◌, refl, sym, ap, subst, ◌∙◌}
 use mathlib.Core.Bool.{true}
+use mathlib.Core.List.{List}
 use native.Mathlib.Omega.{arith}
 use lib.ListN.{length, take, drop}
-use borrow.Author.Rules.{rules}
-use borrow.Author.Tests.{not-true, not-false}
+use lib.Ieee.{Float}
 use Rattle.words.specs.Words.{◌!◌}
 use Rattle.dense.specs.Answers.{Interpolation}
 use Rattle.dense.specs.Interpolate.{interpolate_of}
-use Rattle.dense.proofs.Theorems.{length-kept}
+use Rattle.shelf.specs.declared.answers.Shelf.{Shelf}
 use Rattle.shelf.specs.declared.answers.Asking.TheVariants as asking
 use Rattle.shelf.specs.declared.finding.Found.TheVariants.{At, Nothing}
 use Rattle.shelf.specs.Answers.{asked}
-use Rattle.shelf.specs.Refusals.{room_fits, shelf_fits, Room, Fit}
+use Rattle.shelf.specs.Finding.{found_from}
+use Rattle.shelf.specs.Refusals.{room_fits, shelf_fits}
 use Rattle.shelf.proofs.TestLaws.{room-fit, shelf-fit, within-room}
 use Rattle.shelf.proofs.FindLaws.{Low, found-low}
 use Rattle.shelf.proofs.AskLaws.{ask-narrow, ask-unfit, ask-found}
 use Rattle.shelf.proofs.asking.ask.Goals as goal
 
-abbrev start : (c : goal.After-room_fits) → goal.Start
-start c = c.before.before.before.before
+-- what is known of the place that was found, among the parts of 48 steps of n amounts
+record Inside (n c e place : ℕ) : Type 0 where
+  room : place * (4 * n) + 4 * n ≤ c
+  end : 2 * place + 1 < e
 
-abbrev at-find : (c : goal.In-At) → goal.After-find-found
-at-find c = c.before.before.before
-
-abbrev told : (c : goal.After-interpolate) → goal.In-At
-told c = c.before.before.before.before.before
+inside : (n c : ℕ) (s : Shelf) (x : Float) (ends : List Float) (place : ℕ) → room_fits n c (length ends) ≡ true
+    → shelf_fits s ≡ true → At place ≡ found_from x ends s.place s.steps → Inside n c (length ends) place
+inside n c s x ends place wide fits e =
+    let room = room-fit n c (length ends) wide in
+    let low : place ≤ 47 = subst Low (sym e) (found-low x ends s.steps s.place (shelf-fit s fits).place) in
+    record { room = within-room n (4 * n) c place refl room.coefficients low; end = omega (arith, low, room.ends) }
 
 pub returns-then-not-room_fits : goal.returns-then-not-room_fits
-returns-then-not-room_fits c = let args = (start c.before).args in
-    ask-narrow args.shelf args.x args.target.now args.coefficients.now args.ends.now
-    (sym c.room_fits.ensures ∙ not-true _ c.if-not-room_fits.true-raw)
+returns-then-not-room_fits c = let a = c.args in
+    ask-narrow a.shelf a.x a.target.now a.coefficients.now a.ends.now
+    (sym c.room_fits.ensures ∙ c.if-not-room_fits.true)
 
 pub returns-then-not-shelf_fits : goal.returns-then-not-shelf_fits
-returns-then-not-shelf_fits c =
-    let wide : room_fits (length (start c.before).args.target.now) (length (start c.before).args.coefficients.now) (length (start c.before).args.ends.now) ≡ true = sym c.room_fits.ensures ∙ not-false _ c.if-not-room_fits.false-raw in
-    let args = (start c.before.before.before).args in
-    ask-unfit args.shelf args.x args.target.now args.coefficients.now args.ends.now
-    wide (sym c.shelf_fits.ensures ∙ not-true _ c.if-not-shelf_fits.true-raw)
+returns-then-not-shelf_fits c = let a = c.args in
+    ask-unfit a.shelf a.x a.target.now a.coefficients.now a.ends.now
+    (sym c.room_fits.ensures ∙ c.if-not-room_fits.false)
+    (sym c.shelf_fits.ensures ∙ c.if-not-shelf_fits.true)
 
 pub find-found-requires : goal.find-found-requires
-find-found-requires c =
-    let wide : room_fits (length (start c.before).args.target.now) (length (start c.before).args.coefficients.now) (length (start c.before).args.ends.now) ≡ true = sym c.room_fits.ensures ∙ not-false _ c.if-not-room_fits.false-raw in
-    let room : Room (length (start c.before).args.target.now) (length (start c.before).args.coefficients.now) (length (start c.before).args.ends.now) = room-fit _ _ _ wide in
-    let fits : shelf_fits (start c.before.before.before).args.shelf ≡ true = sym c.shelf_fits.ensures ∙ not-false _ c.if-not-shelf_fits.false-raw in
-    let fit : Fit (start c.before.before.before).args.shelf = shelf-fit _ fits in
-    (room.ends, fit.place)
+find-found-requires c = (
+  (room-fit _ _ _ (sym c.room_fits.ensures ∙ c.if-not-room_fits.false)).ends,
+  (shelf-fit _ (sym c.shelf_fits.ensures ∙ c.if-not-shelf_fits.false)).place,
+)
 
-pub shape_of-target : goal.shape_of-target
-shape_of-target c =
-    let wide : room_fits (length (start c.before).args.target.now) (length (start c.before).args.coefficients.now) (length (start c.before).args.ends.now) ≡ true = sym c.room_fits.ensures ∙ not-false _ c.if-not-room_fits.false-raw in
-    let at = c.before.before in let known = told at in
-    let args = (start (at-find known).before.before.before.before).args in
-    let place = known.before.found.given.0.0 in
-    let wide = 4 * length args.target.now in
-    ap (λ (o : Interpolation). length o.yi) at.interpolate.ensures
-    ∙ length-kept args.x args.target.now
-    (take (place * wide + wide - place * wide) (drop (place * wide) args.coefficients.now))
-    (args.ends.now ! (2 * place)) (args.ends.now ! (2 * place + 1))
+pub overflow_mul-start-in-At : goal.overflow_mul-start-in-At
+overflow_mul-start-in-At c = let a = c.args in
+    let known = inside (length a.target.now) (length a.coefficients.now) a.shelf a.x a.ends.now c.in-At.place
+    (sym c.room_fits.ensures ∙ c.if-not-room_fits.false) (sym c.shelf_fits.ensures ∙ c.if-not-shelf_fits.false)
+    c.in-At.ensures in
+    omega (arith, known.room)
+
+pub overflow_add-end : goal.overflow_add-end
+overflow_add-end c = let a = c.args in
+    let known = inside (length a.target.now) (length a.coefficients.now) a.shelf a.x a.ends.now c.in-At.place
+    (sym c.room_fits.ensures ∙ c.if-not-room_fits.false) (sym c.shelf_fits.ensures ∙ c.if-not-shelf_fits.false)
+    c.in-At.ensures in
+    omega (arith, known.room)
+
+pub offset_bounds-coefficients-start : goal.offset_bounds-coefficients-start
+offset_bounds-coefficients-start c = let a = c.args in
+    let known = inside (length a.target.now) (length a.coefficients.now) a.shelf a.x a.ends.now c.in-At.place
+    (sym c.room_fits.ensures ∙ c.if-not-room_fits.false) (sym c.shelf_fits.ensures ∙ c.if-not-shelf_fits.false)
+    c.in-At.ensures in
+    omega (arith, known.room)
+
+pub slice_bounds-interpolate-end : goal.slice_bounds-interpolate-end
+slice_bounds-interpolate-end c = let a = c.args in
+    let known = inside (length a.target.now) (length a.coefficients.now) a.shelf a.x a.ends.now c.in-At.place
+    (sym c.room_fits.ensures ∙ c.if-not-room_fits.false) (sym c.shelf_fits.ensures ∙ c.if-not-shelf_fits.false)
+    c.in-At.ensures in
+    omega (arith, known.room)
+
+pub overflow_mul-place : goal.overflow_mul-place
+overflow_mul-place c = let a = c.args in
+    let known = inside (length a.target.now) (length a.coefficients.now) a.shelf a.x a.ends.now c.in-At.place
+    (sym c.room_fits.ensures ∙ c.if-not-room_fits.false) (sym c.shelf_fits.ensures ∙ c.if-not-shelf_fits.false)
+    c.in-At.ensures in
+    omega (arith, known.end)
+
+pub offset_bounds-ends-place : goal.offset_bounds-ends-place
+offset_bounds-ends-place c = let a = c.args in
+    let known = inside (length a.target.now) (length a.coefficients.now) a.shelf a.x a.ends.now c.in-At.place
+    (sym c.room_fits.ensures ∙ c.if-not-room_fits.false) (sym c.shelf_fits.ensures ∙ c.if-not-shelf_fits.false)
+    c.in-At.ensures in
+    omega (arith, known.end)
+
+pub bounds-ends-place : goal.bounds-ends-place
+bounds-ends-place c = let a = c.args in
+    let known = inside (length a.target.now) (length a.coefficients.now) a.shelf a.x a.ends.now c.in-At.place
+    (sym c.room_fits.ensures ∙ c.if-not-room_fits.false) (sym c.shelf_fits.ensures ∙ c.if-not-shelf_fits.false)
+    c.in-At.ensures in
+    omega (arith, known.end)
+
+pub overflow_mul-place-in-At : goal.overflow_mul-place-in-At
+overflow_mul-place-in-At c = let a = c.args in
+    let known = inside (length a.target.now) (length a.coefficients.now) a.shelf a.x a.ends.now c.in-At.place
+    (sym c.room_fits.ensures ∙ c.if-not-room_fits.false) (sym c.shelf_fits.ensures ∙ c.if-not-shelf_fits.false)
+    c.in-At.ensures in
+    omega (arith, known.end)
+
+pub overflow_add-place : goal.overflow_add-place
+overflow_add-place c = let a = c.args in
+    let known = inside (length a.target.now) (length a.coefficients.now) a.shelf a.x a.ends.now c.in-At.place
+    (sym c.room_fits.ensures ∙ c.if-not-room_fits.false) (sym c.shelf_fits.ensures ∙ c.if-not-shelf_fits.false)
+    c.in-At.ensures in
+    omega (arith, known.end)
+
+pub offset_bounds-ends-place-in-At : goal.offset_bounds-ends-place-in-At
+offset_bounds-ends-place-in-At c = let a = c.args in
+    let known = inside (length a.target.now) (length a.coefficients.now) a.shelf a.x a.ends.now c.in-At.place
+    (sym c.room_fits.ensures ∙ c.if-not-room_fits.false) (sym c.shelf_fits.ensures ∙ c.if-not-shelf_fits.false)
+    c.in-At.ensures in
+    omega (arith, known.end)
+
+pub bounds-ends-place-in-At : goal.bounds-ends-place-in-At
+bounds-ends-place-in-At c = let a = c.args in
+    let known = inside (length a.target.now) (length a.coefficients.now) a.shelf a.x a.ends.now c.in-At.place
+    (sym c.room_fits.ensures ∙ c.if-not-room_fits.false) (sym c.shelf_fits.ensures ∙ c.if-not-shelf_fits.false)
+    c.in-At.ensures in
+    omega (arith, known.end)
 
 pub returns-in-At : goal.returns-in-At
-returns-in-At c =
-    let wide : room_fits (length (start c.before).args.target.now) (length (start c.before).args.coefficients.now) (length (start c.before).args.ends.now) ≡ true = sym c.room_fits.ensures ∙ not-false _ c.if-not-room_fits.false-raw in
-    let fits : shelf_fits (start c.before.before.before).args.shelf ≡ true = sym c.shelf_fits.ensures ∙ not-false _ c.if-not-shelf_fits.false-raw in
-    let at = c.before.before in let known = told at in
-    let two = (at-find known).before in
-    let args = (start two.before.before.before).args in
-    let place = known.before.found.given.0.0 in
-    let n = length args.target.now in
+returns-in-At c = let a = c.args in
+    let place = c.in-At.place in
+    let n = length a.target.now in
     let size : place * (4 * n) + 4 * n - place * (4 * n) ≡ 4 * n = omega arith in
-    ask-found args.shelf args.x args.target.now args.coefficients.now args.ends.now
-    wide fits (At place)
-    (sym known.before.found.given.1 ∙ (at-find known).find-found.ensures)
-    (ap (λ (o : Interpolation). asked asking.Answered o.yi) at.interpolate.ensures
-    ∙ ap (λ k. asked asking.Answered (interpolate_of args.x args.target.now
-    (take k (drop (place * (4 * n)) args.coefficients.now)) (args.ends.now ! (2 * place))
-    (args.ends.now ! (2 * place + 1))).yi) size)
+    ask-found a.shelf a.x a.target.now a.coefficients.now a.ends.now
+    (sym c.room_fits.ensures ∙ c.if-not-room_fits.false) (sym c.shelf_fits.ensures ∙ c.if-not-shelf_fits.false)
+    (At place) c.in-At.ensures
+    (ap (λ (o : Interpolation). asked asking.Answered o.yi) c.interpolate.ensures
+    ∙ ap (λ k. asked asking.Answered (interpolate_of a.x a.target.now
+    (take k (drop (place * (4 * n)) a.coefficients.now)) (a.ends.now ! (2 * place))
+    (a.ends.now ! (2 * place + 1))).yi) size)
 
 pub returns-in-Nothing : goal.returns-in-Nothing
-returns-in-Nothing c =
-    let wide : room_fits (length (start c.before).args.target.now) (length (start c.before).args.coefficients.now) (length (start c.before).args.ends.now) ≡ true = sym c.room_fits.ensures ∙ not-false _ c.if-not-room_fits.false-raw in
-    let fits : shelf_fits (start c.before.before.before).args.shelf ≡ true = sym c.shelf_fits.ensures ∙ not-false _ c.if-not-shelf_fits.false-raw in
-    let two = c.before.before.before in let args = (start two.before.before.before).args in
-    ask-found args.shelf args.x args.target.now args.coefficients.now args.ends.now
-    wide fits Nothing (sym c.in-Nothing.is ∙ c.find-found.ensures) refl
+returns-in-Nothing c = let a = c.args in
+    ask-found a.shelf a.x a.target.now a.coefficients.now a.ends.now
+    (sym c.room_fits.ensures ∙ c.if-not-room_fits.false) (sym c.shelf_fits.ensures ∙ c.if-not-shelf_fits.false)
+    Nothing c.in-Nothing.ensures refl

@@ -1,8 +1,7 @@
 -- `find` meets its contract: what is left to look at decides.
 use Prim.Native.Nat.{◌+◌, ◌-◌, ◌*◌, ◌≤◌}
-use mathlib.Core.Path.{◌≡◌, refl, sym, ap, ◌∙◌}
+use mathlib.Core.Path.{refl, sym, ap, ◌∙◌}
 use native.Mathlib.Omega.{arith}
-use borrow.Author.Rules.{rules}
 use Rattle.words.specs.Words.{◌!◌}
 use Rattle.shelf.specs.declared.finding.Found.TheVariants.{At}
 use Rattle.shelf.specs.Shelf.{holds}

@@ -1,14 +1,7 @@
 -- What each loop of `find` keeps.
-use Prim.Native.Nat.{◌+◌, ◌-◌, ◌*◌, ◌≤◌}
-use mathlib.Core.Path.{◌≡◌, refl, sym, ap, ◌∙◌}
-use native.Mathlib.Omega.{arith}
-use borrow.Author.Rules.{rules}
-use Rattle.words.specs.Words.{◌!◌}
-use Rattle.shelf.specs.declared.finding.Found.TheVariants.{At}
-use Rattle.shelf.specs.Shelf.{holds}
+use Prim.Native.Nat.{◌≤◌}
+use mathlib.Core.Path.{◌≡◌}
 use Rattle.shelf.specs.Finding.{found_from}
-use Rattle.shelf.proofs.Ring.{before-low}
-use Rattle.shelf.proofs.FindLaws.{found_none, found_here, found-on}
 use Rattle.shelf.proofs.finding.find.Given as goal
 
 abbrev pub invariant-loop-left : goal.invariant-loop-left

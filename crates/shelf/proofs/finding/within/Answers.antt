@@ -1,5 +1,4 @@
 -- `within` meets its contract.
-use borrow.Author.Rules.{rules}
 use Rattle.shelf.specs.Shelf.{holds}
 use Rattle.shelf.proofs.finding.within.Goals as goal
 

@@ -1,6 +1,5 @@
 -- `place_after` meets its contract.
 use mathlib.Core.Path.{refl}
-use borrow.Author.Rules.{rules}
 use borrow.Author.Tests.{eq-eqb, ne_eqb}
 use Rattle.words.proofs.Branch.{yes, no}
 use Rattle.shelf.specs.Shelf.{place_after}

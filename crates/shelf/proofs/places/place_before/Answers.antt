@@ -1,5 +1,4 @@
 -- `place_before` meets its contract.
-use borrow.Author.Rules.{rules}
 use Rattle.shelf.proofs.Ring.{before-none, before-some}
 use Rattle.shelf.proofs.places.place_before.Goals as goal
 

@@ -1,13 +1,8 @@
 -- What each loop of `copy` keeps.
-use Prim.Native.Nat.{◌+◌, ◌-◌, ◌≤◌}
-use mathlib.Core.Path.{◌≡◌, refl, ap, ◌∙◌}
-use native.Mathlib.Nat.{le_antisymm}
-use native.Mathlib.Numerals.{add-one}
-use native.Mathlib.Omega.{arith}
-use lib.ListN.{length, get_or, set, length-set}
-use lib.Seq.{paste, paste-zero, paste-suc}
-use lib.Ieee.{nan}
-use Rattle.shelf.proofs.Over.{over-paste}
+use Prim.Native.Nat.{◌≤◌}
+use mathlib.Core.Path.{◌≡◌}
+use lib.ListN.{length}
+use lib.Seq.{paste}
 use Rattle.shelf.proofs.placing.copy.Given as goal
 
 abbrev pub invariant-loop-i : goal.invariant-loop-i

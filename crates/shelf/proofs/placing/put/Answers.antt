@@ -1,93 +1,129 @@
 -- `put` meets its contract, way by way.
-use Prim.Native.Nat.{◌+◌, ◌*◌, ◌/◌, ◌≤◌}
-use mathlib.Core.Path.{◌≡◌, refl, sym, ap, ◌∙◌}
+use Prim.Native.Nat.{ℕ, ◌+◌, ◌*◌, ◌/◌, ◌%◌, ◌≤◌}
+use mathlib.Core.Path.{◌≡◌, sym, ◌∙◌}
 use mathlib.Core.Bool.{true}
 use native.Mathlib.Omega.{arith}
 use lib.ListN.{length, length-set}
-use borrow.Author.Rules.{rules}
-use borrow.Author.Tests.{not-true, not-false}
+use Rattle.shelf.specs.declared.answers.Shelf.{Shelf}
 use Rattle.shelf.specs.declared.answers.Placing.TheVariants as placing
 use Rattle.shelf.specs.Shelf.{shelf}
 use Rattle.shelf.specs.Answers.{placed}
-use Rattle.shelf.specs.Refusals.{room_fits, shelf_fits, Room, Fit}
-use Rattle.shelf.proofs.Over.{over-length, over-two}
+use Rattle.shelf.specs.Refusals.{room_fits, shelf_fits}
+use Rattle.shelf.proofs.Over.{over-two}
 use Rattle.shelf.proofs.TestLaws.{room-fit, shelf-fit, within-room}
 use Rattle.shelf.proofs.PutLaws.{put-uneven, put-narrow, put-unfit, put-done}
 use Rattle.shelf.proofs.placing.put.Goals as goal
 
-abbrev start : (c : goal.After-room_fits) → goal.Start
-start c = c.before.before.before.before.before
+-- what the three tests say, of a step with so many coefficients
+record Tested (long c e : ℕ) (s : Shelf) : Type 0 where
+  room : s.place * long + long ≤ c
+  ends : 2 * s.place + 2 ≤ e
+  steps : s.steps ≤ 48
+  place : s.place ≤ 47
 
-abbrev work : (c : goal.After-slice_known-3-1) → goal.Else-not-shelf_fits
-work c = c.before.before.before.before
+tested : (long c e : ℕ) (s : Shelf) → long % 4 ≡ 0 → room_fits (long / 4) c e ≡ true → shelf_fits s ≡ true
+    → Tested long c e s
+tested long c e s even wide fits =
+    let room = room-fit (long / 4) c e wide in
+    let fit = shelf-fit s fits in
+    let place = fit.place in
+    record {
+      room = within-room (long / 4) long c s.place (omega arith) room.coefficients place;
+      ends = omega (arith, room.ends, place);
+      steps = fit.steps;
+      place = place;
+    }
 
 pub returns-then-cont-ne0 : goal.returns-then-cont-ne0
-returns-then-cont-ne0 c = let args = c.args in
-    put-uneven args.shelf args.cont.now args.xold args.h args.coefficients.now args.ends.now
-    c.if-cont-ne0.true
+returns-then-cont-ne0 c = let a = c.args in
+    put-uneven a.shelf a.cont.now a.xold a.h a.coefficients.now a.ends.now c.if-cont-ne0.true
 
 pub returns-then-not-room_fits : goal.returns-then-not-room_fits
-returns-then-not-room_fits c = let args = (start c.before).args in
-    put-narrow args.shelf args.cont.now args.xold args.h args.coefficients.now args.ends.now
-    c.if-cont-ne0.false (sym c.room_fits.ensures ∙ not-true _ c.if-not-room_fits.true-raw)
+returns-then-not-room_fits c = let a = c.args in
+    put-narrow a.shelf a.cont.now a.xold a.h a.coefficients.now a.ends.now
+    c.if-cont-ne0.false (sym c.room_fits.ensures ∙ c.if-not-room_fits.true)
 
 pub returns-then-not-shelf_fits : goal.returns-then-not-shelf_fits
-returns-then-not-shelf_fits c =
-    let wide : room_fits (length (start c.before).args.cont.now / 4) (length (start c.before).args.coefficients.now) (length (start c.before).args.ends.now) ≡ true = sym c.room_fits.ensures ∙ not-false _ c.if-not-room_fits.false-raw in
-    let at = c.before.before in let args = (start at.before).args in
-    put-unfit args.shelf args.cont.now args.xold args.h args.coefficients.now args.ends.now
-    at.if-cont-ne0.false wide (sym c.shelf_fits.ensures ∙ not-true _ c.if-not-shelf_fits.true-raw)
+returns-then-not-shelf_fits c = let a = c.args in
+    put-unfit a.shelf a.cont.now a.xold a.h a.coefficients.now a.ends.now
+    c.if-cont-ne0.false (sym c.room_fits.ensures ∙ c.if-not-room_fits.false)
+    (sym c.shelf_fits.ensures ∙ c.if-not-shelf_fits.true)
 
 pub overflow_mul-place : goal.overflow_mul-place
-overflow_mul-place c =
-    let wide : room_fits (length (start c.before).args.cont.now / 4) (length (start c.before).args.coefficients.now) (length (start c.before).args.ends.now) ≡ true = sym c.room_fits.ensures ∙ not-false _ c.if-not-room_fits.false-raw in
-    let room : Room (length (start c.before).args.cont.now / 4) (length (start c.before).args.coefficients.now) (length (start c.before).args.ends.now) = room-fit _ _ _ wide in
-    let fits : shelf_fits (start c.before.before.before).args.shelf ≡ true = sym c.shelf_fits.ensures ∙ not-false _ c.if-not-shelf_fits.false-raw in
-    let fit : Fit (start c.before.before.before).args.shelf = shelf-fit _ fits in
-    let inside : (start c.before.before.before).args.shelf.place * length (start c.before.before.before).args.cont.now + length (start c.before.before.before).args.cont.now ≤ length (start c.before.before.before).args.coefficients.now = let even = c.if-cont-ne0.false in
-    within-room (length (start c.before.before.before).args.cont.now / 4) _ _ _ (omega arith)
-    room.coefficients fit.place in
-    omega (arith, inside)
+overflow_mul-place c = let a = c.args in
+    let known = tested (length a.cont.now) (length a.coefficients.now) (length a.ends.now) a.shelf c.if-cont-ne0.false
+    (sym c.room_fits.ensures ∙ c.if-not-room_fits.false) (sym c.shelf_fits.ensures ∙ c.if-not-shelf_fits.false) in
+    omega (arith, known.room)
 
 pub copy-requires : goal.copy-requires
-copy-requires c =
-    let wide : room_fits (length (start c.before).args.cont.now / 4) (length (start c.before).args.coefficients.now) (length (start c.before).args.ends.now) ≡ true = sym c.room_fits.ensures ∙ not-false _ c.if-not-room_fits.false-raw in
-    let room : Room (length (start c.before).args.cont.now / 4) (length (start c.before).args.coefficients.now) (length (start c.before).args.ends.now) = room-fit _ _ _ wide in
-    let fits : shelf_fits (start c.before.before.before).args.shelf ≡ true = sym c.shelf_fits.ensures ∙ not-false _ c.if-not-shelf_fits.false-raw in
-    let fit : Fit (start c.before.before.before).args.shelf = shelf-fit _ fits in
-    let inside : (start c.before.before.before).args.shelf.place * length (start c.before.before.before).args.cont.now + length (start c.before.before.before).args.cont.now ≤ length (start c.before.before.before).args.coefficients.now = let even = c.if-cont-ne0.false in
-    within-room (length (start c.before.before.before).args.cont.now / 4) _ _ _ (omega arith)
-    room.coefficients fit.place in
-    inside
+copy-requires c = let a = c.args in
+    let known = tested (length a.cont.now) (length a.coefficients.now) (length a.ends.now) a.shelf c.if-cont-ne0.false
+    (sym c.room_fits.ensures ∙ c.if-not-room_fits.false) (sym c.shelf_fits.ensures ∙ c.if-not-shelf_fits.false) in
+    known.room
 
-pub shape_of-coefficients : goal.shape_of-coefficients
-shape_of-coefficients c =
-    let wide : room_fits (length (start c.before).args.cont.now / 4) (length (start c.before).args.coefficients.now) (length (start c.before).args.ends.now) ≡ true = sym c.room_fits.ensures ∙ not-false _ c.if-not-room_fits.false-raw in
-    let room : Room (length (start c.before).args.cont.now / 4) (length (start c.before).args.coefficients.now) (length (start c.before).args.ends.now) = room-fit _ _ _ wide in
-    let fits : shelf_fits (start c.before.before.before).args.shelf ≡ true = sym c.shelf_fits.ensures ∙ not-false _ c.if-not-shelf_fits.false-raw in
-    let fit : Fit (start c.before.before.before).args.shelf = shelf-fit _ fits in
-    let inside : (start c.before.before.before).args.shelf.place * length (start c.before.before.before).args.cont.now + length (start c.before.before.before).args.cont.now ≤ length (start c.before.before.before).args.coefficients.now = let even = c.if-cont-ne0.false in
-    within-room (length (start c.before.before.before).args.cont.now / 4) _ _ _ (omega arith)
-    room.coefficients fit.place in
-    let at-ends = c.before.before in let at = work at-ends in
-    let args = (start at.before.before.before).args in
-    ap length at-ends.copy.ensures
-    ∙ over-length (args.shelf.place * length args.cont.now) args.cont.now args.coefficients.now
-    inside
+pub overflow_mul-ends : goal.overflow_mul-ends
+overflow_mul-ends c = let a = c.args in
+    let known = tested (length a.cont.now) (length a.coefficients.now) (length a.ends.now) a.shelf c.if-cont-ne0.false
+    (sym c.room_fits.ensures ∙ c.if-not-room_fits.false) (sym c.shelf_fits.ensures ∙ c.if-not-shelf_fits.false) in
+    omega (arith, known.ends)
+
+pub offset_bounds-ends-place : goal.offset_bounds-ends-place
+offset_bounds-ends-place c = let a = c.args in
+    let known = tested (length a.cont.now) (length a.coefficients.now) (length a.ends.now) a.shelf c.if-cont-ne0.false
+    (sym c.room_fits.ensures ∙ c.if-not-room_fits.false) (sym c.shelf_fits.ensures ∙ c.if-not-shelf_fits.false) in
+    omega (arith, known.ends)
+
+pub bounds-ends-place : goal.bounds-ends-place
+bounds-ends-place c = let a = c.args in
+    let known = tested (length a.cont.now) (length a.coefficients.now) (length a.ends.now) a.shelf c.if-cont-ne0.false
+    (sym c.room_fits.ensures ∙ c.if-not-room_fits.false) (sym c.shelf_fits.ensures ∙ c.if-not-shelf_fits.false) in
+    omega (arith, known.ends)
+
+pub overflow_mul-ends-2 : goal.overflow_mul-ends-2
+overflow_mul-ends-2 c = let a = c.args in
+    let known = tested (length a.cont.now) (length a.coefficients.now) (length a.ends.now) a.shelf c.if-cont-ne0.false
+    (sym c.room_fits.ensures ∙ c.if-not-room_fits.false) (sym c.shelf_fits.ensures ∙ c.if-not-shelf_fits.false) in
+    omega (arith, known.ends)
+
+pub overflow_add-ends : goal.overflow_add-ends
+overflow_add-ends c = let a = c.args in
+    let known = tested (length a.cont.now) (length a.coefficients.now) (length a.ends.now) a.shelf c.if-cont-ne0.false
+    (sym c.room_fits.ensures ∙ c.if-not-room_fits.false) (sym c.shelf_fits.ensures ∙ c.if-not-shelf_fits.false) in
+    omega (arith, known.ends)
+
+pub offset_bounds-ends-place-2 : goal.offset_bounds-ends-place-2
+offset_bounds-ends-place-2 c = let a = c.args in
+    let known = tested (length a.cont.now) (length a.coefficients.now) (length a.ends.now) a.shelf c.if-cont-ne0.false
+    (sym c.room_fits.ensures ∙ c.if-not-room_fits.false) (sym c.shelf_fits.ensures ∙ c.if-not-shelf_fits.false) in
+    omega (arith, known.ends)
+
+pub bounds-ends-place-2 : goal.bounds-ends-place-2
+bounds-ends-place-2 c = let a = c.args in
+    let known = tested (length a.cont.now) (length a.coefficients.now) (length a.ends.now) a.shelf c.if-cont-ne0.false
+    (sym c.room_fits.ensures ∙ c.if-not-room_fits.false) (sym c.shelf_fits.ensures ∙ c.if-not-shelf_fits.false) in
+    simp length-set (omega (arith, known.ends))
+
+pub steps_after-requires : goal.steps_after-requires
+steps_after-requires c = let a = c.args in
+    let known = tested (length a.cont.now) (length a.coefficients.now) (length a.ends.now) a.shelf c.if-cont-ne0.false
+    (sym c.room_fits.ensures ∙ c.if-not-room_fits.false) (sym c.shelf_fits.ensures ∙ c.if-not-shelf_fits.false) in
+    known.steps
+
+pub place_after-requires : goal.place_after-requires
+place_after-requires c = let a = c.args in
+    let known = tested (length a.cont.now) (length a.coefficients.now) (length a.ends.now) a.shelf c.if-cont-ne0.false
+    (sym c.room_fits.ensures ∙ c.if-not-room_fits.false) (sym c.shelf_fits.ensures ∙ c.if-not-shelf_fits.false) in
+    known.place
 
 pub returns : goal.returns
-returns c =
-    let wide : room_fits (length (start c.before).args.cont.now / 4) (length (start c.before).args.coefficients.now) (length (start c.before).args.ends.now) ≡ true = sym c.room_fits.ensures ∙ not-false _ c.if-not-room_fits.false-raw in
-    let room : Room (length (start c.before).args.cont.now / 4) (length (start c.before).args.coefficients.now) (length (start c.before).args.ends.now) = room-fit _ _ _ wide in
-    let fits : shelf_fits (start c.before.before.before).args.shelf ≡ true = sym c.shelf_fits.ensures ∙ not-false _ c.if-not-shelf_fits.false-raw in
-    let fit : Fit (start c.before.before.before).args.shelf = shelf-fit _ fits in
-    let ended : 2 * (start (work c).before.before.before).args.shelf.place + 2 ≤ length (start (work c).before.before.before).args.ends.now = omega (arith, (room (work c).before.before).ends, (fit (work c)).place) in
-    let at-ends = c.before.before in let at = work at-ends in
-    let at2 = at.before.before in
-    let args = (start at2.before).args in
-    let first = at-ends.copy.ensures in
-    let second = over-two (2 * args.shelf.place) args.xold args.h args.ends.now ended in
-    put-done args.shelf args.cont.now args.xold args.h args.coefficients.now args.ends.now
-    at2.before.before.if1.left wide fits
+returns c = let a = c.args in
+    let wide = sym c.room_fits.ensures ∙ c.if-not-room_fits.false in
+    let fits = sym c.shelf_fits.ensures ∙ c.if-not-shelf_fits.false in
+    let known = tested (length a.cont.now) (length a.coefficients.now) (length a.ends.now) a.shelf c.if-cont-ne0.false
+    wide fits in
+    let first = c.copy.ensures in
+    let second = over-two (2 * a.shelf.place) a.xold a.h a.ends.now known.ends in
+    put-done a.shelf a.cont.now a.xold a.h a.coefficients.now a.ends.now
+    c.if-cont-ne0.false wide fits
     (λ i. placed (placing.Kept (shelf (c.steps_after.ensures i) (c.place_after.ensures i))) (first i)
     (second i))
