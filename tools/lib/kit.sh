@@ -5,7 +5,8 @@ kit() { (cd "$(dirname "$(rt doc)")" && pwd -P); }
 
 # The kit once more in the folder $1/kit, made of links but for `rt` itself; but its clang compiles each module that it
 # is given once more, as $1/module.o: that of a static library at -O3 with every function inlined, that of `rt try` at
-# -O3 without the sanitizer. So the kit's own commands hand out what they would throw away.
+# -O3 without the sanitizer; the module itself stays as $1/module.bc. So the kit's own commands hand out what they would
+# throw away.
 keeping_kit() {
   local room=$1 kit tools part
   kit=$(kit) tools=$room/kit/toolchain
@@ -24,6 +25,7 @@ case " \$* " in
 *" -x ir "*" -fPIC -O3 "*) set -- "\$@" -mllvm -inline-threshold=100000 ;;
 *) exit 0 ;;
 esac
+cp module.bc "$room/module.bc"
 exec "$kit/toolchain/bin/clang" "\$@" -o "$room/module.o"
 END
   chmod +x "$tools"/bin/*
