@@ -31,6 +31,11 @@ ARCHIVE = '#!/bin/sh\nprintf "rattle logic=stub" >"$1"\n'
 PROGRAMS = ("decay", "totals", "joined", "points")
 
 
+def executable(file, text):
+    file.write_text(text)
+    file.chmod(0o755)
+
+
 class Tree:
     """The tree in a folder."""
 
@@ -51,8 +56,7 @@ class Tree:
     def script(self, name, text):
         file = self.folder / name
         file.parent.mkdir(parents=True, exist_ok=True)
-        file.write_text(text.replace("{tree}", str(self.folder)).replace("{{", "{").replace("}}", "}"))
-        file.chmod(0o755)
+        executable(file, text.replace("{tree}", str(self.folder)).replace("{{", "{").replace("}}", "}"))
 
     def program(self, name, text=PROGRAM):
         """A program of the tree, as `rt run` leaves it in its crate's folder."""
