@@ -31,7 +31,7 @@ def plain(word):
 def bare(word):
     """A goal's old name, with what port.py put before it taken off."""
     word = plain(word)
-    for was, now in (("overflow_", ""), ("element_bounds_", "bounds_"), ("nonzero_", "")):
+    for was, now in (("overflow_", ""), ("slice_bounds_", "part_"), ("element_bounds_", "bounds_"), ("nonzero_", "")):
         if word.startswith(was):
             word = now + word[len(was):]
     return word

@@ -209,7 +209,8 @@ true-append : (o : Opening) (m : Memory) (st : Standing) (g : Progress) (es fs :
     → AllTrue o m (past_events es st) (progress_events es g) fs → AllTrue o m st g (es ++ fs)
 unfolding AllTrue past_events progress_events
 true-append o m st g [] fs s t = t
-true-append o m st g (e ∷ es) fs s t = (s.0, true-append o m _ _ es fs s.1 t)
+true-append o m st g (e ∷ es) fs s t =
+    (s.0, true-append o m (past_event e st) (progress_event e g) es fs s.1 t)
 
 -- ---- the rules
 

@@ -33,5 +33,6 @@ pub record-fields-proof : (x : Float) (ys : List Float)
 unfolding amounts_text text
 record-fields-proof x [] = first_field (number_text x) [] [] (text-plain-proof x) none
 record-fields-proof x (y ∷ ys) =
-    first_field (number_text x) (44 ∷ (number_text y ++ amounts_text ys)) (map number_text (y ∷ ys)) (text-plain-proof x)
+    first_field (number_text x) (44 ∷ (number_text y ++ amounts_text ys)) (map number_text (y ∷ ys))
+    (text-plain-proof x)
     (comma-first (number_text y ++ amounts_text ys) ∙ ap (λ l. [] ∷ l) (record-fields-proof y ys))

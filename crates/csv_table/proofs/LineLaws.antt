@@ -48,7 +48,8 @@ amounts-one [] i h = absurd (let z : ⊥ = omega arith in z)
 amounts-one (y ∷ ys) zero h = append-nil (text "," ++ number_text y)
 amounts-one (y ∷ ys) (suc i) h =
     ap (λ l. text "," ++ number_text y ++ l) (amounts-one ys i (let z : i < length ys = omega arith in z))
-    ∙ sym (append_assoc (text "," ++ number_text y) (amounts_text (take i ys)) (text "," ++ number_text (get_or ys i nan)))
+    ∙ sym (append_assoc (text "," ++ number_text y) (amounts_text (take i ys))
+    (text "," ++ number_text (get_or ys i nan)))
 
 pub amounts-more : (ys : List Float) (i : ℕ) → i < length ys
     → amounts_text (take (i + 1) ys) ≡ amounts_text (take i ys) ++ (text "," ++ number_text (get_or ys i nan))

@@ -44,8 +44,8 @@ unsigned x =
 
 -- the first byte: a 0, where a minus is wanted
 pub zero-signed : Meets unsigned → ⊥
-unfolding ordered_of line_of over amounts_text text sign_text magnitude_text trimmed pointed exponent_text width_of digits
-    byte_of power pick ne of_bits to_bits
+unfolding ordered_of line_of over amounts_text text sign_text magnitude_text trimmed pointed exponent_text width_of
+    digits byte_of power pick ne of_bits to_bits
 zero-signed = shut_out unsigned (double 0x8000_0000_0000_0000) 0 48 45 refl refl (λ e. omega arith)
 
 -- ---- all thirteen digits of a fraction, as Python's float.hex has them
@@ -57,6 +57,6 @@ padded x =
 
 -- of 3, `0x1.8p+1`, the byte behind the 8: a 0, where the `p` is wanted
 pub zeros-dropped : Meets padded → ⊥
-unfolding ordered_of line_of over amounts_text text sign_text magnitude_text trimmed pointed exponent_text width_of digits
-    byte_of power pick ne of_bits to_bits
+unfolding ordered_of line_of over amounts_text text sign_text magnitude_text trimmed pointed exponent_text width_of
+    digits byte_of power pick ne of_bits to_bits
 zeros-dropped = shut_out padded (double 0x4008_0000_0000_0000) 5 48 112 refl refl (λ e. omega arith)

@@ -11,27 +11,33 @@ use Rattle.csv_table.specs.NumberText.{trimmed, pointed, exponent_text, magnitud
 use Rattle.csv_table.specs.Table.{line_end, names_text, header_text, amounts_text, record_text}
 
 pub three : number_text (double 0x4008_0000_0000_0000) ≡ text "0x1.8p+1"
-unfolding text sign_text magnitude_text trimmed pointed exponent_text width_of digits byte_of power pick ne of_bits to_bits
+unfolding text sign_text magnitude_text trimmed pointed exponent_text width_of digits byte_of power pick ne of_bits
+    to_bits
 three = refl
 
 pub one : number_text (double 0x3ff0_0000_0000_0000) ≡ text "0x1p+0"
-unfolding text sign_text magnitude_text trimmed pointed exponent_text width_of digits byte_of power pick ne of_bits to_bits
+unfolding text sign_text magnitude_text trimmed pointed exponent_text width_of digits byte_of power pick ne of_bits
+    to_bits
 one = refl
 
 pub minus-zero : number_text (double 0x8000_0000_0000_0000) ≡ text "-0x0p+0"
-unfolding text sign_text magnitude_text trimmed pointed exponent_text width_of digits byte_of power pick ne of_bits to_bits
+unfolding text sign_text magnitude_text trimmed pointed exponent_text width_of digits byte_of power pick ne of_bits
+    to_bits
 minus-zero = refl
 
 pub smallest-number : number_text (double 1) ≡ text "0x0.0000000000001p-1022"
-unfolding text sign_text magnitude_text trimmed pointed exponent_text width_of digits byte_of power pick ne of_bits to_bits
+unfolding text sign_text magnitude_text trimmed pointed exponent_text width_of digits byte_of power pick ne of_bits
+    to_bits
 smallest-number = refl
 
 pub largest : number_text (double 0x7fef_ffff_ffff_ffff) ≡ text "0x1.fffffffffffffp+1023"
-unfolding text sign_text magnitude_text trimmed pointed exponent_text width_of digits byte_of power pick ne of_bits to_bits
+unfolding text sign_text magnitude_text trimmed pointed exponent_text width_of digits byte_of power pick ne of_bits
+    to_bits
 largest = refl
 
 pub minus-infinity : number_text (inf true) ≡ text "-inf"
-unfolding text sign_text magnitude_text trimmed pointed exponent_text width_of digits byte_of power pick ne of_bits to_bits
+unfolding text sign_text magnitude_text trimmed pointed exponent_text width_of digits byte_of power pick ne of_bits
+    to_bits
 minus-infinity = refl
 
 pub not-a-number : number_text nan ≡ text "nan"

@@ -1,7 +1,8 @@
 -- A hexadecimal number read, in whole numbers: what C's strtod takes a text to stand for. `0x1.8p+1` is the digits 18
 -- in base 16, of which one stands behind the point, times 2 to the power 1. Each finite double is a whole number of
 -- 2^-1074, of which it is told how many the text stands for. And a line of CSV, cut into its fields.
-use Rattle.std.specs.Prelude.{ℕ, ◌+◌, ◌-◌, ◌*◌, ◌^◌, ◌≡◌, Bool, true, false, ◌&&◌, List, [], ◌∷◌, ◌++◌, eqb, leb, Float, length, get_or, take, drop}
+use Rattle.std.specs.Prelude.{ℕ, ◌+◌, ◌-◌, ◌*◌, ◌^◌, ◌≡◌, Bool, true, false, ◌&&◌, List, [], ◌∷◌, ◌++◌, eqb, leb}
+use Rattle.std.specs.Prelude.{Float, length, get_or, take, drop}
 use Rattle.std.specs.Float.Ieee.Exact.{HasValue}
 use Rattle.words.specs.Loop.{pick}
 use Rattle.bits.specs.Digit.{byte0}
@@ -55,9 +56,11 @@ parts_of s ds exponent =
     let fraction = drop (point + 1) ds in
     let sign = get_or exponent 0 0 in
     pick (eqb sign plus_byte)
-    (scaled_of s false (length fraction) (spelled_of 16 0 (take point ds ++ fraction)) (spelled_of 10 0 (drop 1 exponent)))
+    (scaled_of s false (length fraction) (spelled_of 16 0 (take point ds ++ fraction))
+    (spelled_of 10 0 (drop 1 exponent)))
     (pick (eqb sign minus_byte)
-    (scaled_of s true (length fraction) (spelled_of 16 0 (take point ds ++ fraction)) (spelled_of 10 0 (drop 1 exponent)))
+    (scaled_of s true (length fraction) (spelled_of 16 0 (take point ds ++ fraction))
+    (spelled_of 10 0 (drop 1 exponent)))
     unread)
 
 -- behind the sign: `0x`, digits, `p`, the exponent
@@ -65,7 +68,8 @@ unfoldable pub unsigned_of : Bool → List ℕ → Read
 unsigned_of s t =
     let behind = drop 2 t in
     let mark = found_of byte_p behind in
-    pick (eqb (get_or t 0 0) byte0 && eqb (get_or t 1 0) byte_x) (parts_of s (take mark behind) (drop (mark + 1) behind))
+    pick (eqb (get_or t 0 0) byte0 && eqb (get_or t 1 0) byte_x)
+    (parts_of s (take mark behind) (drop (mark + 1) behind))
     unread
 
 unfoldable pub read_of : List ℕ → Read

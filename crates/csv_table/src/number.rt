@@ -2,7 +2,8 @@
 ghost use Rattle.std.specs.Prelude.{◌+◌, ◌≤◌, ◌<◌, ◌≡◌, length};
 ghost use Rattle.sheet.specs.Digits.{power, digits};
 ghost use Rattle.forecast_text.specs.Put.{Put};
-ghost use Rattle.csv_table.specs.NumberText.{trimmed, fraction_text, exponent_text, magnitude_text, sign_text, number_text};
+ghost use Rattle.csv_table.specs.NumberText.{trimmed, fraction_text, exponent_text, magnitude_text, sign_text};
+ghost use Rattle.csv_table.specs.NumberText.{number_text};
 
 use crate::digits::{put_decimal, put_digits, put_text};
 use bits::pattern;

@@ -1,6 +1,6 @@
 -- What is left where a night is told and where totals are joined, one law for each way out.
 use Prim.Native.Nat.{ℕ}
-use mathlib.Core.Path.{◌≡◌, refl, sym, ap, ◌∙◌}
+use mathlib.Core.Path.{◌≡◌}
 use mathlib.Core.List.{List}
 use Rattle.night_totals.specs.declared.totals.Totals.{Totals}
 use Rattle.night_totals.specs.declared.night.Outcome.{Outcome}

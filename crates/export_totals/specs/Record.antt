@@ -21,7 +21,8 @@ totals_words t =
 
 abbrev pub values_words : List ℕ → List ℕ
 values_words v =
-    get_or v 0 0 ∷ get_or v 1 0 ∷ get_or v 2 0 ∷ get_or v 3 0 ∷ get_or v 4 0 ∷ get_or v 5 0 ∷ get_or v 6 0 ∷ get_or v 7 0 ∷ get_or v 8 0
+    get_or v 0 0 ∷ get_or v 1 0 ∷ get_or v 2 0 ∷ get_or v 3 0 ∷ get_or v 4 0 ∷ get_or v 5 0 ∷ get_or v 6 0
+    ∷ get_or v 7 0 ∷ get_or v 8 0
     ∷ get_or v 9 0 ∷ get_or v 10 0 ∷ get_or v 11 0 ∷ get_or v 12 0 ∷ get_or v 13 0 ∷ get_or v 14 0 ∷ get_or v 15 0 ∷ []
 
 abbrev pub line_words : Night → List ℕ
@@ -56,8 +57,10 @@ totals_from w =
 
 abbrev pub values_from : List ℕ → List ℕ
 values_from w =
-    get_or w 21 0 ∷ get_or w 22 0 ∷ get_or w 23 0 ∷ get_or w 24 0 ∷ get_or w 25 0 ∷ get_or w 26 0 ∷ get_or w 27 0 ∷ get_or w 28 0
-    ∷ get_or w 29 0 ∷ get_or w 30 0 ∷ get_or w 31 0 ∷ get_or w 32 0 ∷ get_or w 33 0 ∷ get_or w 34 0 ∷ get_or w 35 0 ∷ get_or w 36 0 ∷ []
+    get_or w 21 0 ∷ get_or w 22 0 ∷ get_or w 23 0 ∷ get_or w 24 0 ∷ get_or w 25 0 ∷ get_or w 26 0 ∷ get_or w 27 0
+    ∷ get_or w 28 0
+    ∷ get_or w 29 0 ∷ get_or w 30 0 ∷ get_or w 31 0 ∷ get_or w 32 0 ∷ get_or w 33 0 ∷ get_or w 34 0 ∷ get_or w 35 0
+    ∷ get_or w 36 0 ∷ []
 
 abbrev pub filling_from : List ℕ → Filling
 filling_from w =

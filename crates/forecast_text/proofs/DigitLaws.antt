@@ -75,7 +75,8 @@ module _ (b : ℕ) (some : 0 < b) where
       let e : suc k - 1 ≡ k = omega arith in
       record {
         fits = rw e ((div-lt_iff_lt-mul some).1 h);
-        is = rw e (sym (ap (λ l. sets m at l) (digits_last k v h) ∙ sets_last (digits b k (v / b)) m at (byte_of (v % b))
+        is = rw e (sym (ap (λ l. sets m at l) (digits_last k v h)
+            ∙ sets_last (digits b k (v / b)) m at (byte_of (v % b))
             ∙ ap (λ n. sets (set m (at + n) (byte_of (v % b))) at (digits b k (v / b))) (length_digits b k (v / b))));
       }
 

@@ -76,15 +76,15 @@ sample_at s =
 -- the first advance is admitted, and asks for a report
 first-asks : (advance_of (sample_at stage.FirstDerivative) reply.Filled sample_memory).core.answer
     ≡ answer.Asked (sample_at stage.FirstReport) (request.Report «0·0» «0·0» false) Nowhere
-unfolding advance_by replied_of called_of passes_of pass_at loop pick verdict_of amounts_fit newton_fit given_fit factors_fit
-    differences_fit asking_at answers_report stray stray_at le of_bits
+unfolding advance_by replied_of called_of passes_of pass_at loop pick verdict_of amounts_fit newton_fit given_fit
+    factors_fit differences_fit asking_at answers_report stray stray_at le of_bits
 first-asks = refl
 
 -- an interrupt at that report is answered by the end, with its status
 interrupt-ends : (advance_of (sample_at stage.FirstReport) reply.Interrupt sample_memory).core.answer
     ≡ answer.Asked (sample_at (stage.Ended status.UserInterrupt)) (request.Ended status.UserInterrupt) Nowhere
-unfolding advance_by replied_of called_of passes_of pass_at loop pick verdict_of amounts_fit newton_fit given_fit factors_fit
-    differences_fit asking_at answers_report stray stray_at le of_bits started_of reported_of
+unfolding advance_by replied_of called_of passes_of pass_at loop pick verdict_of amounts_fit newton_fit given_fit
+    factors_fit differences_fit asking_at answers_report stray stray_at le of_bits started_of reported_of
 interrupt-ends = refl
 
 -- one amount of 1: its first stage's derivative is answered with the second stage's amount in cont
@@ -97,8 +97,8 @@ abbrev is_stored : Memory → Bool
 is_stored m = le «1·0» (m.amounts.cont ! 0)
 
 second-writes : is_stored (advance_of (sample_at stage.Newton1) reply.Filled held_memory).core.memory ≡ true
-unfolding advance_by replied_of called_of passes_of pass_at ask_stage_of stage_sum_at loop pick verdict_of amounts_fit newton_fit
-    given_fit factors_fit differences_fit asking_at answers_report stray stray_at le add mul of_bits
+unfolding advance_by replied_of called_of passes_of pass_at ask_stage_of stage_sum_at loop pick verdict_of amounts_fit
+    newton_fit given_fit factors_fit differences_fit asking_at answers_report stray stray_at le add mul of_bits
 second-writes = refl
 
 not-held : is_stored held_memory ≡ false

@@ -31,7 +31,8 @@ use Rattle.solve_blocks.specs.Advance.{AdvanceOutcome, advance_outcome, advance_
 use Rattle.solve_blocks.specs.Advance.{advance_by, replied_of, called_of}
 use Rattle.solve_blocks.specs.Entries.{mass_at, jac_at}
 use Rattle.solve_blocks.specs.Jacobian.{ask_jacobian_by}
-use Rattle.solve_blocks.specs.Matrices.{failed_of, wished_of, build_at, build_row, built_of, real_tried_of, tried_of, passes_of}
+use Rattle.solve_blocks.specs.Matrices.{failed_of, wished_of, build_at, build_row, built_of, real_tried_of, tried_of}
+use Rattle.solve_blocks.specs.Matrices.{passes_of}
 use Rattle.solve_blocks.specs.Matrices.{pass_at}
 use Rattle.solve_blocks.specs.Report.{is_due, ask_report}
 use Rattle.history.proofs.Refuted.{Solver, Meets, sample_at, sample_memory}
@@ -69,8 +70,8 @@ abbrev pub forgets : Solver
 forgets r p m = let o = (advance_of r p m).core in advance_outcome (forgetting o.answer) o.memory
 
 pub not-forgetting : Meets forgets → ⊥
-unfolding advance_by replied_of called_of passes_of pass_at loop pick verdict_of amounts_fit newton_fit given_fit factors_fit
-    differences_fit asking_at answers_report stray stray_at le of_bits ask_report is_due
+unfolding advance_by replied_of called_of passes_of pass_at loop pick verdict_of amounts_fit newton_fit given_fit
+    factors_fit differences_fit asking_at answers_report stray stray_at le of_bits ask_report is_due
 not-forgetting meets =
     true≢false (sym (ap says_fifth_of (meets (noted stage.Accepted) reply.Filled sample_memory)))
 
@@ -91,8 +92,9 @@ keeps_first r p m =
 
 -- of a mass and a Jacobian of 0 E1 is 0, and has no pivot in column 0
 pub not-keeping-first : Meets keeps_first → ⊥
-unfolding advance_by replied_of called_of passes_of pass_at tried_of real_tried_of failed_of built_of build_row build_at mass_at
-    jac_at lu_decomp_of answered worked single is_zero at put ask_jacobian_by loop pick verdict_of amounts_fit newton_fit
-    given_fit factors_fit differences_fit asking_at answers_report stray stray_at le add sub mul div eq of_bits wished_of
+unfolding advance_by replied_of called_of passes_of pass_at tried_of real_tried_of failed_of built_of build_row build_at
+    mass_at jac_at lu_decomp_of answered worked single is_zero at put ask_jacobian_by loop pick verdict_of amounts_fit
+    newton_fit given_fit factors_fit differences_fit asking_at answers_report stray stray_at le add sub mul div eq
+    of_bits wished_of
 not-keeping-first meets =
     true≢false (ap says_fifth_of (meets (noted stage.Jacobian) reply.Filled sample_memory))

@@ -16,7 +16,8 @@ use Rattle.solve_blocks.specs.declared.step.Step.{Step}
 use Rattle.solve_blocks.specs.declared.step.Step.TheVariants as step
 use Rattle.solve_blocks.specs.declared.step.Round.{Round}
 use Rattle.solve_blocks.specs.declared.step.Round.TheVariants as round
-use Rattle.solve_blocks.specs.Setters.{◌▸◌, in_control, set_singular, set_last, set_reject, set_call_jac, set_call_decomp}
+use Rattle.solve_blocks.specs.Setters.{◌▸◌, in_control, set_singular, set_last, set_reject, set_call_jac}
+use Rattle.solve_blocks.specs.Setters.{set_call_decomp}
 use Rattle.solve_blocks.specs.Matrices.{ended_of, wished_of, missed_of, failed_of}
 use Rattle.solve_blocks.specs.Newton.{slow_round}
 use Rattle.solve_blocks.specs.Report.{is_due}

@@ -64,9 +64,10 @@ abbrev pub keeps_first_stride : Solver
 keeps_first_stride = noting (λ (before after : Run). first before.notes.strides after.notes.strides)
 
 pub not-keeping-first-stride : Meets keeps_first_stride → ⊥
-unfolding advance_by replied_of called_of passes_of pass_at refined_of judged_of accepted_of with_stride abs_of min_of max_of
-    error_of error_at sum_at solved_first lin_solve_of solved divided at sqrt_of loop pick verdict_of amounts_fit newton_fit
-    given_fit factors_fit differences_fit asking_at answers_report stray stray_at is_nan le lt add mul div of_int of_bits
+unfolding advance_by replied_of called_of passes_of pass_at refined_of judged_of accepted_of with_stride abs_of min_of
+    max_of error_of error_at sum_at solved_first lin_solve_of solved divided at sqrt_of loop pick verdict_of amounts_fit
+    newton_fit given_fit factors_fit differences_fit asking_at answers_report stray stray_at is_nan le lt add mul div
+    of_int of_bits
 not-keeping-first-stride meets =
     true≢false
     (sym (ap says_short_of (meets (striding (strides.Between «2·0» «2·0»)) reply.Filled sample_memory)))
@@ -82,7 +83,8 @@ abbrev pub takes_later : Solver
 takes_later = noting later
 
 pub not-taking-later : Meets takes_later → ⊥
-unfolding advance_by replied_of called_of passes_of pass_at refined_of judged_of accepted_of with_stride abs_of min_of max_of
-    error_of error_at sum_at solved_first lin_solve_of solved divided at sqrt_of loop pick verdict_of amounts_fit newton_fit
-    given_fit factors_fit differences_fit asking_at answers_report stray stray_at is_nan le lt add mul div of_int of_bits
+unfolding advance_by replied_of called_of passes_of pass_at refined_of judged_of accepted_of with_stride abs_of min_of
+    max_of error_of error_at sum_at solved_first lin_solve_of solved divided at sqrt_of loop pick verdict_of amounts_fit
+    newton_fit given_fit factors_fit differences_fit asking_at answers_report stray stray_at is_nan le lt add mul div
+    of_int of_bits
 not-taking-later meets = true≢false (sym (ap says_short_of (meets (striding strides.None) reply.Filled sample_memory)))

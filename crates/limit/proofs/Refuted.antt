@@ -82,7 +82,7 @@ use Rattle.limit.specs.Limit.{run_with, point_with, opening_with, Raises, Unmove
 abbrev does : Request → Place → Memory → Action
 does (request.Derivative x) p m = record { reply = reply.Filled; part = part_at p m; amounts = [] }
 does (request.Jacobian x) p m = record { reply = reply.Filled; part = m.given.jac; amounts = [] }
-does (request.Report xold x offered) p m = record { reply = reply.Continue; part = []; amounts = m.amounts.y }
+does (request.Report xold x _) p m = record { reply = reply.Continue; part = []; amounts = m.amounts.y }
 does (request.Ended s) p m = record { reply = reply.Filled; part = []; amounts = [] }
 
 abbrev host : Host
@@ -92,7 +92,7 @@ does-fair : (r : Run) (q : Request) (p : Place) (m : Memory) → is_end q ≡ fa
 unfolding is_end of_kind SameLength
 does-fair r (request.Derivative x) p m e = record { kind = refl; kept = refl }
 does-fair r (request.Jacobian x) p m e = record { kind = refl; kept = refl }
-does-fair r (request.Report xold x offered) p m e = record { kind = refl; kept = refl }
+does-fair r (request.Report xold x _) p m e = record { kind = refl; kept = refl }
 does-fair r (request.Ended s) p m e = absurd (true≢false e)
 
 fair : (start : Point) → FairTalk host start
@@ -189,7 +189,7 @@ module _ (M k : ℕ) (s : Status) (c : Course M k s) where
             end.exchanges) c.ended
             ∙ ap (λ (p : Place). talk (point end.point.run (request.Ended s) p end.point.memory)
             end.exchanges) c.place;
-        before = λ j l. going k (talk (start_of M) []) c.goes_on j (omega (arith, l, c.many));
+        before = λ j l. going k (talk (start_of M) []) c.goes-on j (omega (arith, l, c.many));
       }
 
   -- it has no other end, so none after another number of advances

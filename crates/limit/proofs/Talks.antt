@@ -43,7 +43,7 @@ not-over : (q : Request) → is_end q ≡ false → ends_over q ≡ false
 unfolding is_end ends_over
 not-over (request.Derivative x) e = refl
 not-over (request.Jacobian x) e = refl
-not-over (request.Report xold x offered) e = refl
+not-over (request.Report xold x _) e = refl
 not-over (request.Ended s) e = absurd (true≢false e)
 
 abbrev talk_with : ℕ → Talk → Talk

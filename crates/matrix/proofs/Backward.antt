@@ -119,7 +119,8 @@ module _ {A B E : Type 0} (side : Side A B) (entries : Entries A B E)
       (columns-then-rows d (omega arith) s ∙ ap (λ (m : ℕ). loop (parts d) 0 m (loop row_at 1 (1 + d) s)) e
       ∙ loop-more (parts d) 0 (n - (1 + d)) (loop row_at 1 (1 + d) s) (omega arith))
       ∙ ap (loop (take (n - (1 + d))) 0 (n - (1 + d)))
-      (past (parts d) (row_at (1 + d)) 0 (n - (1 + d)) (omega arith) (λ i l₁ l₂ t. row-past-parts d i (omega arith) l₂ t)
+      (past (parts d) (row_at (1 + d)) 0 (n - (1 + d)) (omega arith) (λ i l₁ l₂ t. row-past-parts d i (omega arith) l₂
+      t)
       (loop row_at 1 (1 + d) s))
       ∙ parts_more d (omega arith) (row_at (1 + d) (loop row_at 1 (1 + d) s))
       ∙ ap (loop (parts (suc d)) 0 (n - (1 + d))) (sym (more row_at 1 s d))

@@ -45,13 +45,14 @@ minus_none = fin true 0 (pos 0)
 -- ---- decompositions
 
 -- 1,i;i,1: the pivots are of one size, so the first row stays, and the multiplier i has no real part
-pub imaginary : lu_decomp_complex_of 2 (parts (one ∷ none ∷ none ∷ one ∷ []) (none ∷ one ∷ one ∷ none ∷ [])) (7 ∷ 7 ∷ [])
+pub imaginary : lu_decomp_complex_of 2 (parts (one ∷ none ∷ none ∷ one ∷ []) (none ∷ one ∷ one ∷ none ∷ []))
+    (7 ∷ 7 ∷ [])
     ≡ decomposition decomposed.Done
     (parts (one ∷ none ∷ minus_none ∷ two ∷ []) (none ∷ one ∷ minus_one ∷ none ∷ [])) (0 ∷ 7 ∷ [])
-unfolding loop pick at put abs_of at_complex put_complex size_complex negated_complex plus_complex times_complex square_complex
-    reciprocal_complex better_at pivot_row swapped scaled_at column_at eliminated pass_with passed pass_at last_tested single
-    worked answered added_complex real_at imaginary_at general_at updated_complex multiplier_complex is_zero_complex
-    lu_decomp_complex_of add sub mul div neg lt eq ne of_bits
+unfolding loop pick at put abs_of at_complex put_complex size_complex negated_complex plus_complex times_complex
+    square_complex reciprocal_complex better_at pivot_row swapped scaled_at column_at eliminated pass_with passed
+    pass_at last_tested single worked answered added_complex real_at imaginary_at general_at updated_complex
+    multiplier_complex is_zero_complex lu_decomp_complex_of add sub mul div neg lt eq ne of_bits
 imaginary = refl
 
 pub too_large : lu_decomp_of 33 [] [] ≡ decomposition decomposed.RefusedOrder [] []

@@ -189,7 +189,8 @@ not-always-first meets = true≢false (sym (stops-in-second (λ (k : ℕ). 0) me
 -- ---- the imaginary-only product with its real part's sign left out (lu.rs:282)
 
 abbrev added_imaginary_at : ℕ → ℕ → ℕ → Float → ℕ → Parts → Parts
-added_imaginary_at n k j mi i a = added_complex n i j a (complex ((at_complex a n i k).im ⊗ mi) ((at_complex a n i k).re ⊗ mi))
+added_imaginary_at n k j mi i a = added_complex n i j a
+    (complex ((at_complex a n i k).im ⊗ mi) ((at_complex a n i k).re ⊗ mi))
 
 abbrev imaginary_sign_updated : ℕ → ℕ → ℕ → Complex → Parts → Parts
 imaginary_sign_updated n k j t a =
@@ -216,10 +217,10 @@ imaginary_sign n a ip = answered imaginary_sign_kind n (worked imaginary_sign_ki
 
 -- 1,i;i,1 leaves 2 in the last place, and isn't singular
 pub not-imaginary-sign : MeetsComplex imaginary_sign → ⊥
-unfolding loop pick at put abs_of at_complex put_complex size_complex negated_complex plus_complex times_complex square_complex
-    reciprocal_complex better_at pivot_row swapped scaled_at column_at eliminated pass_with passed pass_at last_tested single
-    worked answered added_complex real_at imaginary_at general_at updated_complex multiplier_complex is_zero_complex
-    lu_decomp_complex_of add sub mul div neg lt eq ne of_bits
+unfolding loop pick at put abs_of at_complex put_complex size_complex negated_complex plus_complex times_complex
+    square_complex reciprocal_complex better_at pivot_row swapped scaled_at column_at eliminated pass_with passed
+    pass_at last_tested single worked answered added_complex real_at imaginary_at general_at updated_complex
+    multiplier_complex is_zero_complex lu_decomp_complex_of add sub mul div neg lt eq ne of_bits
 not-imaginary-sign meets =
     true≢false
     (sym (ap is_done (meets 2 (parts (one ∷ none ∷ none ∷ one ∷ []) (none ∷ one ∷ one ∷ none ∷ [])) (7 ∷ 7 ∷ []))))
@@ -237,7 +238,7 @@ first_is_one s = eq (s.b ! 0) one
 
 -- of two rows there is no third to change places with
 pub not-tested-late : MeetsSolve tested_late → ⊥
-unfolding loop pick at stray_at stray exchanged forward_at back_at substituted solved divided add_at forward take_at back
-    lin_solve_of add mul div neg eq
+unfolding loop pick at stray_at stray exchanged forward_at back_at substituted solved divided add_at forward take_at
+    back lin_solve_of add mul div neg eq
 not-tested-late meets =
     true≢false (sym (ap first_is_one (meets 2 (one ∷ none ∷ none ∷ one ∷ []) (one ∷ one ∷ []) (2 ∷ 0 ∷ []))))

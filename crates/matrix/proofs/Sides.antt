@@ -118,7 +118,8 @@ divides-complex a n k b = refl
 takes-complex : (a : Parts) (n k : ℕ) (b : Parts) → back_complex a n k b ≡ loop (taken_at complex_entries a n k) 0 k b
 unfolding back_complex add_complex_at taken_at
 takes-complex a n k b =
-    alike (λ (s : Parts). entry_complex s k ≡ entry_complex b k) (add_complex_at a n k (negated_complex (entry_complex b k)))
+    alike (λ (s : Parts). entry_complex s k ≡ entry_complex b k)
+    (add_complex_at a n k (negated_complex (entry_complex b k)))
     (taken_at complex_entries a n k) 0 k (omega arith) (λ i l₁ l₂ s q. other-complex s i k _ (λ e. omega arith) ∙ q)
     (λ i l₁ l₂ s q. ap
     (λ (z : Complex).

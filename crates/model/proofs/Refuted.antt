@@ -82,7 +82,8 @@ products_first =
 pub products-first : Meets products_first → ⊥
 unfolding derivative_of zeros times_amount speed_of lessened raised reacted pick add sub mul of_bits to_bits
 products-first =
-    shut_out products_first (double one ∷ []) (reaction (double one) 0 0 1 0 ∷ reaction (double large) 1 0 1 0 ∷ []) [] 0
+    shut_out products_first (double one ∷ [])
+    (reaction (double one) 0 0 1 0 ∷ reaction (double large) 1 0 1 0 ∷ []) [] 0
     one refl refl (λ e. omega arith)
 
 -- ---- the first product is added before the second reactant is subtracted: the same with the

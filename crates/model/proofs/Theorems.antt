@@ -15,7 +15,8 @@ module _ (reactions : ℕ) (y rates : List Float) (species : List ℕ) (dy : Lis
   -- Where lengths and species fit, as they do for every sheet that was read, nothing is refused.
   pub accepted : Fit reactions (length y) (length rates) (length species) (length dy)
       → ((k : ℕ) → k < 4 * reactions → get_or species k 0 ≤ length y)
-      → derived_of reactions y rates species dy ≡ derivation Done (derivative_of y (reactions_of rates species reactions))
+      → derived_of reactions y rates species dy
+      ≡ derivation Done (derivative_of y (reactions_of rates species reactions))
   accepted = accepted-proof reactions y rates species dy
 
   -- What isn't done wrote nothing.

@@ -1,6 +1,7 @@
 -- The model as it lies in lent memory, and what `derivative` answers and leaves: the refusals that this port adds, then
 -- the derivative of Model.antt.
-use Rattle.std.specs.Prelude.{ℕ, zero, suc, ◌+◌, ◌*◌, ◌/◌, Bool, false, ◌&&◌, ◌||◌, List, [], ◌∷◌, ◌++◌, eqb, leb, ltb, length, get_or, Float}
+use Rattle.std.specs.Prelude.{ℕ, zero, suc, ◌+◌, ◌*◌, ◌/◌, Bool, false, ◌&&◌, ◌||◌, List, [], ◌∷◌, ◌++◌, eqb, leb, ltb}
+use Rattle.std.specs.Prelude.{length, get_or, Float}
 use Rattle.words.specs.Words.{◌!◌}
 use Rattle.words.specs.Loop.{loop, pick}
 use Rattle.model.specs.declared.answers.Derived.TheVariants.{Done, RefusedLength, RefusedSpecies}

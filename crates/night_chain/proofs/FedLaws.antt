@@ -1,5 +1,6 @@
 -- Bytes taken one after the other: the borders of the pieces don't show.
-use Rattle.std.proofs.Common.{◌≡◌, ℕ, ◌+◌, ◌<◌, ◌≤◌, List, [], ◌∷◌, ◌++◌, length, get_or, drop, refl, ap, drop_of_length-le}
+use Rattle.std.proofs.Common.{◌≡◌, ℕ, ◌+◌, ◌<◌, ◌≤◌, List, [], ◌∷◌, ◌++◌, length, get_or, drop, refl, ap}
+use Rattle.std.proofs.Common.{drop_of_length-le}
 use Rattle.sheet.proofs.DigitsLaws.{drop_more}
 use Rattle.night_chain.specs.Chain.{step_of, fed_of}
 use Rattle.night_chain.specs.declared.chain.Chain.{Chain}

@@ -1,5 +1,6 @@
 -- Numbers that are read have at most sixteen digits.
-use Rattle.std.proofs.Common.{ℕ, zero, suc, ◌-◌, ◌<◌, ◌≤◌, Bool, eqb, ltb, leb, List, [], ◌∷◌, length, get_or, set, replicate, arith, ltb-false, leb-false}
+use Rattle.std.proofs.Common.{ℕ, zero, suc, ◌-◌, ◌<◌, ◌≤◌, Bool, eqb, ltb, leb, List, [], ◌∷◌, length, get_or, set}
+use Rattle.std.proofs.Common.{replicate, arith, ltb-false, leb-false}
 use Rattle.words.proofs.Branch.{pick_all}
 use Rattle.night_totals.specs.Filling.{blank_of, spoilt_of, numbered_at, onward, valued_of, kept}
 use Rattle.night_totals.specs.Filling.{passed_of, digit_of, stored_of, behind_of, number_of, filled_of}

@@ -1,5 +1,6 @@
 -- What is printed of totals: its fourteen lines, and its numbers found again.
-use Rattle.std.proofs.Common.{◌≡◌, ℕ, zero, suc, ◌+◌, ◌/◌, ◌%◌, ◌≤◌, true, false, eqb, ltb, List, [], ◌∷◌, ◌++◌, length, get_or, sym, refl, ap, ◌∙◌, append_assoc, append-nil, arith, ne_eqb, eqb-true}
+use Rattle.std.proofs.Common.{◌≡◌, ℕ, zero, suc, ◌+◌, ◌/◌, ◌%◌, ◌≤◌, true, false, eqb, ltb, List, [], ◌∷◌, ◌++◌, length}
+use Rattle.std.proofs.Common.{get_or, sym, refl, ap, ◌∙◌, append_assoc, append-nil, arith, ne_eqb, eqb-true}
 use Rattle.words.specs.Loop.{pick}
 use Rattle.words.proofs.Branch.{pick_no, pick_all}
 use Rattle.sheet.specs.Digits.{byte_of, power, digits}
@@ -118,7 +119,8 @@ rests-same t u p q e = sym (printed-rest t p) ∙ ap (λ s. behind s 14) e ∙ p
 -- ---- the numbers of printed totals
 
 abbrev pub come_of : Totals → Filling
-come_of t = state_at totals_form (slots_in totals_form) (set_in totals_form 0 (blank_of false).values (totals_numbers t))
+come_of t =
+    state_at totals_form (slots_in totals_form) (set_in totals_form 0 (blank_of false).values (totals_numbers t))
 
 pub printed-filled : (t : Totals) → Short t → fill_of totals_form (blank_of false) (printed t) ≡ come_of t
 printed-filled t h =

@@ -1,5 +1,6 @@
 -- Bytes put into memory from its start.
-use Rattle.std.proofs.Common.{◌≡◌, ℕ, suc, ◌+◌, ◌<◌, ◌≤◌, List, length, get_or, drop, set, sym, ap, ◌∙◌, arith, drop_of_length-le}
+use Rattle.std.proofs.Common.{◌≡◌, ℕ, suc, ◌+◌, ◌<◌, ◌≤◌, List, length, get_or, drop, set, sym, ap, ◌∙◌, arith}
+use Rattle.std.proofs.Common.{drop_of_length-le}
 use lib.Seq.{sets}
 use Rattle.sheet.specs.Reader.{over}
 use Rattle.sheet.proofs.DigitsLaws.{drop_more}

@@ -1,5 +1,7 @@
 -- Bytes that begin totals: what they say of the lines that came, and of those that can still come.
-use Rattle.std.proofs.Common.{◌≡◌, ℕ, zero, suc, ◌+◌, ◌<◌, ◌≤◌, true, false, eqb, List, [], ◌∷◌, ◌++◌, length, take, drop, sym, refl, ap, ◌∙◌, true≢false, append_assoc, append-nil, arith, take-append-drop, take_all}
+use Rattle.std.proofs.Common.{◌≡◌, ℕ, zero, suc, ◌+◌, ◌<◌, ◌≤◌, true, false, eqb, List, [], ◌∷◌, ◌++◌, length, take}
+use Rattle.std.proofs.Common.{drop, sym, refl, ap, ◌∙◌, true≢false, append_assoc, append-nil, arith, take-append-drop}
+use Rattle.std.proofs.Common.{take_all}
 use borrow.Author.Tests.{eqb-false}
 use Rattle.words.specs.Loop.{pick}
 use Rattle.words.proofs.Branch.{pick_yes, pick_no, pick_all}
@@ -41,7 +43,8 @@ run-blank = record {
   is = blank-past totals_form;
 }
 
-module _ (come : List ℕ) (q : Filling) (b : ℕ) (x : Run come q) (right : (filled_of totals_form q b).wrong ≡ false) where
+module _ (come : List ℕ) (q : Filling) (b : ℕ) (x : Run come q)
+    (right : (filled_of totals_form q b).wrong ≡ false) where
   abbrev r : Filling
   r = filled_of totals_form q b
 

@@ -1,5 +1,7 @@
 -- What is told of a text is what it comes to, and nothing else is.
-use Rattle.std.proofs.Common.{◌≡◌, ℕ, suc, ◌+◌, ◌*◌, ◌%◌, ◌^◌, ◌<◌, ◌≤◌, true, false, eqb, ltb, ◌↔◌, List, [], ◌∷◌, ◌++◌, length, sym, refl, ap, ◌∙◌, append_assoc, append-nil, arith, ltb-false, ltb-true, eqb-true}
+use Rattle.std.proofs.Common.{◌≡◌, ℕ, suc, ◌+◌, ◌*◌, ◌%◌, ◌^◌, ◌<◌, ◌≤◌, true, false, eqb, ltb, ◌↔◌, List, [], ◌∷◌}
+use Rattle.std.proofs.Common.{◌++◌, length, sym, refl, ap, ◌∙◌, append_assoc, append-nil, arith, ltb-false, ltb-true}
+use Rattle.std.proofs.Common.{eqb-true}
 use native.Mathlib.Nat.{mod-add-mod}
 use Rattle.words.proofs.Branch.{pick_yes, pick_no}
 use Rattle.night_totals.specs.Filling.{spoilt_of}

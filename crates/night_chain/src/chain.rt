@@ -1,7 +1,8 @@
 // Printed totals, taken in pieces of any size: a record goes in by value, and the next comes back.
 ghost use Rattle.std.specs.Prelude.{◌≡◌};
 ghost use Rattle.night_join.specs.Join.{then_join};
-ghost use Rattle.night_chain.specs.Chain.{chain_at, start_of, lines_of, totals_from, taken_of, step_of, fed_of, told_of};
+ghost use Rattle.night_chain.specs.Chain.{chain_at, start_of, lines_of, totals_from, taken_of, step_of, fed_of};
+ghost use Rattle.night_chain.specs.Chain.{told_of};
 
 use night_join::join;
 use night_join::joining::Joining;

@@ -1,5 +1,6 @@
 -- 28 is given exactly where a side fails a test of 02's list, and 26 exactly where there are too many lines then.
-use Rattle.std.proofs.Common.{◌≡◌, ℕ, ◌+◌, ◌*◌, ◌<◌, ◌≤◌, false, eqb, ltb, ◌⊎◌, ◌↔◌, sym, ◌∙◌, inl, inr, true≢false, arith, ltb-false, ltb-true, lt-ltb, eqb-true}
+use Rattle.std.proofs.Common.{◌≡◌, ℕ, ◌+◌, ◌*◌, ◌<◌, ◌≤◌, false, eqb, ltb, ◌⊎◌, ◌↔◌, sym, ◌∙◌, inl, inr, true≢false}
+use Rattle.std.proofs.Common.{arith, ltb-false, ltb-true, lt-ltb, eqb-true}
 use borrow.Author.Tests.{eqb-false}
 use Rattle.night_totals.specs.declared.totals.Totals.{Totals}
 use Rattle.night_totals.proofs.FormLaws.{split}

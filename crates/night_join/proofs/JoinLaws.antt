@@ -1,5 +1,6 @@
 -- What fit totals have, and the laws of joining them.
-use Rattle.std.proofs.Common.{◌≡◌, ℕ, ◌+◌, ◌*◌, ◌^◌, ◌<◌, ◌≤◌, max, Bool, true, false, eqb, ltb, sym, ap, ◌∙◌, mod-eq_of_lt, arith, ltb-false, le-ltb, eq-eqb, eqb-true, le-leb, leb-true}
+use Rattle.std.proofs.Common.{◌≡◌, ℕ, ◌+◌, ◌*◌, ◌^◌, ◌<◌, ◌≤◌, max, Bool, true, false, eqb, ltb, sym, ap, ◌∙◌}
+use Rattle.std.proofs.Common.{mod-eq_of_lt, arith, ltb-false, le-ltb, eq-eqb, eqb-true, le-leb, leb-true}
 use mathlib.Core.Bool.{false≢true}
 use borrow.Author.Tests.{eqb-false}
 use Rattle.words.specs.Loop.{pick}

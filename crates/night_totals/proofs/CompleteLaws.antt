@@ -1,5 +1,8 @@
 -- A text of a form is taken to its end, and its numbers are found.
-use Rattle.std.proofs.Common.{◌≡◌, ℕ, zero, suc, ◌+◌, ◌-◌, ◌*◌, ◌/◌, ◌%◌, ◌^◌, ◌<◌, ◌≤◌, Bool, true, false, eqb, ltb, List, [], ◌∷◌, ◌++◌, length, get_or, set, sym, refl, ap, ◌∙◌, append_assoc, append-nil, mod-lt, mod-eq_of_lt, div-add-mod', arith, length-append, ltb-false, ltb-true, le-ltb, lt-ltb, eq-eqb, ne_eqb, eqb-true}
+use Rattle.std.proofs.Common.{◌≡◌, ℕ, zero, suc, ◌+◌, ◌-◌, ◌*◌, ◌/◌, ◌%◌, ◌^◌, ◌<◌, ◌≤◌, Bool, true, false, eqb, ltb}
+use Rattle.std.proofs.Common.{List, [], ◌∷◌, ◌++◌, length, get_or, set, sym, refl, ap, ◌∙◌, append_assoc, append-nil}
+use Rattle.std.proofs.Common.{mod-lt, mod-eq_of_lt, div-add-mod', arith, length-append, ltb-false, ltb-true, le-ltb}
+use Rattle.std.proofs.Common.{lt-ltb, eq-eqb, ne_eqb, eqb-true}
 use mathlib.Core.Bool.{false≢true}
 use borrow.Author.Tests.{lt-leb}
 use lib.Seq.{get_or-append_seam}
@@ -137,7 +140,8 @@ module _ (ws : List ℕ) (few : (k : ℕ) → get_or ws k 0 < 10000000000000000)
   abbrev Goal : Bool → List ℕ → Type 0
   Goal false f =
       (done vs : List ℕ) (k : ℕ) → proper_from false f ≡ true → k + slots_in f ≤ 16 → length (done ++ f) < 2 ^ 32
-      → fill_of (done ++ f) (state_at done k vs) (spelt f k ws) ≡ state_at (done ++ f) (k + slots_in f) (set_in f k vs ws)
+      → fill_of (done ++ f) (state_at done k vs) (spelt f k ws)
+      ≡ state_at (done ++ f) (k + slots_in f) (set_in f k vs ws)
   Goal true f =
       (done vs : List ℕ) (k : ℕ) → proper_from true f ≡ true → suc k + slots_in f ≤ 16
       → length (done ++ (35 ∷ f)) < 2 ^ 32

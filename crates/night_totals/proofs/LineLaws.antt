@@ -1,5 +1,7 @@
 -- A fit line is taken whole, and added.
-use Rattle.std.proofs.Common.{◌≡◌, ℕ, zero, suc, ◌+◌, ◌<◌, ◌≤◌, true, false, eqb, leb, List, [], ◌∷◌, ◌++◌, length, get_or, sym, refl, ap, ◌∙◌, true≢false, append_assoc, append-nil, arith, length-append, le-ltb, eq-eqb, eqb-true, le-leb}
+use Rattle.std.proofs.Common.{◌≡◌, ℕ, zero, suc, ◌+◌, ◌<◌, ◌≤◌, true, false, eqb, leb, List, [], ◌∷◌, ◌++◌, length}
+use Rattle.std.proofs.Common.{get_or, sym, refl, ap, ◌∙◌, true≢false, append_assoc, append-nil, arith, length-append}
+use Rattle.std.proofs.Common.{le-ltb, eq-eqb, eqb-true, le-leb}
 use borrow.Author.Tests.{lt-leb, eqb-false}
 use Rattle.words.specs.Loop.{pick}
 use Rattle.words.proofs.Branch.{pick_yes, pick_no, pick_all}

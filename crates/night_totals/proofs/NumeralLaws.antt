@@ -1,6 +1,8 @@
 -- Numerals digit by digit, the last one last: a number below ten has one digit, and v * 10 + d has those of v and
 -- then d.
-use Rattle.std.proofs.Common.{◌≡◌, ℕ, zero, suc, ◌+◌, ◌*◌, ◌/◌, ◌%◌, ◌^◌, ◌<◌, ◌≤◌, ltb, [], ◌∷◌, ◌++◌, sym, refl, ap, ◌∙◌, mul-le-mul_right, mod-lt, mod-eq_of_lt, mul_comm, div-add-mod', div-one, add-one, arith, le-ltb, lt-ltb}
+use Rattle.std.proofs.Common.{◌≡◌, ℕ, zero, suc, ◌+◌, ◌*◌, ◌/◌, ◌%◌, ◌^◌, ◌<◌, ◌≤◌, ltb, [], ◌∷◌, ◌++◌, sym, refl, ap}
+use Rattle.std.proofs.Common.{◌∙◌, mul-le-mul_right, mod-lt, mod-eq_of_lt, mul_comm, div-add-mod', div-one, add-one}
+use Rattle.std.proofs.Common.{arith, le-ltb, lt-ltb}
 use native.Mathlib.Nat.{div-eq_of_lt, div-div-eq-div-mul}
 use native.Mathlib.Nat.{mul-add-div_right, mul-add-mod_self_right}
 use Rattle.words.specs.Loop.{pick}

@@ -1,5 +1,6 @@
 -- What follows of what a text comes to.
-use Rattle.std.proofs.Common.{◌≡◌, ℕ, ◌+◌, ◌*◌, ◌≤◌, true, List, [], ◌∷◌, length, sym, refl, ◌∙◌, append_assoc, append-nil, arith, le-leb}
+use Rattle.std.proofs.Common.{◌≡◌, ℕ, ◌+◌, ◌*◌, ◌≤◌, true, List, [], ◌∷◌, length, sym, refl, ◌∙◌, append_assoc}
+use Rattle.std.proofs.Common.{append-nil, arith, le-leb}
 use Rattle.words.specs.Loop.{pick}
 use Rattle.words.proofs.Branch.{pick_yes}
 use Rattle.state.specs.declared.talk.IntegrationResult.{IntegrationResult}

@@ -1,5 +1,8 @@
 -- What has come of a form can be read off the record: `past` is the text that was taken since the form began.
-use Rattle.std.proofs.Common.{◌≡◌, ℕ, zero, suc, ◌+◌, ◌-◌, ◌*◌, ◌%◌, ◌^◌, ◌<◌, ◌≤◌, Bool, true, false, eqb, ltb, leb, List, [], ◌∷◌, ◌++◌, length, get_or, take, set, sym, refl, ap, ◌∙◌, true≢false, append_assoc, append-nil, mod-eq_of_lt, add-one, arith, length-set, take-suc, get_or-set_same, ltb-false, ltb-true, ne_eqb, eqb-true, leb-false}
+use Rattle.std.proofs.Common.{◌≡◌, ℕ, zero, suc, ◌+◌, ◌-◌, ◌*◌, ◌%◌, ◌^◌, ◌<◌, ◌≤◌, Bool, true, false, eqb, ltb, leb}
+use Rattle.std.proofs.Common.{List, [], ◌∷◌, ◌++◌, length, get_or, take, set, sym, refl, ap, ◌∙◌, true≢false}
+use Rattle.std.proofs.Common.{append_assoc, append-nil, mod-eq_of_lt, add-one, arith, length-set, take-suc}
+use Rattle.std.proofs.Common.{get_or-set_same, ltb-false, ltb-true, ne_eqb, eqb-true, leb-false}
 use mathlib.Core.Bool.{false≢true}
 use borrow.Author.Tests.{eqb-false}
 use Rattle.words.specs.Loop.{pick}

@@ -1,5 +1,7 @@
 -- Where the record stands after any bytes behind whole lines.
-use Rattle.std.proofs.Common.{◌≡◌, ℕ, zero, suc, ◌+◌, ◌<◌, ◌≤◌, true, false, eqb, leb, List, [], ◌∷◌, ◌++◌, length, take, sym, refl, ap, ◌∙◌, true≢false, append_assoc, append-nil, le_antisymm, arith, length-append, take_all, eqb-true, leb-false, leb-true}
+use Rattle.std.proofs.Common.{◌≡◌, ℕ, zero, suc, ◌+◌, ◌<◌, ◌≤◌, true, false, eqb, leb, List, [], ◌∷◌, ◌++◌, length}
+use Rattle.std.proofs.Common.{take, sym, refl, ap, ◌∙◌, true≢false, append_assoc, append-nil, le_antisymm, arith}
+use Rattle.std.proofs.Common.{length-append, take_all, eqb-true, leb-false, leb-true}
 use mathlib.Core.Bool.{false≢true}
 use borrow.Author.Tests.{eqb-false}
 use Rattle.words.specs.Loop.{pick}

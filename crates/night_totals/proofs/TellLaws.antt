@@ -1,5 +1,6 @@
 -- What is told of a text is what it comes to, and nothing else is.
-use Rattle.std.proofs.Common.{◌≡◌, ℕ, suc, ◌<◌, ◌≤◌, true, false, eqb, ◌↔◌, List, [], ◌∷◌, ◌++◌, length, sym, refl, ap, ◌∙◌, append_assoc, append-nil, mod-eq_of_lt, add-one, arith, eqb-true, le-leb}
+use Rattle.std.proofs.Common.{◌≡◌, ℕ, suc, ◌<◌, ◌≤◌, true, false, eqb, ◌↔◌, List, [], ◌∷◌, ◌++◌, length, sym, refl, ap}
+use Rattle.std.proofs.Common.{◌∙◌, append_assoc, append-nil, mod-eq_of_lt, add-one, arith, eqb-true, le-leb}
 use Rattle.words.proofs.Branch.{pick_yes, pick_no}
 use Rattle.night_totals.specs.Entries.{line_of, written, Fit, AllFit, none, and}
 use Rattle.night_totals.specs.Totals.{sum_of, runs_of, largest_of, first_of, totals_of}

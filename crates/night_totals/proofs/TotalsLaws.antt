@@ -1,5 +1,7 @@
 -- The totals of lines one after the other, and how large they are.
-use Rattle.std.proofs.Common.{◌≡◌, ℕ, zero, suc, ◌+◌, ◌*◌, ◌<◌, ◌≤◌, max, Bool, true, false, eqb, ltb, leb, List, [], ◌∷◌, ◌++◌, length, sym, refl, ap, ◌∙◌, mod-eq_of_lt, arith, length-append, ltb-false, ltb-true, eq-eqb, ne_eqb, eqb-true, leb-true}
+use Rattle.std.proofs.Common.{◌≡◌, ℕ, zero, suc, ◌+◌, ◌*◌, ◌<◌, ◌≤◌, max, Bool, true, false, eqb, ltb, leb, List, []}
+use Rattle.std.proofs.Common.{◌∷◌, ◌++◌, length, sym, refl, ap, ◌∙◌, mod-eq_of_lt, arith, length-append, ltb-false}
+use Rattle.std.proofs.Common.{ltb-true, eq-eqb, ne_eqb, eqb-true, leb-true}
 use borrow.Author.Tests.{eqb-false}
 use Rattle.words.specs.Loop.{pick}
 use Rattle.words.proofs.Branch.{pick_yes, pick_no, pick_all}
@@ -65,7 +67,8 @@ place-append [] b = sym (pick_yes _ _ refl)
 place-append (e ∷ a) b =
     let n : eqb (length (e ∷ a)) 0 ≡ false = ne_eqb (length (e ∷ a)) 0 (λ q. omega arith) in
     let all = e ∷ a in
-    pick_all (λ x. place_of (all ++ b) ≡ x) (ltb (largest_of all) (largest_of b)) (length all + place_of b) (place_of all)
+    pick_all (λ x. place_of (all ++ b) ≡ x) (ltb (largest_of all) (largest_of b)) (length all + place_of b)
+    (place_of all)
     (λ t. let l : largest_of all < largest_of b = ltb-true _ _ t in
     let m : largest_of (all ++ b) ≡ largest_of b = omega (arith, largest-append all b) in
     ap (λ v. first_of v (all ++ b)) m ∙ first_absent (largest_of b) all b l)

@@ -1,5 +1,6 @@
 -- A text of a form put piece by piece.
-use Rattle.std.proofs.Common.{◌≡◌, ℕ, ◌+◌, ◌<◌, ◌≤◌, eqb, List, [], ◌∷◌, ◌++◌, length, get_or, take, set, refl, ap, ◌∙◌, append-nil, add-one, arith, take-suc}
+use Rattle.std.proofs.Common.{◌≡◌, ℕ, ◌+◌, ◌<◌, ◌≤◌, eqb, List, [], ◌∷◌, ◌++◌, length, get_or, take, set, refl, ap, ◌∙◌}
+use Rattle.std.proofs.Common.{append-nil, add-one, arith, take-suc}
 use Rattle.words.specs.Loop.{pick}
 use Rattle.forecast_text.specs.Printed.{numeral_of}
 use Rattle.forecast_text.specs.Put.{Put}

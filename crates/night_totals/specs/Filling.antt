@@ -1,6 +1,7 @@
 -- What a byte does to a text of a fixed form that has come so far: the code's own definition. What a text of a form is
 -- stands in Form.
-use Rattle.std.specs.Prelude.{ℕ, ◌+◌, ◌-◌, ◌*◌, ◌%◌, ◌^◌, Bool, true, false, List, length, replicate, ◌==◌, nat_le, nat_lt, slice_index, slice_set}
+use Rattle.std.specs.Prelude.{ℕ, ◌+◌, ◌-◌, ◌*◌, ◌%◌, ◌^◌, Bool, true, false, List, length, replicate, ◌==◌, nat_le}
+use Rattle.std.specs.Prelude.{nat_lt, slice_index, slice_set}
 use Rattle.words.specs.Loop.{pick}
 use Rattle.bits.specs.Digit.{byte0, byte9}
 use Rattle.night_totals.specs.declared.filling.Filling.{Filling}

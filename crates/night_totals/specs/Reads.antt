@@ -9,7 +9,8 @@ use Rattle.night_totals.specs.declared.night.Outcome.TheVariants as told
 
 pub data Reads (s : List ℕ) : Outcome → Type 0 where
   -- no more than 65,535 lines and nothing else: their totals
-  totals : (es : List Entry) → s ≡ written es → AllFit es → length es ≤ most_lines → Reads s (told.Totals (totals_of es))
+  totals : (es : List Entry) → s ≡ written es → AllFit es → length es ≤ most_lines
+      → Reads s (told.Totals (totals_of es))
   -- behind fewer lines something that begins with no line: the number of the line that it would be
   malformed : (es : List Entry) (rest : List ℕ) → s ≡ written es ++ rest → AllFit es → length es < most_lines
       → 0 < length rest → ((e : Entry) (tail : List ℕ) → Fit e → rest ≢ line_of e ++ tail)

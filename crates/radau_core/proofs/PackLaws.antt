@@ -23,7 +23,7 @@ use Rattle.state.specs.Memory.{Memory}
 use Rattle.state.specs.Settings.{or_none}
 use Rattle.solve_blocks.specs.Needs.{Fit, StageFit, MemoryLong}
 use Rattle.solve_blocks.proofs.AdmittedLaws.{Admitted}
-use Rattle.radau_core.specs.Choices.{flag_of, number_of, whole_of, mass_of, source_of, rule_of, tolerances_of, stage_of}
+use Rattle.radau_core.specs.Choices.{flag_of, number_of, whole_of, mass_of, source_of, rule_of, tolerances_of}
 use Rattle.radau_core.specs.Choices.{flag_word, number_tag, number_value, whole_tag, mass_word, source_word, rule_word}
 use Rattle.radau_core.specs.Choices.{tolerances_tag, rtol_value, atol_value}
 use Rattle.radau_core.specs.Places.{◌#◌, run_at, words_of, doubles_of, Sized}

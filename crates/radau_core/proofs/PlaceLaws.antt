@@ -14,7 +14,6 @@ use mathlib.Core.Path.{◌≡◌, refl, sym, ap, ◌∙◌}
 use mathlib.Core.List.{List, [], ◌∷◌}
 use native.Mathlib.Numerals.{add-one}
 use native.Mathlib.Omega.{arith}
-use lib.Dec.{eqb}
 use lib.Ieee.{Float, nan}
 use lib.ListN.{length, get_or, drop}
 use lib.Seq.{drop-cons, drop-length}
@@ -28,9 +27,8 @@ use Rattle.state.specs.declared.run.Singular.{Singular}
 use Rattle.state.specs.declared.run.Singular.TheVariants as singular
 use Rattle.state.specs.declared.run.Strides.{Strides}
 use Rattle.state.specs.declared.run.Strides.TheVariants as strides
-use Rattle.state.specs.declared.run.Status.{Status}
 use Rattle.state.specs.declared.run.Status.TheVariants as status
-use Rattle.state.specs.Numbers.{status_number, singular_kind, singular_column, smallest_stride, largest_stride}
+use Rattle.state.specs.Numbers.{singular_kind, singular_column, smallest_stride, largest_stride}
 use Rattle.solve_blocks.specs.Matrices.{run_of}
 use Rattle.radau_core.specs.declared.step.Step.{Step}
 use Rattle.radau_core.specs.declared.step.Step.TheVariants.{Asked, Main, Matrices, Attempt}

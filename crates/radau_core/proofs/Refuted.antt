@@ -16,7 +16,7 @@ use lib.Dec.{eqb, ltb}
 use lib.Ieee.{Float, nan, le, of_bits}
 use lib.ListN.{get_or, set}
 use Rattle.words.specs.Words.{◌!◌}
-use Rattle.words.specs.Constants.{«0·0», «1·0»}
+use Rattle.words.specs.Constants.{«0·0»}
 use Rattle.words.specs.Loop.{loop, pick}
 use Rattle.state.specs.declared.settings.Number.{Number}
 use Rattle.state.specs.declared.settings.Number.TheVariants as number
@@ -27,14 +27,13 @@ use Rattle.state.specs.declared.run.Status.TheVariants as status
 use Rattle.state.specs.declared.run.Tolerances.TheVariants.{Scalars}
 use Rattle.state.specs.declared.talk.Answer.{Answer}
 use Rattle.state.specs.declared.talk.Answer.TheVariants as answer
-use Rattle.state.specs.declared.talk.Place.{Place}
 use Rattle.state.specs.declared.talk.Place.TheVariants.{Nowhere}
 use Rattle.state.specs.declared.talk.Reply.{Reply}
 use Rattle.state.specs.declared.talk.Reply.TheVariants as reply
 use Rattle.state.specs.declared.talk.Request.{Request}
 use Rattle.state.specs.declared.talk.Request.TheVariants as request
 use Rattle.state.specs.declared.talk.Verdict.TheVariants.{Passed}
-use Rattle.state.specs.Settings.{defaults_of, or_none}
+use Rattle.state.specs.Settings.{defaults_of}
 use Rattle.state.specs.Memory.{Memory, memory, amounts, newton, given, factors, differences}
 use Rattle.state.specs.Memory.{amounts_fit, newton_fit, given_fit, factors_fit, differences_fit}
 use Rattle.state.specs.Pivots.{stray, stray_at}
@@ -47,9 +46,9 @@ use Rattle.solve_blocks.specs.Needs.{Fit, StageFit, MemoryLong}
 use Rattle.solve_blocks.specs.Setters.{in_counts, in_control, in_numbers, at_stage, counts, set_first, set_hold}
 use Rattle.solve_blocks.proofs.AdmittedLaws.{admitted}
 use Rattle.radau_core.specs.declared.step.Call.{Call}
-use Rattle.radau_core.specs.Choices.{stage_of, status_of, whole_of, number_of}
+use Rattle.radau_core.specs.Choices.{stage_of, status_of}
 use Rattle.radau_core.specs.Places.{◌#◌, Sized, run_at, words_of, doubles_of}
-use Rattle.radau_core.proofs.PackLaws.{run-held, run-sized, admitted-at}
+use Rattle.radau_core.proofs.PackLaws.{run-held, admitted-at}
 
 -- ---- a run of one amount, and its memory
 
@@ -104,8 +103,8 @@ Meets f =
     ≡ (advance_by Passed (run_at w d) p m).core
 
 passes : verdict_of (admission_rows (sample_at stage.FirstDerivative) reply.Filled sample_memory) ≡ Passed
-unfolding pick loop verdict_of amounts_fit newton_fit given_fit factors_fit differences_fit asking_at answers_report stray
-    stray_at le of_bits
+unfolding pick loop verdict_of amounts_fit newton_fit given_fit factors_fit differences_fit asking_at answers_report
+    stray stray_at le of_bits
 passes = refl
 
 -- the first advance asks for a report

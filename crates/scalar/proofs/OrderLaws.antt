@@ -8,7 +8,8 @@ use native.Mathlib.Omega.{arith}
 use lib.Dec.{T, eqb}
 use lib.Pow.{pow_pos}
 use lib.IntN.{ℤ, pos, negsuc}
-use lib.Ieee.{Float, nan, inf, fin, binary64, lt, eq, div, neg, is_nan, fits, size, top, hid, of_bits, to_bits, up, down}
+use lib.Ieee.{Float, nan, inf, fin, binary64, lt, eq, div, neg, is_nan, fits, size, top, hid, of_bits, to_bits, up}
+use lib.Ieee.{down}
 use lib.Ieee.Fits.{up_pos, down_pos}
 use lib.Ieee.Bits.{of_bits-to_bits}
 use borrow.Author.Tests.{eqb-true, ne_eqb}

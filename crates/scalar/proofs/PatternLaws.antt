@@ -179,7 +179,8 @@ module _ (x : Float) (f : T (fits binary64 x)) (p : T (positive x)) where
   not-the-pattern : (b : ℕ) → T (not (positive (double b))) → to_bits binary64 x ≡ b → ⊥
   not-the-pattern b n e =
       T_not (positive x)
-      (subst (λ (y : Float). T (not (positive y))) (ap (λ (k : ℕ). double k) (sym e) ∙ of_bits-to_bits binary64 x f) n) p
+      (subst (λ (y : Float). T (not (positive y))) (ap (λ (k : ℕ). double k) (sym e) ∙ of_bits-to_bits binary64 x f) n)
+      p
 
   not-zero : to_bits binary64 x ≡ 0 → ⊥
   unfolding of_bits

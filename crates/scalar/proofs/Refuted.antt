@@ -51,7 +51,8 @@ pub not-keeping-less : ((m : ℕ) (v : Float) → Ordered m v → keeping_less m
 unfolding keeps halve halved_root root_of_form root_of product times_at loop pick mul le lt of_bits to_bits
 not-keeping-less meets =
     let e : ◌≡◌ {A = ℕ} 0x3fff_ffff_ffff_ffff 0x4000_0000_0000_0000 =
-    ap bits_of (meets 2 (double 0x4010_0000_0000_0000) (record { low = omega arith; high = omega arith; above = tt })) in
+    ap bits_of (meets 2 (double 0x4010_0000_0000_0000) (record { low = omega arith; high = omega arith; above = tt }))
+    in
     omega arith
 
 -- Before it rounds, the routine has the root's digits and what is left of the number beyond their square. One that

@@ -3,7 +3,8 @@
 -- C2M1=C2-1, C1MC2=-q/5, DD1=-(13+7q)/3, DD2=(7q-13)/3, DD3=-1/3, each lying strictly between the neighbours of its
 -- double; the cubic u^3-9u^2+36u-60 changes sign within two doubles either way of U1.' Every comparison is one of whole
 -- numbers, in units of the smallest double.
-use Rattle.std.specs.Prelude.{ℕ, suc, ◌+◌, ◌-◌, ◌*◌, ◌^◌, ◌≤◌, ◌<◌, Bool, true, false, ◌&&◌, List, [], ◌∷◌, T, ltb, ℤ, pos, negsuc, neg_ℤ, ◌-ℤ◌, ◌*ℤ◌, get_or, Float}
+use Rattle.std.specs.Prelude.{ℕ, suc, ◌+◌, ◌-◌, ◌*◌, ◌^◌, ◌≤◌, ◌<◌, Bool, true, false, ◌&&◌, List, [], ◌∷◌, T, ltb, ℤ}
+use Rattle.std.specs.Prelude.{pos, negsuc, neg_ℤ, ◌-ℤ◌, ◌*ℤ◌, get_or, Float}
 use Rattle.std.specs.Float.{binary64}
 use Rattle.std.specs.Float.Ieee.{to_bits}
 use Rattle.words.specs.Loop.{pick}
@@ -97,4 +98,5 @@ pub data RightAt : ℕ → Entry → Type 0 where
 -- the one test that runs over the table
 unfoldable pub between : Float → Exact → Bool
 between x e =
-    less (signed_units (down (reach e) (to_bits binary64 x))) e && more (signed_units (up (reach e) (to_bits binary64 x))) e
+    less (signed_units (down (reach e) (to_bits binary64 x))) e && more
+    (signed_units (up (reach e) (to_bits binary64 x))) e

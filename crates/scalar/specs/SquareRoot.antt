@@ -18,7 +18,8 @@ square_of x = units (to_bits binary64 x) * units_in_one
 pub record Nearest (n b : ℕ) : Type 0 where
   pub under : (c : ℕ) → b < c → c < infinity_pattern → 4 * n ≤ (units b + units c) * (units b + units c)
   pub over : (c : ℕ) → c < b → (units b + units c) * (units b + units c) ≤ 4 * n
-  pub even : (c : ℕ) → (b ≡ c → ⊥) → c < infinity_pattern → 4 * n ≡ (units b + units c) * (units b + units c) → b % 2 ≡ 0
+  pub even : (c : ℕ) → (b ≡ c → ⊥) → c < infinity_pattern → 4 * n ≡ (units b + units c) * (units b + units c) → b % 2 ≡
+      0
 
 -- r is the square root of x
 pub data IsSquareRoot : Float → Float → Type 0 where

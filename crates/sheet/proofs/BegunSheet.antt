@@ -70,7 +70,8 @@ module _ (k : ℕ → Kind) (some : (i : ℕ) → (k i).low ≤ (k i).high) wher
   pad-writes i n [] h = refl
   pad-writes i zero (v ∷ us) h = absurd (let z : ⊥ = omega arith in z)
   pad-writes i (suc n) (v ∷ us) h =
-      ap (λ x. spell_of (k i) v ++ ((k i).mark ∷ x)) (pad-writes (i + 1) n us (let z : length us ≤ n = omega arith in z))
+      ap (λ x. spell_of (k i) v ++ ((k i).mark ∷ x))
+      (pad-writes (i + 1) n us (let z : length us ≤ n = omega arith in z))
       ∙ sym (append_assoc (spell_of (k i) v) ((k i).mark ∷ writes k (i + 1) us) (behind (i + 1) n us))
 
 pub lines-written : (k : ℕ → Kind) (us : List ℕ) (i : ℕ) → lines_in (writes k i us) ≡ ended k i us

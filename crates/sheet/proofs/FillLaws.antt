@@ -112,7 +112,8 @@ module _ (listed memory : List ℕ) where
       ∙ filled-over (species_at listed) (species_of (reactions_from m (take (m * 5) listed))) memory
       (λ j q. let b : j < m * 4 = omega arith in
       sym (species-at m (take (m * 5) listed) j b
-      ∙ get_or-take (m * 5) listed (j / 4 * 5 + j % 4 + 1) 0 (let z : j / 4 * 5 + j % 4 + 1 < m * 5 = omega arith in z)))
+      ∙ get_or-take (m * 5) listed (j / 4 * 5 + j % 4 + 1) 0
+      (let z : j / 4 * 5 + j % 4 + 1 < m * 5 = omega arith in z)))
 
 -- over a memory that has the room, values stand in front of what was behind them
 pub over-room : (vs memory : List ℕ) → length vs ≤ length memory → over vs memory ≡ vs ++ drop (length vs) memory

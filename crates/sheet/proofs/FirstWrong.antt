@@ -295,7 +295,8 @@ sheet-kept : (p r : List ℕ) (L : ℕ) → sheet_of (p ++ r) ≡ broken L → L
     → sheet_of (p ++ r') ≡ broken L
 unfolding sheet_of after_settings
 sheet-kept p r L e h r' =
-    (part-firm (kind_of phase.Settings 0) (mark-low phase.Settings 0) 8 after_settings (λ l. refl) amounts-firm).kept 0 p r
+    (part-firm (kind_of phase.Settings 0) (mark-low phase.Settings 0) 8 after_settings
+    (λ l. refl) amounts-firm).kept 0 p r
     L e (let z : L < 0 + lines_in p = omega arith in z) r'
 
 -- ---- the theorem

@@ -238,7 +238,8 @@ module _ (k : Kind) where
 
 -- ---- a number and its mark
 
-pub found-past : (b : ℕ) (xs rest : List ℕ) → b < 48 → Every (λ x. 48 ≤ x) xs → found_of b (xs ++ (b ∷ rest)) ≡ length xs
+pub found-past : (b : ℕ) (xs rest : List ℕ) → b < 48 → Every (λ x. 48 ≤ x) xs
+    → found_of b (xs ++ (b ∷ rest)) ≡ length xs
 unfolding found_of
 found-past b [] rest h p = pick_yes _ _ (eq-eqb b b refl)
 found-past b (x ∷ xs) rest h p =
@@ -262,7 +263,8 @@ followed-inverse (Value u) e = (cc, cc)
 followed-inverse Wrong e = absurd (not-got e)
 
 module _ (k : Kind) where
-  pub piece-right : (v : ℕ) (rest : List ℕ) → Fine k → Of k v → piece_of k (spell_of k v ++ (k.mark ∷ rest)) ≡ got v rest
+  pub piece-right : (v : ℕ) (rest : List ℕ) → Fine k → Of k v
+      → piece_of k (spell_of k v ++ (k.mark ∷ rest)) ≡ got v rest
   unfolding piece_of followed
   piece-right v rest f o =
       let xs : List ℕ = spell_of k v in

@@ -33,7 +33,8 @@ module _ (k : Kind) (text : List ℕ) where
       → x ≡ judged_of k (length text) s → x ≡ number_of k text
   unfolding number_of
   number-judged h eb et es e =
-      no _ _ _ (le-ltb _ _ h) (e ∙ ap (judged_of k (length text)) (sym es ∙ et ∙ ap (λ (b : ℕ). spelled_of b 0 text) eb))
+      no _ _ _ (le-ltb _ _ h)
+      (e ∙ ap (judged_of k (length text)) (sym es ∙ et ∙ ap (λ (b : ℕ). spelled_of b 0 text) eb))
 
 module _ (k : Kind) (n v : ℕ) {w : ℕ} (ew : w ≡ width_by k.hex v) where
   pub judged-misfit : (n ≡ w → ⊥) → Wrong ≡ judged_of k n (Value v)
@@ -127,7 +128,8 @@ module _ {k : ℕ → Kind} {s : List ℕ} {count lines₀ at₀ : ℕ} {store�
   }
 
   module _ {store : List ℕ} {i lines at : ℕ} (left : Left k s count lines₀ at₀ store₀ store i lines at) where
-    pub left-done : count ≤ i → passed (take count store) lines (drop at s) ≡ numbers_of k 0 count lines₀ [] (drop at₀ s)
+    pub left-done : count ≤ i
+        → passed (take count store) lines (drop at s) ≡ numbers_of k 0 count lines₀ [] (drop at₀ s)
     unfolding numbers_of
     left-done h =
         let e : count - i ≡ 0 = omega arith in

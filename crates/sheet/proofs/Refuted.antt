@@ -51,9 +51,9 @@ zero_in_front =
     ++ line (48 ∷ 49 ∷ []) ++ line (hex_of 0) ++ line (decimal_of 0)
 
 pub zero-in-front : answer_of (read_of zero_in_front) ≡ reading.Malformed 8
-unfolding written digits byte_of power width_of pick digit_of spelled_of base_of width_by found_of setting_of reaction_of kind_of
-    judged_of number_of followed piece_of ends_of numbers_of at_end after_reactions after_count after_amounts after_settings
-    sheet_of told_of read_of answer_of
+unfolding written digits byte_of power width_of pick digit_of spelled_of base_of width_by found_of setting_of
+    reaction_of kind_of judged_of number_of followed piece_of ends_of numbers_of at_end after_reactions after_count
+    after_amounts after_settings sheet_of told_of read_of answer_of
 zero-in-front = refl
 
 -- ---- bytes behind the last line
@@ -70,9 +70,9 @@ not-ends-anywhere meets = true≢false (ap is_good (meets 2 (record { good = tru
 
 -- one LF more than the ten lines of the sheet
 pub further-line : answer_of (read_of (written decaying ++ (10 ∷ []))) ≡ reading.Malformed 11
-unfolding written digits byte_of power width_of pick digit_of spelled_of base_of width_by found_of setting_of reaction_of kind_of
-    judged_of number_of followed piece_of ends_of numbers_of at_end after_reactions after_count after_amounts after_settings
-    sheet_of told_of read_of answer_of
+unfolding written digits byte_of power width_of pick digit_of spelled_of base_of width_by found_of setting_of
+    reaction_of kind_of judged_of number_of followed piece_of ends_of numbers_of at_end after_reactions after_count
+    after_amounts after_settings sheet_of told_of read_of answer_of
 further-line = refl
 
 -- ---- a species that isn't there
@@ -103,7 +103,7 @@ unknown =
     }
 
 pub unknown-species : answer_of (read_of (written unknown)) ≡ reading.Malformed 12
-unfolding written digits byte_of power width_of pick digit_of spelled_of base_of width_by found_of setting_of reaction_of kind_of
-    judged_of number_of followed piece_of ends_of numbers_of at_end after_reactions after_count after_amounts after_settings
-    sheet_of told_of read_of answer_of
+unfolding written digits byte_of power width_of pick digit_of spelled_of base_of width_by found_of setting_of
+    reaction_of kind_of judged_of number_of followed piece_of ends_of numbers_of at_end after_reactions after_count
+    after_amounts after_settings sheet_of told_of read_of answer_of
 unknown-species = refl

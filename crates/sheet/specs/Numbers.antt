@@ -57,7 +57,8 @@ pursued wrong lines then = stuck lines
 unfoldable pub numbers_of : (ℕ → Kind) → ℕ → ℕ → ℕ → List ℕ → List ℕ → Passage
 numbers_of k i zero lines vs s = passed vs lines s
 numbers_of k i (suc n) lines vs s =
-    pursued (piece_of (k i) s) lines (λ v rest. numbers_of k (i + 1) n (lines + ends_of (k i).mark) (vs ++ (v ∷ [])) rest)
+    pursued (piece_of (k i) s) lines
+    (λ v rest. numbers_of k (i + 1) n (lines + ends_of (k i).mark) (vs ++ (v ∷ [])) rest)
 
 -- a part of a sheet
 abbrev pub part_of : Phase → ℕ → ℕ → ℕ → List ℕ → Passage

@@ -159,7 +159,8 @@ module _ (h : Heading) (a r s : List ℕ) where
     no-reactions e f g i = outcome-none (pick_yes _ _ e ∙ pick_yes _ _ f ∙ pick_yes _ _ g ∙ i)
 
     -- the sheet of the four parts is that of the model
-    pub outcome-held : held_in h a r s ≡ true → (sheet : List ℕ) {x : Writing} {left : List ℕ} → sheet ≡ sheet_in h a r s
+    pub outcome-held : held_in h a r s ≡ true → (sheet : List ℕ) {x : Writing} {left : List ℕ}
+        → sheet ≡ sheet_in h a r s
         → x ≡ answer_for sheet out → left ≡ left_for sheet out → WriteOutcome x left
     unfolding answer_of bytes_left
     outcome-held e sheet is p q = (

@@ -82,7 +82,8 @@ pub length-species-of : (rs : List Reaction) → length (species_of rs) ≡ leng
 unfolding species_of
 length-species-of [] = refl
 length-species-of (x ∷ rs) =
-    let z : suc (suc (suc (suc (length (species_of rs))))) ≡ suc (length rs) * 4 = omega (arith, length-species-of rs) in
+    let z : suc (suc (suc (suc (length (species_of rs))))) ≡ suc (length rs) * 4 =
+    omega (arith, length-species-of rs) in
     z
 
 -- ---- passed, so held

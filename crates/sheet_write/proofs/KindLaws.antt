@@ -28,7 +28,8 @@ module _ (k : ℕ → Kind) where
     unfolding fit_of
     fit-below h l = rw (drop_more us i h) (pick_yes _ _ (lt-ltb _ _ l))
 
-    pub fit-above : i < length us → (k i).low ≤ get_or us i 0 → (k i).high < get_or us i 0 → fit_of k i (drop i us) ≡ false
+    pub fit-above : i < length us → (k i).low ≤ get_or us i 0 → (k i).high < get_or us i 0
+        → fit_of k i (drop i us) ≡ false
     unfolding fit_of
     fit-above h l u = rw (drop_more us i h) (pick_no _ _ (le-ltb _ _ l) ∙ pick_yes _ _ (lt-ltb _ _ u))
 

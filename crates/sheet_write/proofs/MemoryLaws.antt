@@ -23,7 +23,8 @@ five-later r s n =
     let e3 : 4 + (n * 4 + 2) ≡ suc n * 4 + 2 = omega arith in
     let e4 : 4 + (n * 4 + 3) ≡ suc n * 4 + 3 = omega arith in
     let f0 : get_or (drop 1 r) n 0 ≡ get_or r (suc n) 0 = get_or-drop 1 r n 0 ∙ ap (λ i. get_or r i 0) e0 in
-    let f1 : get_or (drop 4 s) (n * 4) 0 ≡ get_or s (suc n * 4) 0 = get_or-drop 4 s (n * 4) 0 ∙ ap (λ i. get_or s i 0) e1 in
+    let f1 : get_or (drop 4 s) (n * 4) 0 ≡ get_or s (suc n * 4) 0 =
+    get_or-drop 4 s (n * 4) 0 ∙ ap (λ i. get_or s i 0) e1 in
     let f2 : get_or (drop 4 s) (n * 4 + 1) 0
     ≡ get_or s (suc n * 4 + 1) 0 = get_or-drop 4 s (n * 4 + 1) 0 ∙ ap (λ i. get_or s i 0) e2 in
     let f3 : get_or (drop 4 s) (n * 4 + 2) 0

@@ -66,8 +66,8 @@ one_nan h a r s out = bytes_left h (plained a) r s out
 
 -- the last digit of the amount: 0, where the payload's 1 is wanted
 pub not-one-nan : MeetsLeft one_nan → ⊥
-unfolding bytes_left held_in left_for fit_of listed_in model_in reactions_from written digits byte_of power width_of setting_of
-    reaction_of kind_of over pick
+unfolding bytes_left held_in left_for fit_of listed_in model_in reactions_from written digits byte_of power width_of
+    setting_of reaction_of kind_of over pick
 not-one-nan meets =
     let e : get_or (one_nan (one 0) (0x7ff0_0000_0000_0001 ∷ []) [] [] (replicate 100 0)) 91 0
     ≡ get_or (bytes_left (one 0) (0x7ff0_0000_0000_0001 ∷ []) [] [] (replicate 100 0)) 91 0 =
@@ -82,8 +82,8 @@ what_fits h a r s out = pick (held_in h a r s) (over (take (length out) (sheet_i
 
 -- the first byte: a 6, where nothing is to be written
 pub not-what-fits : MeetsLeft what_fits → ⊥
-unfolding bytes_left held_in left_for fit_of listed_in model_in reactions_from written digits byte_of power width_of setting_of
-    reaction_of kind_of over pick
+unfolding bytes_left held_in left_for fit_of listed_in model_in reactions_from written digits byte_of power width_of
+    setting_of reaction_of kind_of over pick
 not-what-fits meets =
     let e : get_or (what_fits (one 0) (0 ∷ []) [] [] (0 ∷ [])) 0 0
     ≡ get_or (bytes_left (one 0) (0 ∷ []) [] [] (0 ∷ [])) 0 0 =
@@ -98,8 +98,8 @@ any_species h a r s out = answer_for (sheet_in h a r s) out
 
 -- the second species of one: 24, where 23 is wanted
 pub not-any-species : MeetsAnswer any_species → ⊥
-unfolding answer_of held_in answer_for fit_of listed_in model_in reactions_from written digits byte_of power width_of setting_of
-    reaction_of kind_of pick
+unfolding answer_of held_in answer_for fit_of listed_in model_in reactions_from written digits byte_of power width_of
+    setting_of reaction_of kind_of pick
 not-any-species meets =
     let e : number_of (any_species (one 1) (0 ∷ []) (0 ∷ []) (2 ∷ 0 ∷ 0 ∷ 0 ∷ []) [])
     ≡ number_of (answer_of (one 1) (0 ∷ []) (0 ∷ []) (2 ∷ 0 ∷ 0 ∷ 0 ∷ []) []) =
@@ -116,8 +116,8 @@ a_byte_more h a r s out =
 
 -- 95 bytes for a sheet of 95: 24, where it is to be written
 pub not-a-byte-more : MeetsAnswer a_byte_more → ⊥
-unfolding answer_of held_in answer_for fit_of listed_in model_in reactions_from written digits byte_of power width_of setting_of
-    reaction_of kind_of pick
+unfolding answer_of held_in answer_for fit_of listed_in model_in reactions_from written digits byte_of power width_of
+    setting_of reaction_of kind_of pick
 not-a-byte-more meets =
     let e : number_of (a_byte_more (one 0) (0 ∷ []) [] [] (replicate 95 0))
     ≡ number_of (answer_of (one 0) (0 ∷ []) [] [] (replicate 95 0)) =
@@ -132,8 +132,8 @@ rust_only h a r s out = bytes_left (ruled Rust h.reactions) a r s out
 
 -- the rule's digit: 0, where 1 is wanted
 pub not-rust-only : MeetsLeft rust_only → ⊥
-unfolding bytes_left held_in left_for fit_of listed_in model_in reactions_from written digits byte_of power width_of setting_of
-    reaction_of kind_of over pick
+unfolding bytes_left held_in left_for fit_of listed_in model_in reactions_from written digits byte_of power width_of
+    setting_of reaction_of kind_of over pick
 not-rust-only meets =
     let e : get_or (rust_only (ruled Book 0) (0 ∷ []) [] [] (replicate 100 0)) 72 0
     ≡ get_or (bytes_left (ruled Book 0) (0 ∷ []) [] [] (replicate 100 0)) 72 0 =

@@ -28,7 +28,8 @@ over-taken bytes memory {left} {n} e c l = rw (e, c, over-room bytes memory l) (
 
 -- ---- a sheet that is accepted
 
-pub rewritten-same-proof : (bytes : List ℕ) (m : Model) → read_of bytes ≡ accepted m → rewritten_of (read_of bytes) ≡ bytes
+pub rewritten-same-proof : (bytes : List ℕ) (m : Model) → read_of bytes ≡ accepted m
+    → rewritten_of (read_of bytes) ≡ bytes
 unfolding rewritten_of
 rewritten-same-proof bytes m e = ap rewritten_of e ∙ sym ((accepted-exactly bytes m).0 e).0
 

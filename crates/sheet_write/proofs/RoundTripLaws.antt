@@ -136,11 +136,13 @@ module _ (h : Heading) (a r s out : List ℕ) where
 
     -- what was written is read as the model that memory holds
     pub read-back-proof : (n : ℕ) → answer_of h a r s out ≡ Written n
-        → (read_of (take n (bytes_left h a r s out)) ≡ accepted (model_in h a r s)) × Holds (model_in h a r s) h a r s
+        → (read_of (take n (bytes_left h a r s out)) ≡ accepted (model_in h a r s))
+        × Holds (model_in h a r s) h a r s
     read-back-proof n e = go (held_in h a r s) refl
       where
         go : (b : Bool) → held_in h a r s ≡ b
-            → (read_of (take n (bytes_left h a r s out)) ≡ accepted (model_in h a r s)) × Holds (model_in h a r s) h a r s
+            → (read_of (take n (bytes_left h a r s out)) ≡ accepted (model_in h a r s))
+            × Holds (model_in h a r s) h a r s
         go false t = absurd (not_none (sym e ∙ answer-none t))
         go true t =
             let q = held-readable t in
@@ -190,7 +192,8 @@ module _ (m : Model) (a r s : List ℕ) where
 
 pub sheet-back-proof : (bytes : List ℕ) (m : Model) → read_of bytes ≡ accepted m → (a r s out : List ℕ) → Arrays a r s
     → length bytes ≤ length out
-    → (answer_of (heading_of m) (amounts_left (read_of bytes) a) (rates_left (read_of bytes) r) (species_left (read_of bytes) s)
+    → (answer_of (heading_of m) (amounts_left (read_of bytes) a) (rates_left (read_of bytes) r)
+    (species_left (read_of bytes) s)
     out ≡ Written (length bytes))
     × (bytes_left (heading_of m) (amounts_left (read_of bytes) a) (rates_left (read_of bytes) r)
     (species_left (read_of bytes) s) out ≡ bytes ++ drop (length bytes) out)

@@ -44,7 +44,8 @@ module _ (h : Heading) (a r s out : List ℕ) where
 -- Every sheet that the reader accepts is written back byte for byte, out of the memory that reading leaves.
 pub sheet-back : (bytes : List ℕ) (m : Model) → read_of bytes ≡ accepted m → (a r s out : List ℕ) → Arrays a r s
     → length bytes ≤ length out
-    → (answer_of (heading_of m) (amounts_left (read_of bytes) a) (rates_left (read_of bytes) r) (species_left (read_of bytes) s)
+    → (answer_of (heading_of m) (amounts_left (read_of bytes) a) (rates_left (read_of bytes) r)
+    (species_left (read_of bytes) s)
     out ≡ Written (length bytes))
     × (bytes_left (heading_of m) (amounts_left (read_of bytes) a) (rates_left (read_of bytes) r)
     (species_left (read_of bytes) s) out ≡ bytes ++ drop (length bytes) out)

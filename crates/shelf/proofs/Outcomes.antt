@@ -137,7 +137,8 @@ module _ (s : Shelf) (cont : List Float) (xold h : Float) (cs es : List Float) w
       by (narrow p e) =
           absurd (let z : ◌≡◌ {A = ℕ} 2 0 = sym (ap put_number e) ∙ ap placing_number a in let y : ⊥ = omega arith in y)
       by (unfit p q e) =
-          absurd (let z : ◌≡◌ {A = ℕ} 13 0 = sym (ap put_number e) ∙ ap placing_number a in let y : ⊥ = omega arith in y)
+          absurd (let z : ◌≡◌ {A = ℕ} 13 0 = sym (ap put_number e) ∙ ap placing_number a in
+          let y : ⊥ = omega arith in y)
       by (done p q e) =
           let same : placing.Kept s' ≡ placing.Kept (shelf (steps_after s.steps) (place_after s.place)) =
           sym a ∙ ap (λ (o : Placed). o.answer) e in

@@ -44,8 +44,8 @@ is_two o = eqb (to_bits binary64 (o.target ! 0)) 0x4000_0000_0000_0000
 
 -- at 1, an end of both, the newer answers
 pub not-oldest-first : Meets oldest_first → ⊥
-unfolding answer_of holds bounds_of interpolate_of interpolate_at amount_of polynomial_of place_of loop pick add sub mul div
-    le lt of_bits to_bits
+unfolding answer_of holds bounds_of interpolate_of interpolate_at amount_of polynomial_of place_of loop pick add sub
+    mul div le lt of_bits to_bits
 not-oldest-first meets = true≢false (sym (ap is_two (meets «1·0» («0·0» ∷ []) (newer ∷ older ∷ []))))
 
 -- ---- strict ends
@@ -61,6 +61,6 @@ abbrev is_answered : Asked → Bool
 is_answered o = eqb (asking_number o.answer) 0
 
 pub not-strict-ends : Meets strict_ends → ⊥
-unfolding answer_of holds bounds_of interpolate_of interpolate_at amount_of polynomial_of place_of loop pick add sub mul div
-    le lt of_bits to_bits
+unfolding answer_of holds bounds_of interpolate_of interpolate_at amount_of polynomial_of place_of loop pick add sub
+    mul div le lt of_bits to_bits
 not-strict-ends meets = true≢false (sym (ap is_answered (meets «1·0» («0·0» ∷ []) (older ∷ []))))

@@ -47,7 +47,8 @@ unfolding tried_of real_tried_of StepOf
 tried-of n r mass jac f e =
     pick_all (λ (l : Logged Tried). StepOf n l.core.step) r.control.call_decomp _ _
     (λ _. pick_all (λ (l : Logged Tried). StepOf n l.core.step) _ _ _
-    (λ _. failed-of n (r ▸ in_counts one_lu ▸ in_notes (set_latest _)) e) (λ _. complex-of n (r ▸ in_counts one_lu) _ e))
+    (λ _. failed-of n (r ▸ in_counts one_lu ▸ in_notes (set_latest _)) e)
+    (λ _. complex-of n (r ▸ in_counts one_lu) _ e))
     (λ _. e)
 
 step_of : (n : ℕ) (s : Step) → passes_on s ≡ true → StepOf n s → (run_of s).shape.n ≡ n

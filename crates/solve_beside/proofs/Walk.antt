@@ -38,7 +38,8 @@ use Rattle.solve_blocks.specs.Newton.{RoundDone, round_of, Resumed}
 use Rattle.solve_blocks.specs.Judge.{Judged, Estimated}
 use Rattle.solve_blocks.specs.Report.{ask_report, reported_of}
 use Rattle.solve_blocks.specs.Jacobian.{Asking, ask_jacobian_by, Columned}
-use Rattle.solve_blocks.specs.Advance.{Stepped, stepped, in_memory, Called, called, started_of, returned_of, conclude_of}
+use Rattle.solve_blocks.specs.Advance.{Stepped, stepped, in_memory, Called, called, started_of, returned_of}
+use Rattle.solve_blocks.specs.Advance.{conclude_of}
 use Rattle.solve_blocks.specs.Advance.{replied_of, passed_of, called_of}
 use Rattle.solve_blocks.specs.Needs.{StepFit}
 use Rattle.solve_blocks.proofs.AdvanceWhole.{whole_of}

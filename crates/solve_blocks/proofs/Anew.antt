@@ -149,4 +149,5 @@ module _ {A E : Type 0} (kind : Kind A E) (n : ℕ) where
       pick-stop (eqb n 1) _ _ _ _
       (pick_two _ _ _ _ _ (refl, refl) (refl, refl)).1
       (last-same _ _
-      (beside (λ (i : ℕ). Same) (pass_at kind n) (pass_at kind n) (n - 1) (λ i _ v w. step_same i v w) _ _ (refl, refl)))
+      (beside (λ (i : ℕ). Same) (pass_at kind n) (pass_at kind n) (n - 1) (λ i _ v w. step_same i v w) _ _
+      (refl, refl)))

@@ -143,7 +143,8 @@ module _ (n : ℕ) (P : List Float → Type 0) (set-kept : (a : List Float) (i :
       (λ _. p)
 
   pub lu-complex-kept : (a : Parts) (ip : List ℕ) → P a.re × P a.im → Q ip
-      → (P (lu_decomp_complex_of n a ip).a.re × P (lu_decomp_complex_of n a ip).a.im) × Q (lu_decomp_complex_of n a ip).ip
+      → (P (lu_decomp_complex_of n a ip).a.re × P (lu_decomp_complex_of n a ip).a.im) × Q
+      (lu_decomp_complex_of n a ip).ip
   unfolding lu_decomp_complex_of
   lu-complex-kept a ip = decomposed-kept complex_kind n Both put_both updated-both Q row_kept _ _ _ _ a ip
 

@@ -310,7 +310,8 @@ module _ {p : Reply} {mass jac : List Float} {P : List Event → Position → Ty
       (λ e. c.refines h)
       (λ e. joined es (error-solve ∷ []) _ (judged-leads _ _ _ _ (c.estimated h)))
 
-  conclude-leads : {es : List Event} (v : Round) (m : Memory) → P es (round_at v) → Leads es (conclude_of v m) stepped_at
+  conclude-leads : {es : List Event} (v : Round) (m : Memory) → P es (round_at v) → Leads es (conclude_of v m)
+      stepped_at
   unfolding conclude_of
   conclude-leads (round.Newton r) m h = again-leads _ _ _ h
   conclude-leads (round.Estimate r) m h = estimate-leads _ _ _ _ _ _ _ _ h
@@ -365,7 +366,8 @@ module _ {p : Reply} {mass jac : List Float} {P : List Event → Position → Ty
 
   -- ---- from a reply to a label
 
-  replied-leads : {es : List Event} (s : Stage) (r : Run) (m : Memory) → (asking_at s).ended ≡ false → P es (replied s r)
+  replied-leads : {es : List Event} (s : Stage) (r : Run) (m : Memory) → (asking_at s).ended ≡ false → P es
+      (replied s r)
       → Leads es (replied_of s p r m) stepped_at
   unfolding replied_of asking_at started_of ask_stage_of refined_of ask_report
   replied-leads stage.FirstDerivative r m e h = still (c.first-filled h)

@@ -89,7 +89,8 @@ is_way a b = flag (eqb a b)
 -- a step is too small where a tenth of it equals |x| * uround, whatever the signs; with a NaN it goes on (radau.rs:431)
 abbrev guarded_at : Float → ℕ
 guarded_at x =
-    is_way 3 (stage_way (attempt_of (drawn ▸ in_numbers (set_h (neg one)) ▸ in_numbers (set_x x)) rust.y rust.scal rust.cont
+    is_way 3 (stage_way (attempt_of (drawn ▸ in_numbers (set_h (neg one)) ▸ in_numbers (set_x x)) rust.y rust.scal
+    rust.cont
     (newton rust.z1 rust.z2 rust.z3 rust.f1 rust.f2 rust.f3)).core.call.run.stage)
 
 -- 0.1 and 0.09 over uround
@@ -139,9 +140,9 @@ rate-edge = refl
 -- a prediction of 1 is slow (radau.rs:575)
 slow-edge : round_at 6 half (run_by half rust.xend one ▸ in_numbers (set_dynold one) ▸ in_numbers (set_thqold half))
     ≡ rust.slow_at_one
-unfolding judged_round paced_of rate_of predicted_of slowed_of slow_round power_of times_at product keeps halve halved_root
-    root_of_form root_of units units_in_one square_of border reaches nearest_root sqrt_of max_of min_of loop pick is_nan le lt
-    sub mul div of_bits to_bits
+unfolding judged_round paced_of rate_of predicted_of slowed_of slow_round power_of times_at product keeps halve
+    halved_root root_of_form root_of units units_in_one square_of border reaches nearest_root sqrt_of max_of min_of loop
+    pick is_nan le lt sub mul div of_bits to_bits
 slow-edge = refl
 
 -- increments just at the tolerance are near enough, and so is a NaN (radau.rs:615)
@@ -156,7 +157,8 @@ near-nan = refl
 -- a step that ends just at the end point is aimed at it (radau.rs:764): from 1 with 0.5 to 1.5
 aim-edge : (0 ∷ step_told
     (arrived_of
-    (run_by rust.newton_tol (double 0x3ff8_0000_0000_0000) one ▸ in_numbers (set_x one) ▸ in_numbers (set_hnew half))).core)
+    (run_by rust.newton_tol (double 0x3ff8_0000_0000_0000) one ▸ in_numbers (set_x one) ▸ in_numbers
+    (set_hnew half))).core)
     ≡ rust.aimed_at_end
 unfolding arrived_of hnew_of renewed_of clamp_of abs_of pick le lt add sub mul div of_bits to_bits
 aim-edge = refl
@@ -203,8 +205,8 @@ here-modified again x r = refl
 
 -- it counts as 1e-10 (radau.rs:646)
 nan-error : (bits_of (error_of 2 rust.scal (rust.cont ! 0 ∷ nan ∷ [])) ∷ []) ≡ rust.erred_nan
-unfolding error_of error_at max_of units units_in_one square_of halve border reaches nearest_root sqrt_of loop pick is_nan le
-    lt add mul div of_int of_bits to_bits
+unfolding error_of error_at max_of units units_in_one square_of halve border reaches nearest_root sqrt_of loop pick
+    is_nan le lt add mul div of_int of_bits to_bits
 nan-error = refl
 
 abbrev alone : Run
@@ -229,10 +231,10 @@ nan-accepted : way_of
     (estimate_of alone unit unit (0 ∷ []) (nan ∷ []) unit unit (one ∷ one ∷ one ∷ one ∷ [])
     (newton unit unit unit unit unit unit)).core.step
     ≡ 2
-unfolding estimate_of tested_of judged_of defect_of defect_at sides_of side_at row_sum row_at mass_at at solved_first combined
-    error_of error_at max_of units units_in_one square_of halve border reaches nearest_root sqrt_of stray_at stray exchanged
-    forward_at back_at substituted solved divided add_at forward take_at back lin_solve_of loop pick is_nan le lt add mul div
-    of_int of_bits to_bits
+unfolding estimate_of tested_of judged_of defect_of defect_at sides_of side_at row_sum row_at mass_at at solved_first
+    combined error_of error_at max_of units units_in_one square_of halve border reaches nearest_root sqrt_of stray_at
+    stray exchanged forward_at back_at substituted solved divided add_at forward take_at back lin_solve_of loop pick
+    is_nan le lt add mul div of_int of_bits to_bits
 nan-accepted = refl
 
 -- ---- Identity's zeros are multiplied out

@@ -320,7 +320,8 @@ pub not-without-test :
     ((n : ℕ) (mass : List Float) (f : Three) (fac1 alphn betan : Float) (z : Three)
     → loop (identity_add_at f fac1 alphn betan) 0 n z ≡ loop (mass_add_at Identity n mass f fac1 alphn betan) 0 n z)
     → ⊥
-unfolding loop pick identity_add_at mass_add_at mass_sums mass_sum_at mass_at add_sums add sub mul neg sum round of_bits is_nan
+unfolding loop pick identity_add_at mass_add_at mass_sums mass_sum_at mass_at add_sums add sub mul neg sum round of_bits
+    is_nan
 not-without-test wrong =
     let one = «1·0» in
     let ones = one ∷ one ∷ [] in

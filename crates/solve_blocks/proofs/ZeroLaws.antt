@@ -70,7 +70,8 @@ module _ (f : Format) (s : Bool) (m : ℕ) (e : ℤ) (fit : T (fits f (fin s (su
 
   not_low : down e ≤ 2 ^ low f
   not_low =
-      leb→le (down e) (2 ^ low f) (and_r (is_odd && is_short) is_high (and_l (is_odd && is_short && is_high) is_low fields))
+      leb→le (down e) (2 ^ low f)
+      (and_r (is_odd && is_short) is_high (and_l (is_odd && is_short && is_high) is_low fields))
 
   not-high : suc m * up e < 2 ^ suc (emax f) * down e
   not-high = ltb→lt (suc m * up e) (2 ^ suc (emax f) * down e) (and_r (is_odd && is_short && is_high) is_low fields)

@@ -30,7 +30,8 @@ use Rattle.solve_blocks.specs.declared.step.Call.{Call}
 use Rattle.solve_blocks.specs.declared.step.Step.{Step}
 use Rattle.solve_blocks.specs.declared.step.Step.TheVariants as step
 use Rattle.solve_blocks.specs.Setters.{◌▸◌, in_counts, in_control, in_numbers, in_notes, at_stage, one_ode, one_lu}
-use Rattle.solve_blocks.specs.Setters.{set_singular, set_reject, set_last, set_call_jac, set_call_decomp, set_h, set_hhfac}
+use Rattle.solve_blocks.specs.Setters.{set_singular, set_reject, set_last, set_call_jac, set_call_decomp, set_h}
+use Rattle.solve_blocks.specs.Setters.{set_hhfac}
 use Rattle.solve_blocks.specs.Setters.{set_latest}
 use Rattle.solve_blocks.specs.Events.{real-singular, complex-singular, factored, Logged, logged, quiet, and_then}
 use Rattle.solve_blocks.specs.Entries.{mass_at, jac_at, Three, three}

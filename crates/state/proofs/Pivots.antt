@@ -32,7 +32,8 @@ module _ (n : ℕ) (ip : List ℕ) where
   more : (h : ℕ) → loop (stray_at n ip) 0 (suc h) false ≡ (loop (stray_at n ip) 0 h false || leb n (get_or ip h 0))
   unfolding stray_at
   more h =
-      ap (λ (j : ℕ). loop (stray_at n ip) 0 j false) (sym (add-one h)) ∙ loop-more (stray_at n ip) 0 h false (omega arith)
+      ap (λ (j : ℕ). loop (stray_at n ip) 0 j false) (sym (add-one h)) ∙ loop-more (stray_at n ip) 0 h false
+      (omega arith)
 
   none : (h : ℕ) → loop (stray_at n ip) 0 h false ≡ false → Rows h
   none zero e k l = absurd (omega arith)

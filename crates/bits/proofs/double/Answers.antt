@@ -19,7 +19,10 @@ unfolding div of_bits
 made = refl
 
 pub returns-then-pattern-gt9218868437227405312 : goal.returns-then-pattern-gt9218868437227405312
-returns-then-pattern-gt9218868437227405312 c = made ∙ sym (is-nan _ (sym (nan_bits_is binary64 _) ∙ nan_bits_above binary64 _ ∙ lt-ltb _ _ c.if-pattern-gt9218868437227405312.true))
+returns-then-pattern-gt9218868437227405312 c = made ∙ sym
+    (is-nan _ (sym (nan_bits_is binary64 _) ∙ nan_bits_above binary64 _ ∙ lt-ltb _ _
+    c.if-pattern-gt9218868437227405312.true))
 
 pub float_from_bits-result : goal.float_from_bits-result
-float_from_bits-result c = subst (λ (b : Bool). T (not b)) (sym (nan_bits_above binary64 _ ∙ le-ltb _ _ c.if-pattern-gt9218868437227405312.false)) tt
+float_from_bits-result c = subst (λ (b : Bool). T (not b))
+    (sym (nan_bits_above binary64 _ ∙ le-ltb _ _ c.if-pattern-gt9218868437227405312.false)) tt

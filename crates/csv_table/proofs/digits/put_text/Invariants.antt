@@ -6,4 +6,6 @@ use lib.Seq.{sets}
 use Rattle.csv_table.proofs.digits.put_text.Given as goal
 
 abbrev pub invariant-loop-i : goal.invariant-loop-i
-invariant-loop-i l = (length l.out ≡ length l.initial.out) × (l.i ≤ length l.bytes) × (sets l.out (l.at + l.i) (drop l.i l.bytes) ≡ sets l.initial.out l.at l.bytes)
+invariant-loop-i l =
+    (length l.out ≡ length l.initial.out) × (l.i ≤ length l.bytes)
+    × (sets l.out (l.at + l.i) (drop l.i l.bytes) ≡ sets l.initial.out l.at l.bytes)

@@ -12,7 +12,11 @@ returns-then-value-lt10 c = (yes _ _ _ (lt-ltb _ _ c.if-value-lt10.true) refl, o
 
 pub returns-then-value-lt100 : goal.returns-then-value-lt100
 unfolding width_of
-returns-then-value-lt100 c = (no _ _ _ (le-ltb _ _ c.if-value-lt10.false) (yes _ _ _ (lt-ltb _ _ c.if-value-lt100.true) refl), omega arith)
+returns-then-value-lt100 c = (
+  no _ _ _ (le-ltb _ _ c.if-value-lt10.false)
+      (yes _ _ _ (lt-ltb _ _ c.if-value-lt100.true) refl),
+  omega arith,
+)
 
 pub returns-then-value-lt1000 : goal.returns-then-value-lt1000
 unfolding width_of

@@ -1,7 +1,6 @@
 -- `elchepur_totals_join` meets its contract, way by way.
-use mathlib.Core.Path.{◌≡◌, sym, ◌∙◌}
+use mathlib.Core.Path.{sym, ◌∙◌}
 use Rattle.export_totals.proofs.BorderLaws.{joined-totals, joined-unfit, joined-many}
-use borrow.Author.Rules.{rules}
 use Rattle.export_totals.proofs.depots.elchepur_totals_join.Goals as goal
 
 pub returns-in-Joined : goal.returns-in-Joined

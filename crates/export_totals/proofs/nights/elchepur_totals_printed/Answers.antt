@@ -1,5 +1,4 @@
 -- `elchepur_totals_printed` meets its contract.
-use borrow.Author.Rules.{rules}
 use Rattle.export_totals.proofs.nights.elchepur_totals_printed.Goals as goal
 
 pub returns : goal.returns

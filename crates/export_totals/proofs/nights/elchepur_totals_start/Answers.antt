@@ -1,7 +1,6 @@
 -- `elchepur_totals_start` meets its contract.
 use mathlib.Core.Path.{ap, ◌∙◌}
 use Rattle.export_totals.specs.Record.{words_of}
-use borrow.Author.Rules.{rules}
 use Rattle.export_totals.proofs.nights.elchepur_totals_start.Goals as goal
 
 pub returns : goal.returns

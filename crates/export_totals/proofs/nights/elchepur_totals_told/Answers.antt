@@ -1,8 +1,6 @@
 -- `elchepur_totals_told` meets its contract, way by way.
-use mathlib.Core.Path.{◌≡◌, sym, ap, ◌∙◌}
-use Rattle.night_totals.specs.Night.{told_of}
+use mathlib.Core.Path.{sym, ◌∙◌}
 use Rattle.export_totals.proofs.BorderLaws.{left-totals, left-line, left-many}
-use borrow.Author.Rules.{rules}
 use Rattle.export_totals.proofs.nights.elchepur_totals_told.Goals as goal
 
 pub returns-in-Totals : goal.returns-in-Totals

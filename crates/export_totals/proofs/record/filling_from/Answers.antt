@@ -1,5 +1,4 @@
 -- `filling_from` meets its contract.
-use borrow.Author.Rules.{rules}
 use Rattle.export_totals.proofs.record.filling_from.Goals as goal
 
 pub returns : goal.returns

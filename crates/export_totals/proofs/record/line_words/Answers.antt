@@ -1,5 +1,4 @@
 -- `line_words` meets its contract.
-use borrow.Author.Rules.{rules}
 use Rattle.export_totals.proofs.record.line_words.Goals as goal
 
 pub returns : goal.returns

@@ -1,6 +1,5 @@
 -- `night_from` meets its contract.
 use Rattle.export_totals.specs.Record.{night_from}
-use borrow.Author.Rules.{rules}
 use Rattle.export_totals.proofs.record.night_from.Goals as goal
 
 pub returns : goal.returns

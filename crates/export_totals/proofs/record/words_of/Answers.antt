@@ -1,6 +1,5 @@
 -- `words_of` meets its contract: two groups are put.
 use Rattle.export_totals.proofs.RecordLaws.{packed}
-use borrow.Author.Rules.{rules}
 use Rattle.export_totals.proofs.record.words_of.Goals as goal
 
 pub returns : goal.returns

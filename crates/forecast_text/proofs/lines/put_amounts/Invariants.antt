@@ -6,4 +6,6 @@ use Rattle.forecast_text.specs.Put.{Put}
 use Rattle.forecast_text.proofs.lines.put_amounts.Given as goal
 
 abbrev pub invariant-loop-i : goal.invariant-loop-i
-invariant-loop-i l = (l.i ≤ l.i-end) × (l.at ≤ l.from + 17 * l.i) × Put l.from (amounts_text (take l.i l.amounts)) l.initial.out l.out l.at
+invariant-loop-i l =
+    (l.i ≤ l.i-end) × (l.at ≤ l.from + 17 * l.i)
+    × Put l.from (amounts_text (take l.i l.amounts)) l.initial.out l.out l.at

@@ -8,4 +8,5 @@ use Rattle.matrix.specs.Lu.{real}
 use Rattle.matrix.proofs.elimination.find_pivot.Given as goal
 
 abbrev pub invariant-loop-i : goal.invariant-loop-i
-invariant-loop-i l = Ran (better_at real l.n l.a l.k) (λ (b : Best). b.row < l.n) (l.k + 1) l.n l.i (best l.k (abs_of (at l.a l.n l.k l.k))) (best l.m l.max_val)
+invariant-loop-i l = Ran (better_at real l.n l.a l.k) (λ (b : Best). b.row < l.n) (l.k + 1) l.n l.i
+    (best l.k (abs_of (at l.a l.n l.k l.k))) (best l.m l.max_val)

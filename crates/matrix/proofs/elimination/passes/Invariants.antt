@@ -11,5 +11,6 @@ use Rattle.matrix.specs.Lu.{real}
 use Rattle.matrix.proofs.elimination.passes.Given as goal
 
 abbrev pub invariant-loop-k : goal.invariant-loop-k
-invariant-loop-k l = Ran (pass_at real l.n) (λ (w : Work (List Float)). Square l.n w.a × (length w.ip ≡ l.n)) 0 l.nm1 l.k
+invariant-loop-k l = Ran (pass_at real l.n) (λ (w : Work (List Float)). Square l.n w.a × (length w.ip ≡ l.n)) 0 l.nm1
+    l.k
     (work l.initial.a l.initial.ip nowhere) (work l.a l.ip nowhere)

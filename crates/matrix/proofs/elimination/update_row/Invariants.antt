@@ -10,4 +10,5 @@ use Rattle.matrix.specs.Reordered.{added_of, cell_at}
 use Rattle.matrix.proofs.elimination.update_row.Given as goal
 
 abbrev pub invariant-loop-j : goal.invariant-loop-j
-invariant-loop-j l = Ran (cell_at real added_of l.n l.k l.i) (λ (s : List Float). Square l.n s × (at s l.n l.i l.k ≡ l.x)) (l.k + 1) l.end l.j l.initial.a l.a
+invariant-loop-j l = Ran (cell_at real added_of l.n l.k l.i)
+    (λ (s : List Float). Square l.n s × (at s l.n l.i l.k ≡ l.x)) (l.k + 1) l.end l.j l.initial.a l.a

@@ -9,4 +9,5 @@ use Rattle.matrix.specs.Reordered.{IdleFrom, added_of, row_at}
 use Rattle.matrix.proofs.elimination.update_rows.Given as goal
 
 abbrev pub invariant-loop-i : goal.invariant-loop-i
-invariant-loop-i l = Ran (row_at real added_of l.n l.k) (λ (s : List Float). Square l.n s × IdleFrom real added_of l.n l.k l.end s) (l.k + 1) l.n l.i l.initial.a l.a
+invariant-loop-i l = Ran (row_at real added_of l.n l.k) (λ (s : List Float). Square l.n s × IdleFrom real added_of l.n
+    l.k l.end s) (l.k + 1) l.n l.i l.initial.a l.a

@@ -12,7 +12,12 @@ loop-i-init c = begun (omega arith) (omega arith) (cc)
 
 pub loop-i-preserved : goal.loop-i-preserved
 unfolding better_at
-loop-i-preserved c = elim c.if-val-max_val.branch [ then-val-max_val w ↦ turned c.loop-i.invariant (omega arith) (omega arith) (yes _ _ _ (cc) (cc)) | else-val-max_val w ↦ turned c.loop-i.invariant (omega arith) (omega arith) (no _ _ _ (cc) (cc)) ]
+loop-i-preserved c = elim c.if-val-max_val.branch [
+  | then-val-max_val w ↦ turned c.loop-i.invariant (omega arith)
+      (omega arith) (yes _ _ _ (cc) (cc))
+  | else-val-max_val w ↦ turned c.loop-i.invariant (omega arith) (omega arith)
+      (no _ _ _ (cc) (cc))
+]
 
 pub returns : goal.returns
 unfolding pivot_row

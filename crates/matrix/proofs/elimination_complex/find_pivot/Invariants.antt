@@ -7,5 +7,6 @@ use Rattle.matrix.specs.LuComplex.{complex_kind}
 use Rattle.matrix.proofs.elimination_complex.find_pivot.Given as goal
 
 abbrev pub invariant-loop-i : goal.invariant-loop-i
-invariant-loop-i l = Ran (better_at complex_kind l.n (parts l.ar l.ai) l.k) (λ (b : Best). b.row < l.n) (l.k + 1) l.n l.i
+invariant-loop-i l = Ran (better_at complex_kind l.n (parts l.ar l.ai) l.k) (λ (b : Best). b.row < l.n) (l.k + 1) l.n
+    l.i
     (best l.k (size_complex (at_complex (parts l.ar l.ai) l.n l.k l.k))) (best l.m l.max_val)

@@ -9,4 +9,5 @@ use Rattle.matrix.specs.Linear.{add_at}
 use Rattle.matrix.proofs.substitution.add_column.Given as goal
 
 abbrev pub invariant-loop-i : goal.invariant-loop-i
-invariant-loop-i l = Ran (add_at l.a l.n l.k) (λ (s : List Float). Long l.initial.b s × (s ! l.k ≡ l.x)) (l.k + 1) l.n l.i l.initial.b l.b
+invariant-loop-i l = Ran (add_at l.a l.n l.k) (λ (s : List Float). Long l.initial.b s × (s ! l.k ≡ l.x)) (l.k + 1) l.n
+    l.i l.initial.b l.b

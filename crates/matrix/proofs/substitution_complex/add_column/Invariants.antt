@@ -6,5 +6,6 @@ use Rattle.matrix.specs.LinearComplex.{add_complex_at}
 use Rattle.matrix.proofs.substitution_complex.add_column.Given as goal
 
 abbrev pub invariant-loop-i : goal.invariant-loop-i
-invariant-loop-i l = Ran (add_complex_at (parts l.ar l.ai) l.n l.k l.t) (λ (b : Parts). Long l.initial.br b.re × Long l.initial.bi b.im) (l.k + 1) l.n l.i
+invariant-loop-i l = Ran (add_complex_at (parts l.ar l.ai) l.n l.k l.t) (λ (b : Parts). Long l.initial.br b.re × Long
+    l.initial.bi b.im) (l.k + 1) l.n l.i
     (parts l.initial.br l.initial.bi) (parts l.br l.bi)

@@ -6,5 +6,6 @@ use Rattle.matrix.specs.LinearComplex.{complex_side}
 use Rattle.matrix.proofs.substitution_complex.forward_phase.Given as goal
 
 abbrev pub invariant-loop-k : goal.invariant-loop-k
-invariant-loop-k l = Ran (forward_at complex_side (parts l.ar l.ai) l.n l.ip) (λ (b : Parts). Long l.initial.br b.re × Long l.initial.bi b.im) 0 l.nm1 l.k
+invariant-loop-k l = Ran (forward_at complex_side (parts l.ar l.ai) l.n l.ip)
+    (λ (b : Parts). Long l.initial.br b.re × Long l.initial.bi b.im) 0 l.nm1 l.k
     (parts l.initial.br l.initial.bi) (parts l.br l.bi)

@@ -5,4 +5,5 @@ use Rattle.matrix.specs.Reordered.{complex_entries, sum_at}
 use Rattle.matrix.proofs.substitution_complex.solve_row.Given as goal
 
 abbrev pub invariant-loop-kb : goal.invariant-loop-kb
-invariant-loop-kb l = Ran (sum_at complex_entries (parts l.ar l.ai) l.n l.i (parts l.br l.bi)) Any 1 l.ib l.kb (entry_complex (parts l.br l.bi) l.i) l.sum
+invariant-loop-kb l = Ran (sum_at complex_entries (parts l.ar l.ai) l.n l.i (parts l.br l.bi)) Any 1 l.ib l.kb
+    (entry_complex (parts l.br l.bi) l.i) l.sum

@@ -25,7 +25,8 @@ unknown_among-requires c = let given = c.args in
 
 pub returns-then-unknown_among : goal.returns-then-unknown_among
 unfolding derived_of unknown
-returns-then-unknown_among c = yes _ _ _ c.if-dy-y.true (yes _ _ _ (sym c.unknown_among.ensures ∙ c.if-unknown_among.true) refl)
+returns-then-unknown_among c =
+    yes _ _ _ c.if-dy-y.true (yes _ _ _ (sym c.unknown_among.ensures ∙ c.if-unknown_among.true) refl)
 
 pub react_all-requires : goal.react_all-requires
 unfolding zeros unknown

@@ -9,7 +9,8 @@ loop-i-init c = (omega arith, refl)
 pub loop-i-preserved : goal.loop-i-preserved
 loop-i-preserved c = (
   omega arith,
-  rw c.step-next.ensures (sym (fed-more c.loop-i.next c.args.piece.now c.loop-i.i c.loop-i-test.true) ∙ c.loop-i.invariant.1),
+  rw c.step-next.ensures (sym (fed-more c.loop-i.next c.args.piece.now c.loop-i.i c.loop-i-test.true)
+      ∙ c.loop-i.invariant.1),
 )
 
 pub returns : goal.returns

@@ -13,7 +13,8 @@ returns-in-Joined c =
 pub returns-in-Malformed : goal.returns-in-Malformed
 unfolding answer_text
 returns-in-Malformed c =
-    rw c.in-Malformed.is (record { out_after = c.print-in-Malformed.ensures.out_after; value = c.print-in-Malformed.ensures.value })
+    rw c.in-Malformed.is
+    (record { out_after = c.print-in-Malformed.ensures.out_after; value = c.print-in-Malformed.ensures.value })
 
 pub returns-in-Unfit : goal.returns-in-Unfit
 unfolding answer_text text
@@ -24,4 +25,5 @@ returns-in-Unfit c =
 pub returns-in-TooMany : goal.returns-in-TooMany
 unfolding answer_text
 returns-in-TooMany c =
-    rw c.in-TooMany.is (record { out_after = c.print-in-TooMany.ensures.out_after; value = c.print-in-TooMany.ensures.value })
+    rw c.in-TooMany.is
+    (record { out_after = c.print-in-TooMany.ensures.out_after; value = c.print-in-TooMany.ensures.value })

@@ -10,7 +10,8 @@ returns-then-lines-place c = yes _ _ _ (lt-ltb _ _ c.if-lines-place.true) refl
 
 pub returns-then-place-eq0 : goal.returns-then-place-eq0
 unfolding place_in
-returns-then-place-eq0 c = no _ _ _ (le-ltb _ _ c.if-lines-place.false) (yes _ _ _ (eq-eqb _ _ c.if-place-eq0.true) refl)
+returns-then-place-eq0 c =
+    no _ _ _ (le-ltb _ _ c.if-lines-place.false) (yes _ _ _ (eq-eqb _ _ c.if-place-eq0.true) refl)
 
 pub returns : goal.returns
 unfolding place_in

@@ -10,7 +10,9 @@ returns-then-byte-lt48 c = yes _ _ _ (lt-ltb _ _ c.if-byte-lt48.true) c.behind.e
 
 pub returns-then-byte-gt57 : goal.returns-then-byte-gt57
 unfolding number_of
-returns-then-byte-gt57 c = no _ _ _ (le-ltb _ _ c.if-byte-lt48.false) (yes _ _ _ (lt-ltb _ _ c.if-byte-gt57.true) c.behind-then-byte-gt57.ensures)
+returns-then-byte-gt57 c =
+    no _ _ _ (le-ltb _ _ c.if-byte-lt48.false)
+    (yes _ _ _ (lt-ltb _ _ c.if-byte-gt57.true) c.behind-then-byte-gt57.ensures)
 
 pub returns : goal.returns
 unfolding number_of

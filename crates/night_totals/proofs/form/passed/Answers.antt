@@ -11,7 +11,8 @@ returns-then-form-at c = yes _ _ _ (le-leb _ _ c.if-form-at.true) c.spoilt.ensur
 
 pub returns-then-form-at-2 : goal.returns-then-form-at-2
 unfolding passed_of
-returns-then-form-at-2 c = no _ _ _ (lt-leb _ _ c.if-form-at.false) (no _ _ _ (ne_eqb _ _ c.if-form-at-2.true) c.spoilt-then-form-at-2.ensures)
+returns-then-form-at-2 c =
+    no _ _ _ (lt-leb _ _ c.if-form-at.false) (no _ _ _ (ne_eqb _ _ c.if-form-at-2.true) c.spoilt-then-form-at-2.ensures)
 
 pub returns : goal.returns
 unfolding passed_of

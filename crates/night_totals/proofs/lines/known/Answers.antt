@@ -11,7 +11,8 @@ returns-then-status-le3 c = yes _ _ _ (le-leb _ _ c.if-status-le3.true) refl
 
 pub returns-then-status-eq5 : goal.returns-then-status-eq5
 unfolding known_status
-returns-then-status-eq5 c = no _ _ _ (lt-leb _ _ c.if-status-le3.false) (yes _ _ _ (eq-eqb _ _ c.if-status-eq5.true) refl)
+returns-then-status-eq5 c =
+    no _ _ _ (lt-leb _ _ c.if-status-le3.false) (yes _ _ _ (eq-eqb _ _ c.if-status-eq5.true) refl)
 
 pub returns : goal.returns
 unfolding known_status

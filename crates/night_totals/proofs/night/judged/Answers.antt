@@ -11,12 +11,13 @@ returns-then-filling c = yes _ _ _ c.if-filling.true (rw (c.made.ensures, c.spoi
 
 pub returns-then-filling-ne-FORM : goal.returns-then-filling-ne-FORM
 unfolding judged_of
-returns-then-filling-ne-FORM c = no _ _ _ c.if-filling.false (no _ _ _ (ne_eqb _ _ c.if-filling-ne-FORM.true) c.made-then-filling-ne-FORM.ensures)
+returns-then-filling-ne-FORM c =
+    no _ _ _ c.if-filling.false (no _ _ _ (ne_eqb _ _ c.if-filling-ne-FORM.true) c.made-then-filling-ne-FORM.ensures)
 
 pub returns-then-fit : goal.returns-then-fit
 unfolding judged_of
-returns-then-fit c = no _ _ _ c.if-filling.false (yes _ _ _
-    (eq-eqb _ _ c.if-filling-ne-FORM.false) (yes _ _ _ (ap fit_entry (sym c.entry_from-entry.ensures) ∙ sym c.fit.ensures ∙ c.if-fit.true) (rw (
+returns-then-fit c = no _ _ _ c.if-filling.false (yes _ _ _ (eq-eqb _ _ c.if-filling-ne-FORM.false)
+    (yes _ _ _ (ap fit_entry (sym c.entry_from-entry.ensures) ∙ sym c.fit.ensures ∙ c.if-fit.true) (rw (
       c.made-then-fit.ensures,
       c.added.ensures,
       c.blank.ensures,
@@ -25,6 +26,6 @@ returns-then-fit c = no _ _ _ c.if-filling.false (yes _ _ _
 
 pub returns : goal.returns
 unfolding judged_of
-returns c = no _ _ _ c.if-filling.false (yes _ _ _ (eq-eqb _ _
-    c.if-filling-ne-FORM.false) (no _ _ _ (ap fit_entry (sym c.entry_from-entry.ensures) ∙ sym c.fit.ensures ∙ c.if-fit.false)
+returns c = no _ _ _ c.if-filling.false (yes _ _ _ (eq-eqb _ _ c.if-filling-ne-FORM.false)
+    (no _ _ _ (ap fit_entry (sym c.entry_from-entry.ensures) ∙ sym c.fit.ensures ∙ c.if-fit.false)
     (rw (c.made-2.ensures, c.spoilt-2.ensures))))

@@ -15,4 +15,6 @@ returns-then-full c = no _ _ _ c.if-night.false (yes _ _ _ (sym c.full.ensures �
 
 pub returns : goal.returns
 unfolding step_of text
-returns c = no _ _ _ c.if-night.false (no _ _ _ (sym c.full.ensures ∙ c.if-full.false) (rw c.filled-next.ensures at c.judged.ensures))
+returns c =
+    no _ _ _ c.if-night.false
+    (no _ _ _ (sym c.full.ensures ∙ c.if-full.false) (rw c.filled-next.ensures at c.judged.ensures))

@@ -14,7 +14,10 @@ returns-then-filling c = no _ _ _ c.if-night.false (yes _ _ _ c.if-filling.true 
 
 pub returns-then-filling-ne0 : goal.returns-then-filling-ne0
 unfolding told_of
-returns-then-filling-ne0 c = no _ _ _ c.if-night.false (no _ _ _ c.if-filling.false (no _ _ _ (ne_eqb _ _ c.if-filling-ne0.true) (rw c.wrapping_add_u64-then-filling-ne0.ensures.value)))
+returns-then-filling-ne0 c =
+    no _ _ _ c.if-night.false
+    (no _ _ _ c.if-filling.false
+    (no _ _ _ (ne_eqb _ _ c.if-filling-ne0.true) (rw c.wrapping_add_u64-then-filling-ne0.ensures.value)))
 
 pub returns : goal.returns
 unfolding told_of

@@ -1,6 +1,5 @@
 -- `advanced` meets its contract: a reply, the matrices and the next call.
-use mathlib.Core.Path.{◌≡◌, refl, sym, ap, ◌∙◌}
-use borrow.Author.Rules.{rules}
+use mathlib.Core.Path.{ap, ◌∙◌}
 use Rattle.state.specs.declared.run.Run.{Run}
 use Rattle.state.specs.Memory.{Memory, memory, amounts, Newton, newton, given}
 use Rattle.state.specs.Memory.{Factors, factors, Differences, differences}
@@ -23,7 +22,8 @@ passes-past-requires c =
     let run-at : Run = run_at c.args.words.now c.args.doubles.now in
     let newton-at : Newton = let a = c.args in newton a.z1.now a.z2.now a.z3.now a.f1.now a.f2.now a.f3.now in
     let factors-at : Factors = let a = c.args in factors a.e1.now a.e2r.now a.e2i.now a.ip1.now a.ip2.now in
-    let differences-at : Differences = let a = c.args in differences a.y_perturbed.now a.f_perturbed.now a.f_origin.now in
+    let differences-at : Differences = let a = c.args in differences a.y_perturbed.now a.f_perturbed.now a.f_origin.now
+    in
     let memory-at : Memory = let a = c.args in
     memory
     (amounts a.y.now a.f0.now a.scal.now a.cont.now)
@@ -34,7 +34,8 @@ passes-past-requires c =
     let n = c.args.words.now # 16 in
     record {
       sized = c.replied-step.ensures.sized_2;
-      step_fit = step_less n (step_at c.replied-step.result (run_at c.replied-step.new.words c.replied-step.new.doubles))
+      step_fit = step_less n
+          (step_at c.replied-step.result (run_at c.replied-step.new.words c.replied-step.new.doubles))
           (replied-fit n memory-at c.args.reply run-at c.requires.fit.0 c.requires.fit.1.rounds _
           c.replied-step.ensures.f_origin_after);
       square = (
@@ -49,7 +50,8 @@ called-requires c =
     let run-at : Run = run_at c.args.words.now c.args.doubles.now in
     let newton-at : Newton = let a = c.args in newton a.z1.now a.z2.now a.z3.now a.f1.now a.f2.now a.f3.now in
     let factors-at : Factors = let a = c.args in factors a.e1.now a.e2r.now a.e2i.now a.ip1.now a.ip2.now in
-    let differences-at : Differences = let a = c.args in differences a.y_perturbed.now a.f_perturbed.now a.f_origin.now in
+    let differences-at : Differences = let a = c.args in differences a.y_perturbed.now a.f_perturbed.now a.f_origin.now
+    in
     let memory-at : Memory = let a = c.args in
     memory
     (amounts a.y.now a.f0.now a.scal.now a.cont.now)
@@ -75,7 +77,8 @@ called-requires c =
       f2 = c.replied-step.auto.f2 ∙ c.requires.memory_long.newton.f2;
       f3 = c.replied-step.auto.f3 ∙ c.requires.memory_long.newton.f3;
     })
-    (c.replied-step.auto.y_perturbed ∙ c.requires.memory_long.y_perturbed) c.requires.memory_long.f_perturbed c.requires.memory_long.f_origin in
+    (c.replied-step.auto.y_perturbed ∙ c.requires.memory_long.y_perturbed) c.requires.memory_long.f_perturbed
+    c.requires.memory_long.f_origin in
     record {
       sized = c.passes-past.ensures.sized_2;
       step_fit = others.0;
@@ -174,7 +177,8 @@ returns-in-Asked c =
     let run-at : Run = run_at c.args.words.now c.args.doubles.now in
     let newton-at : Newton = let a = c.args in newton a.z1.now a.z2.now a.z3.now a.f1.now a.f2.now a.f3.now in
     let factors-at : Factors = let a = c.args in factors a.e1.now a.e2r.now a.e2i.now a.ip1.now a.ip2.now in
-    let differences-at : Differences = let a = c.args in differences a.y_perturbed.now a.f_perturbed.now a.f_origin.now in
+    let differences-at : Differences = let a = c.args in differences a.y_perturbed.now a.f_perturbed.now a.f_origin.now
+    in
     let memory-at : Memory = let a = c.args in
     memory
     (amounts a.y.now a.f0.now a.scal.now a.cont.now)
@@ -200,7 +204,8 @@ returns c =
     let run-at : Run = run_at c.args.words.now c.args.doubles.now in
     let newton-at : Newton = let a = c.args in newton a.z1.now a.z2.now a.z3.now a.f1.now a.f2.now a.f3.now in
     let factors-at : Factors = let a = c.args in factors a.e1.now a.e2r.now a.e2i.now a.ip1.now a.ip2.now in
-    let differences-at : Differences = let a = c.args in differences a.y_perturbed.now a.f_perturbed.now a.f_origin.now in
+    let differences-at : Differences = let a = c.args in differences a.y_perturbed.now a.f_perturbed.now a.f_origin.now
+    in
     let memory-at : Memory = let a = c.args in
     memory
     (amounts a.y.now a.f0.now a.scal.now a.cont.now)
@@ -215,7 +220,8 @@ returns c =
     (given a.rtol.now a.atol.now a.mass.now c.replied-step.new.jac)
     factors-at (differences c.replied-step.new.y_perturbed
     a.f_perturbed.now a.f_origin.now) in
-    let f : Factors = factors c.passes-past.new.e1 c.passes-past.new.e2r c.passes-past.new.e2i c.passes-past.new.ip1 c.passes-past.new.ip2 in
+    let f : Factors = factors c.passes-past.new.e1 c.passes-past.new.e2r c.passes-past.new.e2i c.passes-past.new.ip1
+    c.passes-past.new.ip2 in
     let w : Memory = memory (amounts m.amounts.y m.amounts.f0 c.called.new.scal c.called.new.cont)
     (newton c.called.new.z1 c.called.new.z2 c.called.new.z3 c.called.new.f1
     c.called.new.f2 c.called.new.f3)
@@ -227,5 +233,6 @@ returns c =
           (stepped (step_at c.replied-step.result (run_at c.replied-step.new.words c.replied-step.new.doubles)) m)
           (step_at c.passes-past.result (run_at c.passes-past.new.words c.passes-past.new.doubles)) f
           (call_at c.called.result (run_at c.called.new.words c.called.new.doubles)) w
-          c.replied-step.ensures.f_origin_after c.passes-past.ensures.ip2_after (c.called.ensures.f_origin_after m.amounts.f0 m.given f);
+          c.replied-step.ensures.f_origin_after c.passes-past.ensures.ip2_after
+          (c.called.ensures.f_origin_after m.amounts.f0 m.given f);
     }

@@ -1,6 +1,5 @@
 -- `called` meets its contract, by the four steps past the matrices.
 use mathlib.Core.Path.{ap}
-use borrow.Author.Rules.{rules}
 use Rattle.state.specs.declared.run.Run.{Run}
 use Rattle.state.specs.Memory.{memory, amounts, newton, differences}
 use Rattle.solve_blocks.proofs.AdvanceLaws.{called-asked, called-main, called-matrices, called-attempt}
@@ -98,7 +97,8 @@ returns-in-Matrices c =
           (newton a.z1.now a.z2.now a.z3.now a.f1.now a.f2.now a.f3.now)
           g f
           (differences a.y_perturbed.now a.f_perturbed.now a.f_origin.now))
-          _ _ _ (ap (λ (s : Step). step_at s run-at) c.in-Matrices.is) c.ask_jacobian-in-Matrices.ensures.f_origin_after;
+          _ _ _ (ap (λ (s : Step). step_at s run-at) c.in-Matrices.is)
+          c.ask_jacobian-in-Matrices.ensures.f_origin_after;
     }
 
 pub shape_of-scal : goal.shape_of-scal

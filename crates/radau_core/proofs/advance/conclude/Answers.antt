@@ -1,6 +1,5 @@
 -- `conclude` meets its contract, by the three ways out of a round.
-use mathlib.Core.Path.{refl, ap}
-use borrow.Author.Rules.{rules}
+use mathlib.Core.Path.{ap}
 use Rattle.state.specs.declared.run.Run.{Run}
 use Rattle.state.specs.Memory.{memory, amounts, newton, given, factors}
 use Rattle.solve_blocks.proofs.AdvanceLaws.{conclude-again, conclude-estimates, conclude-over}

@@ -1,9 +1,8 @@
 -- `replied` meets its contract, stage by stage.
 use Prim.Native.Nat.{ℕ, ◌*◌}
-use mathlib.Core.Path.{◌≡◌, refl, sym, ◌∙◌}
+use mathlib.Core.Path.{◌≡◌, sym, ◌∙◌}
 use native.Mathlib.Omega.{arith}
 use lib.ListN.{length}
-use borrow.Author.Rules.{rules}
 use Rattle.state.specs.declared.run.Run.{Run}
 use Rattle.state.specs.declared.run.Stage.TheVariants.{FirstDerivativeAgain}
 use Rattle.state.specs.Memory.{Memory, memory, amounts, Newton, newton, given}
@@ -32,7 +31,8 @@ pub started-requires : goal.started-requires
 started-requires c = let a = c.args in
     let n = a.words.now # 16 in
     let y = length a.y.now in (
-      heard-asks c.requires.fit.0 FirstDerivativeAgain a.reply y c.reported-heard.ensures.doubles_after c.requires.memory_long.y,
+      heard-asks c.requires.fit.0 FirstDerivativeAgain a.reply y c.reported-heard.ensures.doubles_after
+          c.requires.memory_long.y,
       same (length a.rtol.now) y n c.requires.memory_long.rtol c.requires.memory_long.y,
       same (length a.atol.now) y n c.requires.memory_long.atol c.requires.memory_long.y,
       same (length a.scal.now) y n c.requires.memory_long.scal c.requires.memory_long.y,
@@ -81,7 +81,12 @@ ask_stage-requires-in-6 c = record {
 pub round-verdict-requires : goal.round-verdict-requires
 round-verdict-requires c = record {
   sized = c.requires.sized;
-  fit = (omega (arith, c.requires.fit.0), c.requires.fit.1.rounds, c.requires.memory_long.mass, c.requires.memory_long.scal);
+  fit = (
+    omega (arith, c.requires.fit.0),
+    c.requires.fit.1.rounds,
+    c.requires.memory_long.mass,
+    c.requires.memory_long.scal,
+  );
   newton_long = c.requires.memory_long.newton;
 }
 
@@ -119,7 +124,12 @@ conclude-requires c =
 pub refined-requires : goal.refined-requires
 refined-requires c = record {
   sized = c.requires.sized;
-  fit = (omega (arith, c.requires.fit.0), c.requires.memory_long.scal, c.requires.memory_long.y, c.requires.memory_long.cont);
+  fit = (
+    omega (arith, c.requires.fit.0),
+    c.requires.memory_long.scal,
+    c.requires.memory_long.y,
+    c.requires.memory_long.cont,
+  );
   z1_len = (
     c.requires.memory_long.newton.z1,
     c.requires.memory_long.newton.z2,
@@ -130,7 +140,12 @@ refined-requires c = record {
 }
 
 pub scaled-requires : goal.scaled-requires
-scaled-requires c = (c.requires.memory_long.rtol, c.requires.memory_long.atol, c.requires.memory_long.y, c.requires.memory_long.scal)
+scaled-requires c = (
+  c.requires.memory_long.rtol,
+  c.requires.memory_long.atol,
+  c.requires.memory_long.y,
+  c.requires.memory_long.scal,
+)
 
 pub ask_report-requires : goal.ask_report-requires
 ask_report-requires c = c.requires.sized
@@ -209,7 +224,8 @@ returns-in-1 c =
     let run-at : Run = run_at c.args.words.now c.args.doubles.now in
     let newton-at : Newton = let a = c.args in newton a.z1.now a.z2.now a.z3.now a.f1.now a.f2.now a.f3.now in
     let factors-at : Factors = let a = c.args in factors a.e1.now a.e2r.now a.e2i.now a.ip1.now a.ip2.now in
-    let differences-at : Differences = let a = c.args in differences a.y_perturbed.now a.f_perturbed.now a.f_origin.now in
+    let differences-at : Differences = let a = c.args in differences a.y_perturbed.now a.f_perturbed.now a.f_origin.now
+    in
     let memory-at : Memory = let a = c.args in
     memory
     (amounts a.y.now a.f0.now a.scal.now a.cont.now)
@@ -232,7 +248,8 @@ returns-in-2 c =
     let run-at : Run = run_at c.args.words.now c.args.doubles.now in
     let newton-at : Newton = let a = c.args in newton a.z1.now a.z2.now a.z3.now a.f1.now a.f2.now a.f3.now in
     let factors-at : Factors = let a = c.args in factors a.e1.now a.e2r.now a.e2i.now a.ip1.now a.ip2.now in
-    let differences-at : Differences = let a = c.args in differences a.y_perturbed.now a.f_perturbed.now a.f_origin.now in
+    let differences-at : Differences = let a = c.args in differences a.y_perturbed.now a.f_perturbed.now a.f_origin.now
+    in
     let memory-at : Memory = let a = c.args in
     memory
     (amounts a.y.now a.f0.now a.scal.now a.cont.now)
@@ -243,8 +260,7 @@ returns-in-2 c =
     let part_at : ℕ = c.args.words.now # 1 in
     let a = c.args in record {
       sized_2 = c.requires.sized;
-      f_origin_after = first-again run-at c.args.reply memory-at _ (place.at-first-derivative-again (part_at
-          c) c.in-2.is)
+      f_origin_after = first-again run-at c.args.reply memory-at _ (place.at-first-derivative-again part_at c.in-2.is)
           (c.started-in-2.ensures a.f0.now a.cont.now a.mass.now a.jac.now
           newton-at factors-at differences-at);
     }
@@ -254,7 +270,8 @@ returns-in-3 c =
     let run-at : Run = run_at c.args.words.now c.args.doubles.now in
     let newton-at : Newton = let a = c.args in newton a.z1.now a.z2.now a.z3.now a.f1.now a.f2.now a.f3.now in
     let factors-at : Factors = let a = c.args in factors a.e1.now a.e2r.now a.e2i.now a.ip1.now a.ip2.now in
-    let differences-at : Differences = let a = c.args in differences a.y_perturbed.now a.f_perturbed.now a.f_origin.now in
+    let differences-at : Differences = let a = c.args in differences a.y_perturbed.now a.f_perturbed.now a.f_origin.now
+    in
     let memory-at : Memory = let a = c.args in
     memory
     (amounts a.y.now a.f0.now a.scal.now a.cont.now)
@@ -265,8 +282,7 @@ returns-in-3 c =
     let part_at : ℕ = c.args.words.now # 1 in
     record {
       sized_2 = c.requires.sized;
-      f_origin_after = jacobian-made run-at c.args.reply memory-at (place.at-jacobian (part_at
-          c) c.in-3.is);
+      f_origin_after = jacobian-made run-at c.args.reply memory-at (place.at-jacobian part_at c.in-3.is);
     }
 
 pub returns-in-4 : goal.returns-in-4
@@ -274,7 +290,8 @@ returns-in-4 c =
     let run-at : Run = run_at c.args.words.now c.args.doubles.now in
     let newton-at : Newton = let a = c.args in newton a.z1.now a.z2.now a.z3.now a.f1.now a.f2.now a.f3.now in
     let factors-at : Factors = let a = c.args in factors a.e1.now a.e2r.now a.e2i.now a.ip1.now a.ip2.now in
-    let differences-at : Differences = let a = c.args in differences a.y_perturbed.now a.f_perturbed.now a.f_origin.now in
+    let differences-at : Differences = let a = c.args in differences a.y_perturbed.now a.f_perturbed.now a.f_origin.now
+    in
     let memory-at : Memory = let a = c.args in
     memory
     (amounts a.y.now a.f0.now a.scal.now a.cont.now)
@@ -296,7 +313,8 @@ returns-in-5 c =
     let run-at : Run = run_at c.args.words.now c.args.doubles.now in
     let newton-at : Newton = let a = c.args in newton a.z1.now a.z2.now a.z3.now a.f1.now a.f2.now a.f3.now in
     let factors-at : Factors = let a = c.args in factors a.e1.now a.e2r.now a.e2i.now a.ip1.now a.ip2.now in
-    let differences-at : Differences = let a = c.args in differences a.y_perturbed.now a.f_perturbed.now a.f_origin.now in
+    let differences-at : Differences = let a = c.args in differences a.y_perturbed.now a.f_perturbed.now a.f_origin.now
+    in
     let memory-at : Memory = let a = c.args in
     memory
     (amounts a.y.now a.f0.now a.scal.now a.cont.now)
@@ -317,7 +335,8 @@ returns-in-6 c =
     let run-at : Run = run_at c.args.words.now c.args.doubles.now in
     let newton-at : Newton = let a = c.args in newton a.z1.now a.z2.now a.z3.now a.f1.now a.f2.now a.f3.now in
     let factors-at : Factors = let a = c.args in factors a.e1.now a.e2r.now a.e2i.now a.ip1.now a.ip2.now in
-    let differences-at : Differences = let a = c.args in differences a.y_perturbed.now a.f_perturbed.now a.f_origin.now in
+    let differences-at : Differences = let a = c.args in differences a.y_perturbed.now a.f_perturbed.now a.f_origin.now
+    in
     let memory-at : Memory = let a = c.args in
     memory
     (amounts a.y.now a.f0.now a.scal.now a.cont.now)
@@ -338,7 +357,8 @@ returns-in-7 c =
     let run-at : Run = run_at c.args.words.now c.args.doubles.now in
     let newton-at : Newton = let a = c.args in newton a.z1.now a.z2.now a.z3.now a.f1.now a.f2.now a.f3.now in
     let factors-at : Factors = let a = c.args in factors a.e1.now a.e2r.now a.e2i.now a.ip1.now a.ip2.now in
-    let differences-at : Differences = let a = c.args in differences a.y_perturbed.now a.f_perturbed.now a.f_origin.now in
+    let differences-at : Differences = let a = c.args in differences a.y_perturbed.now a.f_perturbed.now a.f_origin.now
+    in
     let memory-at : Memory = let a = c.args in
     memory
     (amounts a.y.now a.f0.now a.scal.now a.cont.now)
@@ -350,9 +370,11 @@ returns-in-7 c =
     let a = c.args in
     record {
       sized_2 = c.conclude.ensures.sized_2;
-      f_origin_after = newton-3 run-at c.args.reply memory-at (round_at c.round-verdict.result (run_at c.round-verdict.new.words
+      f_origin_after = newton-3 run-at c.args.reply memory-at
+          (round_at c.round-verdict.result (run_at c.round-verdict.new.words
           c.round-verdict.new.doubles))
-          (newton c.round-verdict.new.z1 c.round-verdict.new.z2 c.round-verdict.new.z3 c.round-verdict.new.f1 c.round-verdict.new.f2 c.round-verdict.new.f3)
+          (newton c.round-verdict.new.z1 c.round-verdict.new.z2 c.round-verdict.new.z3 c.round-verdict.new.f1
+          c.round-verdict.new.f2 c.round-verdict.new.f3)
           _ (place.at-newton-3 part_at c.in-7.is) c.round-verdict.ensures.f3_after
           (c.conclude.ensures.d_after c.round-verdict.new.f3 a.rtol.now a.atol.now a.jac.now a.e2r.now a.e2i.now
           a.ip2.now differences-at);
@@ -363,7 +385,8 @@ returns-in-8 c =
     let run-at : Run = run_at c.args.words.now c.args.doubles.now in
     let newton-at : Newton = let a = c.args in newton a.z1.now a.z2.now a.z3.now a.f1.now a.f2.now a.f3.now in
     let factors-at : Factors = let a = c.args in factors a.e1.now a.e2r.now a.e2i.now a.ip1.now a.ip2.now in
-    let differences-at : Differences = let a = c.args in differences a.y_perturbed.now a.f_perturbed.now a.f_origin.now in
+    let differences-at : Differences = let a = c.args in differences a.y_perturbed.now a.f_perturbed.now a.f_origin.now
+    in
     let memory-at : Memory = let a = c.args in
     memory
     (amounts a.y.now a.f0.now a.scal.now a.cont.now)
@@ -372,14 +395,12 @@ returns-in-8 c =
     factors-at
     differences-at in
     let part_at : ℕ = c.args.words.now # 1 in
-    let at-match = c
-    in
-    let start = at-match.before.before.before.before.before.before.before.before.before.before.before.before.before.before.before.before.before.before.before.before.before.before.before.before in record {
+    record {
       sized_2 = c.refined.ensures.sized_2;
-      f_origin_after = refinement run-at start.args.reply memory-at (step_at c.refined.result (run_at
+      f_origin_after = refinement run-at c.args.reply memory-at (step_at c.refined.result (run_at
           c.refined.new.words c.refined.new.doubles))
           c.refined.new.y c.refined.new.cont
-          (place.at-refinement part_at at-match.match.keys8) (c.refined.ensures.cont_after start.args.f3.now);
+          (place.at-refinement part_at c.in-8.is) (c.refined.ensures.cont_after c.args.f3.now);
     }
 
 pub returns-in-9 : goal.returns-in-9
@@ -387,7 +408,8 @@ returns-in-9 c =
     let run-at : Run = run_at c.args.words.now c.args.doubles.now in
     let newton-at : Newton = let a = c.args in newton a.z1.now a.z2.now a.z3.now a.f1.now a.f2.now a.f3.now in
     let factors-at : Factors = let a = c.args in factors a.e1.now a.e2r.now a.e2i.now a.ip1.now a.ip2.now in
-    let differences-at : Differences = let a = c.args in differences a.y_perturbed.now a.f_perturbed.now a.f_origin.now in
+    let differences-at : Differences = let a = c.args in differences a.y_perturbed.now a.f_perturbed.now a.f_origin.now
+    in
     let memory-at : Memory = let a = c.args in
     memory
     (amounts a.y.now a.f0.now a.scal.now a.cont.now)
@@ -398,7 +420,8 @@ returns-in-9 c =
     let part_at : ℕ = c.args.words.now # 1 in
     record {
       sized_2 = c.ask_report.ensures.sized;
-      f_origin_after = accepted-there run-at c.args.reply memory-at (call_at c.ask_report.result (run_at c.ask_report.new.words c.ask_report.new.doubles))
+      f_origin_after = accepted-there run-at c.args.reply memory-at
+          (call_at c.ask_report.result (run_at c.ask_report.new.words c.ask_report.new.doubles))
           c.scaled.new.scal (place.at-accepted part_at c.in-9.is) c.ask_report.ensures.doubles_after
           (rw c.tolerances_at-tolerances.ensures at c.scaled.ensures);
     }
@@ -408,7 +431,8 @@ returns-in-10 c =
     let run-at : Run = run_at c.args.words.now c.args.doubles.now in
     let newton-at : Newton = let a = c.args in newton a.z1.now a.z2.now a.z3.now a.f1.now a.f2.now a.f3.now in
     let factors-at : Factors = let a = c.args in factors a.e1.now a.e2r.now a.e2i.now a.ip1.now a.ip2.now in
-    let differences-at : Differences = let a = c.args in differences a.y_perturbed.now a.f_perturbed.now a.f_origin.now in
+    let differences-at : Differences = let a = c.args in differences a.y_perturbed.now a.f_perturbed.now a.f_origin.now
+    in
     let memory-at : Memory = let a = c.args in
     memory
     (amounts a.y.now a.f0.now a.scal.now a.cont.now)
@@ -419,7 +443,9 @@ returns-in-10 c =
     let part_at : ℕ = c.args.words.now # 1 in
     record {
       sized_2 = c.returned.ensures.sized;
-      f_origin_after = report-answered run-at c.args.reply memory-at (heard_at c.reported-heard-in-10.result (run_at c.reported-heard-in-10.new.words c.reported-heard-in-10.new.doubles))
+      f_origin_after = report-answered run-at c.args.reply memory-at
+          (heard_at c.reported-heard-in-10.result
+          (run_at c.reported-heard-in-10.new.words c.reported-heard-in-10.new.doubles))
           (step_at c.returned.result (run_at c.returned.new.words c.returned.new.doubles)) (place.at-report
           part_at c.in-10.is) c.reported-heard-in-10.ensures.doubles_after c.returned.ensures.doubles_after;
     }
@@ -429,7 +455,8 @@ returns-in-11 c =
     let run-at : Run = run_at c.args.words.now c.args.doubles.now in
     let newton-at : Newton = let a = c.args in newton a.z1.now a.z2.now a.z3.now a.f1.now a.f2.now a.f3.now in
     let factors-at : Factors = let a = c.args in factors a.e1.now a.e2r.now a.e2i.now a.ip1.now a.ip2.now in
-    let differences-at : Differences = let a = c.args in differences a.y_perturbed.now a.f_perturbed.now a.f_origin.now in
+    let differences-at : Differences = let a = c.args in differences a.y_perturbed.now a.f_perturbed.now a.f_origin.now
+    in
     let memory-at : Memory = let a = c.args in
     memory
     (amounts a.y.now a.f0.now a.scal.now a.cont.now)
@@ -440,7 +467,8 @@ returns-in-11 c =
     let part_at : ℕ = c.args.words.now # 1 in
     record {
       sized_2 = c.arrived.ensures.sized;
-      f_origin_after = derivative-again run-at c.args.reply memory-at (step_at c.arrived.result (run_at c.arrived.new.words c.arrived.new.doubles))
+      f_origin_after = derivative-again run-at c.args.reply memory-at
+          (step_at c.arrived.result (run_at c.arrived.new.words c.arrived.new.doubles))
           (place.at-derivative-again part_at c.in-11.is) c.arrived.ensures.doubles_after;
     }
 
@@ -449,7 +477,8 @@ returns-in-12 c =
     let run-at : Run = run_at c.args.words.now c.args.doubles.now in
     let newton-at : Newton = let a = c.args in newton a.z1.now a.z2.now a.z3.now a.f1.now a.f2.now a.f3.now in
     let factors-at : Factors = let a = c.args in factors a.e1.now a.e2r.now a.e2i.now a.ip1.now a.ip2.now in
-    let differences-at : Differences = let a = c.args in differences a.y_perturbed.now a.f_perturbed.now a.f_origin.now in
+    let differences-at : Differences = let a = c.args in differences a.y_perturbed.now a.f_perturbed.now a.f_origin.now
+    in
     let memory-at : Memory = let a = c.args in
     memory
     (amounts a.y.now a.f0.now a.scal.now a.cont.now)
@@ -460,7 +489,8 @@ returns-in-12 c =
     let part_at : ℕ = c.args.words.now # 1 in
     record {
       sized_2 = c.ended.ensures.sized;
-      f_origin_after = ended-already run-at c.args.reply memory-at _ (call_at c.ended.result (run_at c.ended.new.words c.ended.new.doubles))
+      f_origin_after = ended-already run-at c.args.reply memory-at _
+          (call_at c.ended.result (run_at c.ended.new.words c.ended.new.doubles))
           (place.at_ended part_at c.in-12.is) (rw c.status_at-status.ensures at c.ended.ensures.doubles_after);
     }
 
@@ -469,7 +499,8 @@ returns-in_default c =
     let run-at : Run = run_at c.args.words.now c.args.doubles.now in
     let newton-at : Newton = let a = c.args in newton a.z1.now a.z2.now a.z3.now a.f1.now a.f2.now a.f3.now in
     let factors-at : Factors = let a = c.args in factors a.e1.now a.e2r.now a.e2i.now a.ip1.now a.ip2.now in
-    let differences-at : Differences = let a = c.args in differences a.y_perturbed.now a.f_perturbed.now a.f_origin.now in
+    let differences-at : Differences = let a = c.args in differences a.y_perturbed.now a.f_perturbed.now a.f_origin.now
+    in
     let memory-at : Memory = let a = c.args in
     memory
     (amounts a.y.now a.f0.now a.scal.now a.cont.now)
@@ -482,8 +513,8 @@ returns-in_default c =
       sized_2 = c.ask_first_report.ensures.sized;
       f_origin_after = first-derivative run-at c.args.reply memory-at (call_at c.ask_first_report.result
           (run_at c.ask_first_report.new.words c.ask_first_report.new.doubles))
-          (place.at-first-derivative part_at c.in_default.rest.0.0.0.0.0.0.0.0.0.0.0.1
-          c.in_default.rest.0.0.0.0.0.0.0.0.0.0.1 c.in_default.rest.0.0.0.0.0.0.0.0.0.1 c.in_default.rest.0.0.0.0.0.0.0.0.1 c.in_default.rest.0.0.0.0.0.0.0.1
-          c.in_default.rest.0.0.0.0.0.0.1 c.in_default.rest.0.0.0.0.0.1 c.in_default.rest.0.0.0.0.1 c.in_default.rest.0.0.0.1 c.in_default.rest.0.0.1 c.in_default.rest.0.1 c.in_default.rest.1)
+          (place.at-first-derivative part_at (omega arith)
+          (omega arith) (omega arith) (omega arith) (omega arith)
+          (omega arith) (omega arith) (omega arith) (omega arith) (omega arith) (omega arith) (omega arith))
           c.ask_first_report.ensures.doubles_after;
     }

@@ -1,5 +1,4 @@
 -- `returned` meets its contract.
-use borrow.Author.Rules.{rules}
 use Rattle.solve_blocks.specs.Advance.{returned_of}
 use Rattle.radau_core.proofs.advance.returned.Goals as goal
 

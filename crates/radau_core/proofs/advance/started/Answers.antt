@@ -1,7 +1,6 @@
 -- `started` meets its contract.
 use mathlib.Core.Path.{ap}
 use native.Mathlib.Omega.{arith}
-use borrow.Author.Rules.{rules}
 use Rattle.state.specs.Memory.{memory, amounts, given}
 use Rattle.solve_blocks.proofs.AdvanceLaws.{started-asked, started-on, heard-fits}
 use Rattle.radau_core.specs.declared.step.Heard.{Heard}

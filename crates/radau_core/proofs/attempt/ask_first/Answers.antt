@@ -1,5 +1,4 @@
 -- `ask_first` meets its contract.
-use borrow.Author.Rules.{rules}
 use Rattle.radau_core.proofs.attempt.ask_first.Goals as goal
 
 pub ask_stage-requires : goal.ask_stage-requires

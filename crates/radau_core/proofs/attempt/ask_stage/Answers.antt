@@ -1,7 +1,6 @@
 -- `ask_stage` meets its contract: the sum, one more request counted, and the stage that waits for the reply.
 use mathlib.Core.Path.{refl}
 use lib.ListN.{length-set}
-use borrow.Author.Rules.{rules}
 use Rattle.solve_blocks.specs.Attempt.{ask_stage_of}
 use Rattle.radau_core.proofs.PlaceLaws.{words-at, resized}
 use Rattle.radau_core.proofs.attempt.ask_stage.Goals as goal

@@ -1,7 +1,6 @@
 -- `attempt` meets its contract: the ways out are those of solve_blocks/proofs/AttemptLaws.antt.
 use mathlib.Core.Path.{refl}
 use lib.ListN.{length-set}
-use borrow.Author.Rules.{rules}
 use Rattle.state.specs.Memory.{newton}
 use Rattle.solve_blocks.proofs.AttemptLaws.{counted-fit, attempt-over, attempt-small, attempt-begun}
 use Rattle.radau_core.specs.Places.{run_at}
@@ -15,12 +14,11 @@ pub ended-requires-then-abs-doubles : goal.ended-requires-then-abs-doubles
 ended-requires-then-abs-doubles c = resized c.requires.sized (simp length-set) refl
 
 pub began-requires : goal.began-requires
-began-requires c = let others = rw (words-at c.requires.sized) (counted-fit c.requires.fit, c.requires.y_len) in
-    record {
-      sized = resized c.requires.sized (simp length-set) refl;
-      fit = others.0;
-      y_len = others.1;
-    }
+began-requires c = record {
+  sized = resized c.requires.sized (simp length-set) refl;
+  fit = rw (words-at c.requires.sized) (counted-fit c.requires.fit);
+  y_len = rw (words-at c.requires.sized) c.requires.y_len;
+}
 
 pub returns-then-most-total : goal.returns-then-most-total
 returns-then-most-total c = let a = c.args in record {

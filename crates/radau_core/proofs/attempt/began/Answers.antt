@@ -1,7 +1,6 @@
 -- `began` meets its contract: its four calls are the definition's, by solve_blocks/proofs/AttemptLaws.antt.
 use mathlib.Core.Path.{ap, sym, subst}
 use native.Mathlib.Omega.{arith}
-use borrow.Author.Rules.{rules}
 use Rattle.state.specs.declared.run.Run.{Run}
 use Rattle.state.specs.Memory.{newton}
 use Rattle.solve_blocks.specs.Needs.{Fit}
@@ -10,7 +9,7 @@ use Rattle.radau_core.specs.Places.{run_at}
 use Rattle.radau_core.proofs.attempt.began.Goals as goal
 
 pub weighted-requires : goal.weighted-requires
-weighted-requires c = rw c.shape_at-shape.ensures (omega (arith, (c.requires.fit, c.requires.y_len)))
+weighted-requires c = rw c.shape_at-shape.ensures (omega (arith, c.requires.fit, c.requires.y_len))
 
 pub started-requires : goal.started-requires
 started-requires c = c.requires.sized

@@ -1,5 +1,4 @@
 -- `guess` meets its contract: zeros, or the loop's guess.
-use borrow.Author.Rules.{rules}
 use Rattle.words.proofs.Branch.{no}
 use Rattle.state.specs.Memory.{newton}
 use Rattle.solve_blocks.specs.Attempt.{guess_of}

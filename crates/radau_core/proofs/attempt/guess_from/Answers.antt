@@ -1,13 +1,9 @@
 -- `guess_from` meets its contract: its loop is the definition's, over the six parts at once.
-use Prim.Native.Nat.{◌-◌}
 use mathlib.Core.Path.{refl}
 use native.Mathlib.Omega.{arith}
 use lib.ListN.{length-set}
-use borrow.Author.Rules.{rules}
-use Rattle.words.proofs.Loops.{Ran, begun, turned, ended}
-use Rattle.state.specs.Memory.{newton}
+use Rattle.words.proofs.Loops.{begun, turned, ended}
 use Rattle.solve_blocks.specs.Attempt.{guess_at}
-use Rattle.solve_blocks.specs.Needs.{NewtonLong}
 use Rattle.radau_core.proofs.attempt.guess_from.Goals as goal
 
 pub loop-i-init : goal.loop-i-init

@@ -1,9 +1,8 @@
 -- `stage_sum` meets its contract: its loop is the definition's.
-use Prim.Native.Nat.{◌-◌}
 use mathlib.Core.Path.{refl}
 use native.Mathlib.Omega.{arith}
 use lib.ListN.{length-set}
-use Rattle.words.proofs.Loops.{Ran, Long, begun, turned, ended}
+use Rattle.words.proofs.Loops.{begun, turned, ended}
 use Rattle.solve_blocks.specs.Attempt.{stage_sum_at}
 use Rattle.radau_core.proofs.attempt.stage_sum.Goals as goal
 

@@ -1,9 +1,5 @@
 -- What each loop of `stage_sum` keeps.
-use Prim.Native.Nat.{◌-◌}
-use mathlib.Core.Path.{refl}
-use native.Mathlib.Omega.{arith}
-use lib.ListN.{length-set}
-use Rattle.words.proofs.Loops.{Ran, Long, begun, turned, ended}
+use Rattle.words.proofs.Loops.{Ran, Long}
 use Rattle.solve_blocks.specs.Attempt.{stage_sum_at}
 use Rattle.radau_core.proofs.attempt.stage_sum.Given as goal
 

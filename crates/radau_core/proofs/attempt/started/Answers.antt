@@ -1,7 +1,5 @@
 -- `started` meets its contract.
-use mathlib.Core.Path.{refl}
 use lib.ListN.{length-set}
-use borrow.Author.Rules.{rules}
 use Rattle.radau_core.proofs.PlaceLaws.{words-at, doubles-at, resized}
 use Rattle.radau_core.proofs.attempt.started.Goals as goal
 

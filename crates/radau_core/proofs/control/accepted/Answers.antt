@@ -1,7 +1,6 @@
 -- `accepted` meets its contract: the way is that of solve_blocks/proofs/JudgeLaws.antt.
 use mathlib.Core.Path.{refl, ap}
 use lib.ListN.{length-set}
-use borrow.Author.Rules.{rules}
 use native.Mathlib.Omega.{arith}
 use Rattle.state.specs.declared.run.Counts.{Counts}
 use Rattle.solve_blocks.proofs.JudgeLaws.{accepted-by, remembered-counts}

@@ -1,5 +1,4 @@
 -- `between` meets its contract.
-use borrow.Author.Rules.{rules}
 use Rattle.solve_blocks.specs.Judge.{between}
 use Rattle.radau_core.proofs.control.between.Goals as goal
 

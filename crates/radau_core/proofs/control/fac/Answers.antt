@@ -1,5 +1,4 @@
 -- `fac` meets its contract.
-use borrow.Author.Rules.{rules}
 use Rattle.solve_blocks.specs.Judge.{fac_of}
 use Rattle.radau_core.proofs.control.fac.Goals as goal
 

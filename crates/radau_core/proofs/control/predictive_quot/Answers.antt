@@ -1,6 +1,5 @@
 -- `predictive_quot` meets its contract.
 use mathlib.Core.Path.{refl}
-use borrow.Author.Rules.{rules}
 use Rattle.words.proofs.Branch.{yes, no}
 use Rattle.solve_blocks.specs.Judge.{predictive_quot}
 use Rattle.radau_core.proofs.control.predictive_quot.Goals as goal

@@ -1,5 +1,4 @@
 -- `quot` meets its contract.
-use borrow.Author.Rules.{rules}
 use Rattle.solve_blocks.specs.Judge.{quot_of}
 use Rattle.radau_core.proofs.control.quot.Goals as goal
 

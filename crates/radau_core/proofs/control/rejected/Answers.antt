@@ -1,7 +1,6 @@
 -- `rejected` meets its contract.
 use mathlib.Core.Path.{refl}
 use lib.ListN.{length-set}
-use borrow.Author.Rules.{rules}
 use Rattle.words.proofs.Branch.{yes, no}
 use Rattle.solve_blocks.specs.Judge.{rejected_of}
 use Rattle.radau_core.proofs.PlaceLaws.{words-at, doubles-at, resized, flag-set, flag-clear}
@@ -17,7 +16,8 @@ pub returns-then-words-ne0 : goal.returns-then-words-ne0
 unfolding rejected_of
 returns-then-words-ne0 c = record {
   sized_2 = c.missed.ensures.sized;
-  doubles_after = yes _ _ _ (flag-set c.if-words-ne0.true) (rw (c.missed.ensures.doubles_after, doubles-at c.requires.sized));
+  doubles_after = yes _ _ _ (flag-set c.if-words-ne0.true)
+      (rw (c.missed.ensures.doubles_after, doubles-at c.requires.sized));
 }
 
 pub returns : goal.returns

@@ -1,7 +1,6 @@
 -- `remembered` meets its contract.
 use mathlib.Core.Path.{refl}
 use lib.ListN.{length-set}
-use borrow.Author.Rules.{rules}
 use Rattle.words.proofs.Branch.{yes, no}
 use Rattle.radau_core.proofs.PlaceLaws.{doubles-at, resized, flag-set, flag-clear}
 use Rattle.radau_core.proofs.control.remembered.Goals as goal

@@ -1,8 +1,7 @@
 -- `all_finite` meets its contract: its loop is the definition's.
-use Prim.Native.Nat.{◌-◌}
 use mathlib.Core.Path.{refl}
 use native.Mathlib.Omega.{arith}
-use Rattle.words.proofs.Loops.{Ran, Any, begun, turned, ended}
+use Rattle.words.proofs.Loops.{begun, turned, ended}
 use Rattle.solve_blocks.specs.Reordered.{finite_at, all_finite}
 use Rattle.radau_core.proofs.entries.all_finite.Goals as goal
 

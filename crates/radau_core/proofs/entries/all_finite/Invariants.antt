@@ -1,9 +1,6 @@
 -- What each loop of `all_finite` keeps.
-use Prim.Native.Nat.{◌-◌}
-use mathlib.Core.Path.{refl}
-use native.Mathlib.Omega.{arith}
-use Rattle.words.proofs.Loops.{Ran, Any, begun, turned, ended}
-use Rattle.solve_blocks.specs.Reordered.{finite_at, all_finite}
+use Rattle.words.proofs.Loops.{Ran, Any}
+use Rattle.solve_blocks.specs.Reordered.{finite_at}
 use Rattle.radau_core.proofs.entries.all_finite.Given as goal
 
 abbrev pub invariant-loop-j : goal.invariant-loop-j

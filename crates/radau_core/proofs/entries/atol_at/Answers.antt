@@ -1,5 +1,4 @@
 -- `atol_at` meets its contract.
-use borrow.Author.Rules.{rules}
 use Rattle.solve_blocks.specs.Entries.{atol_at}
 use Rattle.radau_core.proofs.entries.atol_at.Goals as goal
 

@@ -1,5 +1,4 @@
 -- `mass_at` meets its contract.
-use borrow.Author.Rules.{rules}
 use borrow.Author.Tests.{eq-eqb, ne_eqb}
 use Rattle.words.proofs.Branch.{pick_yes, pick_no}
 use Rattle.solve_blocks.specs.Entries.{mass_at}

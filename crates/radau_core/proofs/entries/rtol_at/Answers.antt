@@ -1,5 +1,4 @@
 -- `rtol_at` meets its contract.
-use borrow.Author.Rules.{rules}
 use Rattle.solve_blocks.specs.Entries.{rtol_at}
 use Rattle.radau_core.proofs.entries.rtol_at.Goals as goal
 

@@ -1,7 +1,6 @@
 -- `store` meets its contract.
 use mathlib.Core.Path.{refl}
 use native.Mathlib.Omega.{arith}
-use borrow.Author.Rules.{rules}
 use Rattle.words.proofs.Grid.{cell}
 use Rattle.words.specs.Grid.{put}
 use Rattle.radau_core.proofs.entries.store.Goals as goal

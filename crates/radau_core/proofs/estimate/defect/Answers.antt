@@ -1,5 +1,4 @@
 -- `defect` meets its contract.
-use borrow.Author.Rules.{rules}
 use Rattle.solve_blocks.specs.Estimate.{defect_of}
 use Rattle.radau_core.proofs.estimate.defect.Goals as goal
 

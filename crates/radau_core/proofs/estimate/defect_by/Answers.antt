@@ -1,11 +1,8 @@
 -- `defect_by` meets its contract: its loop is the definition's.
-use Prim.Native.Nat.{◌-◌}
 use mathlib.Core.Path.{refl}
 use native.Mathlib.Omega.{arith}
 use lib.ListN.{length-set}
-use borrow.Author.Rules.{rules}
-use Rattle.words.proofs.Loops.{Ran, begun, turned, ended, Long}
-use Rattle.solve_blocks.specs.Entries.{three}
+use Rattle.words.proofs.Loops.{begun, turned, ended}
 use Rattle.solve_blocks.specs.Estimate.{defect_at}
 use Rattle.radau_core.proofs.estimate.defect_by.Goals as goal
 

@@ -1,5 +1,4 @@
 -- `error` meets its contract.
-use borrow.Author.Rules.{rules}
 use Rattle.solve_blocks.specs.Estimate.{error_of}
 use Rattle.radau_core.proofs.estimate.error.Goals as goal
 

@@ -1,7 +1,5 @@
 -- `error_sides` meets its contract: the short way, where f1 is finite under Identity, leaves what the sums leave.
 use mathlib.Core.Path.{sym, ◌∙◌}
-use native.Mathlib.Omega.{arith}
-use borrow.Author.Rules.{rules}
 use Rattle.solve_blocks.proofs.ReorderedLaws.{identity-sides}
 use Rattle.radau_core.proofs.estimate.error_sides.Goals as goal
 

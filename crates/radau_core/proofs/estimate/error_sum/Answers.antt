@@ -1,8 +1,7 @@
 -- `error_sum` meets its contract: its loop is the definition's.
-use Prim.Native.Nat.{◌-◌}
 use mathlib.Core.Path.{refl}
 use native.Mathlib.Omega.{arith}
-use Rattle.words.proofs.Loops.{Ran, begun, turned, ended, Any}
+use Rattle.words.proofs.Loops.{begun, turned, ended}
 use Rattle.solve_blocks.specs.Estimate.{error_at}
 use Rattle.radau_core.proofs.estimate.error_sum.Goals as goal
 

@@ -1,8 +1,5 @@
 -- What each loop of `error_sum` keeps.
-use Prim.Native.Nat.{◌-◌}
-use mathlib.Core.Path.{refl}
-use native.Mathlib.Omega.{arith}
-use Rattle.words.proofs.Loops.{Ran, begun, turned, ended, Any}
+use Rattle.words.proofs.Loops.{Ran, Any}
 use Rattle.solve_blocks.specs.Estimate.{error_at}
 use Rattle.radau_core.proofs.estimate.error_sum.Given as goal
 

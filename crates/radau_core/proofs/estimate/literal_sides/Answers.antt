@@ -1,12 +1,9 @@
 -- `literal_sides` meets its contract: its loop is the definition's, over both lists at once.
-use Prim.Native.Nat.{◌-◌}
 use mathlib.Core.Path.{refl}
 use native.Mathlib.Omega.{arith}
 use lib.ListN.{length-set}
-use borrow.Author.Rules.{rules}
-use Rattle.words.proofs.Loops.{Ran, begun, turned, ended}
-use Rattle.solve_blocks.specs.Estimate.{Sides, sides, side_at, sides_of}
-use Rattle.solve_blocks.proofs.JudgeLaws.{Both}
+use Rattle.words.proofs.Loops.{begun, turned, ended}
+use Rattle.solve_blocks.specs.Estimate.{side_at, sides_of}
 use Rattle.radau_core.proofs.estimate.literal_sides.Goals as goal
 
 pub loop-i-init : goal.loop-i-init

@@ -1,14 +1,10 @@
 -- What each loop of `literal_sides` keeps.
-use Prim.Native.Nat.{◌-◌}
-use mathlib.Core.Path.{refl}
-use native.Mathlib.Omega.{arith}
-use lib.ListN.{length-set}
-use borrow.Author.Rules.{rules}
-use Rattle.words.proofs.Loops.{Ran, begun, turned, ended}
-use Rattle.solve_blocks.specs.Estimate.{Sides, sides, side_at, sides_of}
+use Rattle.words.proofs.Loops.{Ran}
+use Rattle.solve_blocks.specs.Estimate.{Sides, sides, side_at}
 use Rattle.solve_blocks.proofs.JudgeLaws.{Both}
 use Rattle.radau_core.proofs.estimate.literal_sides.Given as goal
 
 abbrev pub invariant-loop-i : goal.invariant-loop-i
-invariant-loop-i l = Ran (side_at l.mode l.n l.mass l.f0 l.f1) (λ (s : Sides). Both s.f2 s.cont l.initial.f2 l.initial.cont)
+invariant-loop-i l = Ran (side_at l.mode l.n l.mass l.f0 l.f1) (λ (s : Sides). Both s.f2 s.cont l.initial.f2
+    l.initial.cont)
     0 l.n l.i (sides l.initial.f2 l.initial.cont) (sides l.f2 l.cont)

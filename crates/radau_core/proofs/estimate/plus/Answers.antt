@@ -1,9 +1,8 @@
 -- `plus` meets its contract: its loop is the definition's.
-use Prim.Native.Nat.{◌-◌}
 use mathlib.Core.Path.{refl}
 use native.Mathlib.Omega.{arith}
 use lib.ListN.{length-set}
-use Rattle.words.proofs.Loops.{Ran, begun, turned, ended, Long}
+use Rattle.words.proofs.Loops.{begun, turned, ended}
 use Rattle.solve_blocks.specs.Estimate.{plus_at}
 use Rattle.radau_core.proofs.estimate.plus.Goals as goal
 

@@ -1,10 +1,6 @@
 -- What each loop of `row_sum` keeps.
-use Prim.Native.Nat.{◌-◌}
-use mathlib.Core.Path.{refl}
-use native.Mathlib.Omega.{arith}
-use borrow.Author.Rules.{rules}
-use Rattle.words.proofs.Loops.{Ran, begun, turned, ended, Any}
-use Rattle.solve_blocks.specs.Estimate.{row_at, row_sum}
+use Rattle.words.proofs.Loops.{Ran, Any}
+use Rattle.solve_blocks.specs.Estimate.{row_at}
 use Rattle.radau_core.proofs.estimate.row_sum.Given as goal
 
 abbrev pub invariant-loop-j : goal.invariant-loop-j

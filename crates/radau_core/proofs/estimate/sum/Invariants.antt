@@ -1,9 +1,5 @@
 -- What each loop of `sum` keeps.
-use Prim.Native.Nat.{◌-◌}
-use mathlib.Core.Path.{refl}
-use native.Mathlib.Omega.{arith}
-use lib.ListN.{length-set}
-use Rattle.words.proofs.Loops.{Ran, begun, turned, ended, Long}
+use Rattle.words.proofs.Loops.{Ran, Long}
 use Rattle.solve_blocks.specs.Estimate.{sum_at}
 use Rattle.radau_core.proofs.estimate.sum.Given as goal
 

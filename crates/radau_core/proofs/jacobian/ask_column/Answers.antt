@@ -1,5 +1,4 @@
 -- `ask_column` meets its contract.
-use borrow.Author.Rules.{rules}
 use Rattle.solve_blocks.specs.Jacobian.{ask_column_of}
 use Rattle.radau_core.proofs.jacobian.ask_column.Goals as goal
 

@@ -1,6 +1,5 @@
 -- `ask_jacobian` meets its contract.
 use mathlib.Core.Path.{◌≡◌, ap, sym, ◌∙◌}
-use borrow.Author.Rules.{rules}
 use Rattle.state.specs.declared.run.Run.{Run}
 use Rattle.state.specs.declared.run.Stage.TheVariants as stage
 use Rattle.state.specs.declared.talk.Place.{Place}
@@ -45,5 +44,6 @@ returns-in-Differences c = record {
         c.requires.words_bound.3,
         c.requires.words_bound.4,
       )
-      (same-but-run (c.at_stage-in-Differences.ensures.doubles_after ∙ ap (at_stage (stage.Column 0)) c.wanted.ensures.doubles_after)));
+      (same-but-run (c.at_stage-in-Differences.ensures.doubles_after ∙ ap (at_stage (stage.Column 0))
+      c.wanted.ensures.doubles_after)));
 }

@@ -3,7 +3,6 @@ use Prim.Native.Nat.{◌-◌}
 use mathlib.Core.Path.{refl}
 use native.Mathlib.Omega.{arith}
 use lib.ListN.{length-set}
-use borrow.Author.Rules.{rules}
 use Rattle.solve_blocks.proofs.JacobianLaws.{column-first, column-next, column-last}
 use Rattle.radau_core.proofs.jacobian.column.Goals as goal
 

@@ -1,8 +1,5 @@
 -- `copy` meets its contract: a turn copies one more entry.
-use Prim.Native.Nat.{◌-◌}
-use native.Mathlib.Omega.{arith}
-use lib.ListN.{length}
-use Rattle.solve_blocks.proofs.JacobianLaws.{Copied, copying, copied_next, copied}
+use Rattle.solve_blocks.proofs.JacobianLaws.{copying, copied_next, copied}
 use Rattle.radau_core.proofs.jacobian.copy.Goals as goal
 
 pub loop-i-init : goal.loop-i-init

@@ -1,8 +1,7 @@
 -- What each loop of `copy` keeps.
 use Prim.Native.Nat.{◌-◌}
-use native.Mathlib.Omega.{arith}
 use lib.ListN.{length}
-use Rattle.solve_blocks.proofs.JacobianLaws.{Copied, copying, copied_next, copied}
+use Rattle.solve_blocks.proofs.JacobianLaws.{Copied}
 use Rattle.radau_core.proofs.jacobian.copy.Given as goal
 
 abbrev pub invariant-loop-i : goal.invariant-loop-i

@@ -1,5 +1,4 @@
 -- `perturbation` meets its contract.
-use borrow.Author.Rules.{rules}
 use Rattle.solve_blocks.specs.Jacobian.{perturbation}
 use Rattle.radau_core.proofs.jacobian.perturbation.Goals as goal
 

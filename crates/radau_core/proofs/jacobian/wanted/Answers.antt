@@ -1,7 +1,6 @@
 -- `wanted` meets its contract.
 use mathlib.Core.Path.{refl}
 use lib.ListN.{length-set}
-use borrow.Author.Rules.{rules}
 use Rattle.radau_core.proofs.PlaceLaws.{words-at, resized}
 use Rattle.radau_core.proofs.jacobian.wanted.Goals as goal
 

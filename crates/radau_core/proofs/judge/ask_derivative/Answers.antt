@@ -1,7 +1,6 @@
 -- `ask_derivative` meets its contract.
 use mathlib.Core.Path.{refl}
 use lib.ListN.{length-set}
-use borrow.Author.Rules.{rules}
 use Rattle.radau_core.proofs.PlaceLaws.{words-at, resized}
 use Rattle.radau_core.proofs.judge.ask_derivative.Goals as goal
 

@@ -1,7 +1,6 @@
 -- `estimate` meets its contract: the way is that of solve_blocks/proofs/JudgeLaws.antt.
 use mathlib.Core.Path.{ap, sym, subst}
 use native.Mathlib.Omega.{arith}
-use borrow.Author.Rules.{rules}
 use Rattle.state.specs.declared.run.Run.{Run}
 use Rattle.solve_blocks.specs.Needs.{Fit}
 use Rattle.solve_blocks.proofs.JudgeLaws.{estimate-by}
@@ -10,13 +9,13 @@ use Rattle.radau_core.specs.Places.{run_at}
 use Rattle.radau_core.proofs.judge.estimate.Goals as goal
 
 pub solve_first-requires : goal.solve_first-requires
-solve_first-requires c = omega (arith, (c.requires.fit, c.requires.z1_len), c.error_sides.auto)
+solve_first-requires c = omega (arith, c.requires.fit, c.requires.z1_len, c.error_sides.auto)
 
 pub error-err-requires : goal.error-err-requires
 error-err-requires c = (
-  omega (arith, (c.requires.sized, c.requires.fit, c.requires.z1_len)),
-  omega (arith, (c.requires.sized, c.requires.fit, c.requires.z1_len)),
-  omega (arith, (c.requires.sized, c.requires.fit, c.requires.z1_len), c.error_sides.auto, c.solve_first.auto),
+  omega (arith, c.requires),
+  omega (arith, c.requires),
+  omega (arith, c.requires, c.error_sides.auto, c.solve_first.auto),
 )
 
 pub counted-requires : goal.counted-requires
@@ -30,11 +29,11 @@ tested-requires c = let e = ap (λ (r : Run). r.shape.n) c.counted.ensures.doubl
   sized = c.counted.ensures.sized_2;
   fit = subst (λ (r : Run). Fit 1 r.shape.n r) (sym c.counted.ensures.doubles_after) (counted-fit c.requires.fit.0);
   z1_len = (
-    omega (arith, (c.requires.sized, c.requires.fit, c.requires.z1_len), e),
-    omega (arith, (c.requires.sized, c.requires.fit, c.requires.z1_len), e),
-    omega (arith, (c.requires.sized, c.requires.fit, c.requires.z1_len), e),
-    omega (arith, (c.requires.sized, c.requires.fit, c.requires.z1_len), e),
-    omega (arith, (c.requires.sized, c.requires.fit, c.requires.z1_len), e, c.error_sides.auto, c.solve_first.auto),
+    omega (arith, c.requires, e),
+    omega (arith, c.requires, e),
+    omega (arith, c.requires, e),
+    omega (arith, c.requires, e),
+    omega (arith, c.requires, e, c.error_sides.auto, c.solve_first.auto),
   );
 }
 

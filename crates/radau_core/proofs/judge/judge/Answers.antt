@@ -1,7 +1,6 @@
 -- `judge` meets its contract: the ways out are those of solve_blocks/proofs/JudgeLaws.antt.
 use mathlib.Core.Path.{refl}
 use lib.ListN.{length-set}
-use borrow.Author.Rules.{rules}
 use Rattle.solve_blocks.specs.Entries.{three}
 use Rattle.solve_blocks.proofs.JudgeLaws.{accepted-room, judge-accepted, judge-rejected}
 use Rattle.radau_core.specs.Places.{run_at}

@@ -1,12 +1,9 @@
 -- `moved` meets its contract: its loop is the definition's, over both lists at once.
-use Prim.Native.Nat.{◌-◌}
 use mathlib.Core.Path.{refl}
 use native.Mathlib.Omega.{arith}
 use lib.ListN.{length-set}
-use Rattle.words.proofs.Loops.{Ran, begun, turned, ended}
-use Rattle.solve_blocks.specs.Entries.{three}
-use Rattle.solve_blocks.specs.Judge.{Moved, moved, move_at, moved_of}
-use Rattle.solve_blocks.proofs.JudgeLaws.{Both}
+use Rattle.words.proofs.Loops.{begun, turned, ended}
+use Rattle.solve_blocks.specs.Judge.{move_at, moved_of}
 use Rattle.radau_core.proofs.judge.moved.Goals as goal
 
 pub loop-i-init : goal.loop-i-init

@@ -1,6 +1,5 @@
 -- `refined` meets its contract: the way is that of solve_blocks/proofs/JudgeLaws.antt.
 use mathlib.Core.Path.{◌∙◌}
-use borrow.Author.Rules.{rules}
 use Rattle.solve_blocks.proofs.JudgeLaws.{refined-by}
 use Rattle.radau_core.specs.Places.{run_at}
 use Rattle.radau_core.proofs.judge.refined.Goals as goal

@@ -1,6 +1,5 @@
 -- `tested` meets its contract: the ways out are those of solve_blocks/proofs/JudgeLaws.antt.
 use mathlib.Core.Path.{◌∙◌}
-use borrow.Author.Rules.{rules}
 use Rattle.solve_blocks.specs.Entries.{three}
 use Rattle.solve_blocks.proofs.JudgeLaws.{tested-asked, tested-judged}
 use Rattle.radau_core.specs.Places.{run_at}

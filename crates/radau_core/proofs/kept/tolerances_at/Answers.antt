@@ -1,7 +1,6 @@
 -- `tolerances_at` meets its contract.
 use mathlib.Core.Path.{refl}
 use borrow.Author.Tests.{eq-eqb, ne_eqb}
-use borrow.Author.Rules.{rules}
 use Rattle.words.proofs.Branch.{yes, no}
 use Rattle.radau_core.specs.Choices.{tolerances_of}
 use Rattle.radau_core.proofs.kept.tolerances_at.Goals as goal

@@ -1,11 +1,9 @@
 -- `build_full` meets its contract: its loop is the definition's, over the three matrices at once.
-use Prim.Native.Nat.{◌-◌, ◌*◌}
 use mathlib.Core.Path.{refl}
 use native.Mathlib.Omega.{arith}
-use Rattle.words.proofs.Loops.{Ran, begun, turned, ended}
-use Rattle.solve_blocks.specs.Entries.{three}
+use Rattle.words.proofs.Loops.{begun, turned, ended}
 use Rattle.solve_blocks.specs.Reordered.{full_at}
-use Rattle.solve_blocks.proofs.MatrixLaws.{Squares, at_most}
+use Rattle.solve_blocks.proofs.MatrixLaws.{at_most}
 use Rattle.radau_core.proofs.matrices.build_full.Goals as goal
 
 pub overflow_mul-count : goal.overflow_mul-count

@@ -1,6 +1,4 @@
 -- `build_identity` meets its contract.
-use native.Mathlib.Omega.{arith}
-use borrow.Author.Rules.{rules}
 use Rattle.solve_blocks.specs.Reordered.{identity_built}
 use Rattle.radau_core.proofs.matrices.build_identity.Goals as goal
 

@@ -1,7 +1,5 @@
 -- `built` meets its contract: each of its two ways leaves what the definition leaves.
 use mathlib.Core.Path.{◌∙◌}
-use native.Mathlib.Omega.{arith}
-use borrow.Author.Rules.{rules}
 use Rattle.solve_blocks.proofs.ReorderedLaws.{full-built, identity-built}
 use Rattle.radau_core.proofs.matrices.built.Goals as goal
 

@@ -1,6 +1,5 @@
 -- `make` meets its contract.
 use mathlib.Core.Path.{refl}
-use borrow.Author.Rules.{rules}
 use Rattle.solve_blocks.specs.Reordered.{made_at}
 use Rattle.radau_core.proofs.matrices.make.Goals as goal
 

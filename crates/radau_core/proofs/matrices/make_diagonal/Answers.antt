@@ -1,12 +1,9 @@
 -- `make_diagonal` meets its contract: its loop is the definition's, over the three matrices at once.
-use Prim.Native.Nat.{◌-◌}
 use mathlib.Core.Path.{refl}
 use native.Mathlib.Omega.{arith}
-use Rattle.words.proofs.Loops.{Ran, begun, turned, ended}
+use Rattle.words.proofs.Loops.{begun, turned, ended}
 use Rattle.words.proofs.Grid.{cell}
-use Rattle.solve_blocks.specs.Entries.{three}
 use Rattle.solve_blocks.specs.Reordered.{diagonal_at}
-use Rattle.solve_blocks.proofs.MatrixLaws.{Squares}
 use Rattle.radau_core.proofs.matrices.make_diagonal.Goals as goal
 
 pub overflow_mul-r : goal.overflow_mul-r

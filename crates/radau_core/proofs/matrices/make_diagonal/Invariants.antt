@@ -1,13 +1,10 @@
 -- What each loop of `make_diagonal` keeps.
-use Prim.Native.Nat.{◌-◌}
-use mathlib.Core.Path.{refl}
-use native.Mathlib.Omega.{arith}
-use Rattle.words.proofs.Loops.{Ran, begun, turned, ended}
-use Rattle.words.proofs.Grid.{cell}
+use Rattle.words.proofs.Loops.{Ran}
 use Rattle.solve_blocks.specs.Entries.{three}
 use Rattle.solve_blocks.specs.Reordered.{diagonal_at}
 use Rattle.solve_blocks.proofs.MatrixLaws.{Squares}
 use Rattle.radau_core.proofs.matrices.make_diagonal.Given as goal
 
 abbrev pub invariant-loop-r : goal.invariant-loop-r
-invariant-loop-r l = Ran (diagonal_at l.n l.a l.b l.c l.jac) (Squares l.n) 0 l.n l.r (three l.initial.e1 l.initial.e2r l.initial.e2i) (three l.e1 l.e2r l.e2i)
+invariant-loop-r l = Ran (diagonal_at l.n l.a l.b l.c l.jac) (Squares l.n) 0 l.n l.r
+    (three l.initial.e1 l.initial.e2r l.initial.e2i) (three l.e1 l.e2r l.e2i)

@@ -1,11 +1,8 @@
 -- `make_plain` meets its contract: its loop is the definition's, over the three matrices at once.
-use Prim.Native.Nat.{◌-◌, ◌*◌}
 use mathlib.Core.Path.{refl}
 use native.Mathlib.Omega.{arith}
-use Rattle.words.proofs.Loops.{Ran, begun, turned, ended}
-use Rattle.solve_blocks.specs.Entries.{three}
-use Rattle.solve_blocks.specs.Reordered.{made_at}
-use Rattle.solve_blocks.proofs.MatrixLaws.{Squares, at_most}
+use Rattle.words.proofs.Loops.{begun, turned, ended}
+use Rattle.solve_blocks.proofs.MatrixLaws.{at_most}
 use Rattle.radau_core.proofs.matrices.make_plain.Goals as goal
 
 pub overflow_mul-count : goal.overflow_mul-count

@@ -1,11 +1,9 @@
 -- `add` meets its contract: its loop is the definition's.
-use Prim.Native.Nat.{◌-◌}
 use mathlib.Core.Path.{refl}
 use native.Mathlib.Omega.{arith}
-use Rattle.words.proofs.Loops.{Ran, begun, turned, ended}
-use Rattle.solve_blocks.specs.Entries.{three}
+use Rattle.words.proofs.Loops.{begun, turned, ended}
 use Rattle.solve_blocks.specs.Newton.{add_at}
-use Rattle.solve_blocks.proofs.ThreeLaws.{ThreeLong, three-set}
+use Rattle.solve_blocks.proofs.ThreeLaws.{three-set}
 use Rattle.radau_core.proofs.newton.add.Goals as goal
 
 pub loop-i-init : goal.loop-i-init

@@ -1,12 +1,10 @@
 -- What each loop of `add` keeps.
-use Prim.Native.Nat.{◌-◌}
-use mathlib.Core.Path.{refl}
-use native.Mathlib.Omega.{arith}
-use Rattle.words.proofs.Loops.{Ran, begun, turned, ended}
+use Rattle.words.proofs.Loops.{Ran}
 use Rattle.solve_blocks.specs.Entries.{three}
 use Rattle.solve_blocks.specs.Newton.{add_at}
-use Rattle.solve_blocks.proofs.ThreeLaws.{ThreeLong, three-set}
+use Rattle.solve_blocks.proofs.ThreeLaws.{ThreeLong}
 use Rattle.radau_core.proofs.newton.add.Given as goal
 
 abbrev pub invariant-loop-i : goal.invariant-loop-i
-invariant-loop-i l = Ran (add_at (three l.z1 l.z2 l.z3)) (ThreeLong l.n) 0 l.n l.i (three l.initial.f1 l.initial.f2 l.initial.f3) (three l.f1 l.f2 l.f3)
+invariant-loop-i l = Ran (add_at (three l.z1 l.z2 l.z3)) (ThreeLong l.n) 0 l.n l.i
+    (three l.initial.f1 l.initial.f2 l.initial.f3) (three l.f1 l.f2 l.f3)

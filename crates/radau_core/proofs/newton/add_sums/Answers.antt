@@ -1,6 +1,5 @@
 -- `add_sums` meets its contract.
 use mathlib.Core.Path.{refl}
-use borrow.Author.Rules.{rules}
 use Rattle.solve_blocks.specs.Newton.{add_sums}
 use Rattle.radau_core.proofs.newton.add_sums.Goals as goal
 

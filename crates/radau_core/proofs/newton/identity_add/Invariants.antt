@@ -1,13 +1,10 @@
 -- What each loop of `identity_add` keeps.
-use Prim.Native.Nat.{◌-◌}
-use mathlib.Core.Path.{refl}
-use native.Mathlib.Omega.{arith}
-use borrow.Author.Rules.{rules}
-use Rattle.words.proofs.Loops.{Ran, begun, turned, ended}
+use Rattle.words.proofs.Loops.{Ran}
 use Rattle.solve_blocks.specs.Entries.{three}
 use Rattle.solve_blocks.specs.Reordered.{identity_add_at}
 use Rattle.solve_blocks.proofs.ThreeLaws.{ThreeLong}
 use Rattle.radau_core.proofs.newton.identity_add.Given as goal
 
 abbrev pub invariant-loop-i : goal.invariant-loop-i
-invariant-loop-i l = Ran (identity_add_at (three l.f1 l.f2 l.f3) l.fac1 l.alphn l.betan) (ThreeLong l.n) 0 l.n l.i (three l.initial.z1 l.initial.z2 l.initial.z3) (three l.z1 l.z2 l.z3)
+invariant-loop-i l = Ran (identity_add_at (three l.f1 l.f2 l.f3) l.fac1 l.alphn l.betan) (ThreeLong l.n) 0 l.n l.i
+    (three l.initial.z1 l.initial.z2 l.initial.z3) (three l.z1 l.z2 l.z3)

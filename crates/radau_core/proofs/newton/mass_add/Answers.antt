@@ -1,7 +1,5 @@
 -- `mass_add` meets its contract: the short way, where f1, f2, f3 are finite under Identity, leaves what the sums leave.
 use mathlib.Core.Path.{◌∙◌}
-use native.Mathlib.Omega.{arith}
-use borrow.Author.Rules.{rules}
 use Rattle.solve_blocks.proofs.ReorderedLaws.{identity-adds}
 use Rattle.radau_core.proofs.newton.mass_add.Goals as goal
 

@@ -1,11 +1,8 @@
 -- `mass_sums` meets its contract: its loop is the definition's.
-use Prim.Native.Nat.{◌-◌}
 use mathlib.Core.Path.{refl}
 use native.Mathlib.Omega.{arith}
-use borrow.Author.Rules.{rules}
-use Rattle.words.proofs.Loops.{Ran, Any, begun, turned, ended}
-use Rattle.solve_blocks.specs.Entries.{three}
-use Rattle.solve_blocks.specs.Newton.{sums, mass_sum_at, mass_sums}
+use Rattle.words.proofs.Loops.{begun, turned, ended}
+use Rattle.solve_blocks.specs.Newton.{mass_sum_at, mass_sums}
 use Rattle.radau_core.proofs.newton.mass_sums.Goals as goal
 
 pub loop-j-init : goal.loop-j-init

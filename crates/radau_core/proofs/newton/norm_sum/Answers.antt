@@ -1,10 +1,7 @@
 -- `norm_sum` meets its contract: its loop is the definition's.
-use Prim.Native.Nat.{◌-◌}
 use mathlib.Core.Path.{refl}
 use native.Mathlib.Omega.{arith}
-use borrow.Author.Rules.{rules}
-use Rattle.words.proofs.Loops.{Ran, Any, begun, turned, ended}
-use Rattle.solve_blocks.specs.Entries.{three}
+use Rattle.words.proofs.Loops.{begun, turned, ended}
 use Rattle.solve_blocks.specs.Newton.{norm_at}
 use Rattle.radau_core.proofs.newton.norm_sum.Goals as goal
 

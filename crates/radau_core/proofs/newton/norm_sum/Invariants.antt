@@ -1,9 +1,5 @@
 -- What each loop of `norm_sum` keeps.
-use Prim.Native.Nat.{◌-◌}
-use mathlib.Core.Path.{refl}
-use native.Mathlib.Omega.{arith}
-use borrow.Author.Rules.{rules}
-use Rattle.words.proofs.Loops.{Ran, Any, begun, turned, ended}
+use Rattle.words.proofs.Loops.{Ran, Any}
 use Rattle.solve_blocks.specs.Entries.{three}
 use Rattle.solve_blocks.specs.Newton.{norm_at}
 use Rattle.radau_core.proofs.newton.norm_sum.Given as goal

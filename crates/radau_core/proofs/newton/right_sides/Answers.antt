@@ -1,5 +1,4 @@
 -- `right_sides` meets its contract.
-use native.Mathlib.Omega.{arith}
 use borrow.Author.Rules.{rules}
 use Rattle.solve_blocks.specs.Newton.{right_sides}
 use Rattle.radau_core.proofs.newton.right_sides.Goals as goal

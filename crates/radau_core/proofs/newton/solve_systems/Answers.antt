@@ -1,6 +1,4 @@
 -- `solve_systems` meets its contract.
-use native.Mathlib.Omega.{arith}
-use borrow.Author.Rules.{rules}
 use Rattle.solve_blocks.specs.Newton.{solved_of}
 use Rattle.radau_core.proofs.newton.solve_systems.Goals as goal
 

@@ -1,12 +1,9 @@
 -- `transform` meets its contract: its loop is the definition's.
-use Prim.Native.Nat.{◌-◌}
 use mathlib.Core.Path.{refl}
 use native.Mathlib.Omega.{arith}
-use borrow.Author.Rules.{rules}
-use Rattle.words.proofs.Loops.{Ran, begun, turned, ended}
-use Rattle.solve_blocks.specs.Entries.{three}
+use Rattle.words.proofs.Loops.{begun, turned, ended}
 use Rattle.solve_blocks.specs.Newton.{transform_at}
-use Rattle.solve_blocks.proofs.ThreeLaws.{ThreeLong, three-set}
+use Rattle.solve_blocks.proofs.ThreeLaws.{three-set}
 use Rattle.radau_core.proofs.newton.transform.Goals as goal
 
 pub loop-i-init : goal.loop-i-init

@@ -1,13 +1,10 @@
 -- What each loop of `transform` keeps.
-use Prim.Native.Nat.{◌-◌}
-use mathlib.Core.Path.{refl}
-use native.Mathlib.Omega.{arith}
-use borrow.Author.Rules.{rules}
-use Rattle.words.proofs.Loops.{Ran, begun, turned, ended}
+use Rattle.words.proofs.Loops.{Ran}
 use Rattle.solve_blocks.specs.Entries.{three}
 use Rattle.solve_blocks.specs.Newton.{transform_at}
-use Rattle.solve_blocks.proofs.ThreeLaws.{ThreeLong, three-set}
+use Rattle.solve_blocks.proofs.ThreeLaws.{ThreeLong}
 use Rattle.radau_core.proofs.newton.transform.Given as goal
 
 abbrev pub invariant-loop-i : goal.invariant-loop-i
-invariant-loop-i l = Ran transform_at (ThreeLong l.n) 0 l.n l.i (three l.initial.z1 l.initial.z2 l.initial.z3) (three l.z1 l.z2 l.z3)
+invariant-loop-i l = Ran transform_at (ThreeLong l.n) 0 l.n l.i (three l.initial.z1 l.initial.z2 l.initial.z3)
+    (three l.z1 l.z2 l.z3)

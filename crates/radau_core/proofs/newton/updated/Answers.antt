@@ -1,6 +1,4 @@
 -- `updated` meets its contract.
-use native.Mathlib.Omega.{arith}
-use borrow.Author.Rules.{rules}
 use Rattle.solve_blocks.specs.Newton.{updated_of}
 use Rattle.radau_core.proofs.newton.updated.Goals as goal
 

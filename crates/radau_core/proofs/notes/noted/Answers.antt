@@ -1,7 +1,6 @@
 -- `noted` meets its contract.
 use mathlib.Core.Path.{refl}
 use lib.ListN.{length-set}
-use borrow.Author.Rules.{rules}
 use Rattle.radau_core.proofs.PlaceLaws.{words-at, resized, singular-back}
 use Rattle.radau_core.proofs.notes.noted.Goals as goal
 

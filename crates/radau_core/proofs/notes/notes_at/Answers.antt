@@ -1,5 +1,4 @@
 -- `notes_at` meets its contract.
-use borrow.Author.Rules.{rules}
 use Rattle.radau_core.proofs.notes.notes_at.Goals as goal
 
 pub returns : goal.returns

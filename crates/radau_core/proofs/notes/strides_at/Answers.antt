@@ -1,7 +1,6 @@
 -- `strides_at` meets its contract.
 use mathlib.Core.Path.{refl}
 use borrow.Author.Tests.{eq-eqb, ne_eqb}
-use borrow.Author.Rules.{rules}
 use Rattle.words.proofs.Branch.{yes, no}
 use Rattle.radau_core.specs.Choices.{strides_of}
 use Rattle.radau_core.proofs.notes.strides_at.Goals as goal

@@ -4,7 +4,6 @@ use mathlib.Core.Path.{◌≡◌, ap, ◌∙◌}
 use mathlib.Core.List.{List}
 use lib.ListN.{set, length-set}
 use lib.Ieee.{Float}
-use borrow.Author.Rules.{rules}
 use Rattle.words.specs.Words.{◌!◌}
 use Rattle.scalar.specs.Order.{abs_of}
 use Rattle.state.specs.declared.run.Strides.{Strides}

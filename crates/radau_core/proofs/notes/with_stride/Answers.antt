@@ -1,6 +1,5 @@
 -- `with_stride` meets its contract.
 use mathlib.Core.Path.{refl, sym, ◌∙◌}
-use borrow.Author.Rules.{rules}
 use Rattle.words.proofs.Branch.{yes, no}
 use Rattle.scalar.proofs.Tests.{differs}
 use Rattle.solve_blocks.specs.Judge.{with_stride}

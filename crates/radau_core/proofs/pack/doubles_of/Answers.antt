@@ -1,5 +1,4 @@
 -- `doubles_of` meets its contract.
-use borrow.Author.Rules.{rules}
 use Rattle.radau_core.proofs.pack.doubles_of.Goals as goal
 
 pub returns : goal.returns

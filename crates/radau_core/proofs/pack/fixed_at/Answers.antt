@@ -1,5 +1,4 @@
 -- `fixed_at` meets its contract.
-use borrow.Author.Rules.{rules}
 use Rattle.radau_core.proofs.pack.fixed_at.Goals as goal
 
 pub returns : goal.returns

@@ -1,5 +1,4 @@
 -- `numbers_at` meets its contract.
-use borrow.Author.Rules.{rules}
 use Rattle.radau_core.proofs.pack.numbers_at.Goals as goal
 
 pub returns : goal.returns

@@ -1,5 +1,4 @@
 -- `run_at` meets its contract.
-use borrow.Author.Rules.{rules}
 use Rattle.radau_core.proofs.pack.run_at.Goals as goal
 
 pub returns : goal.returns
@@ -10,6 +9,6 @@ returns c = rw (
   c.counts_at.ensures,
   c.control_at.ensures,
   c.numbers_at.ensures,
-  c.before.Stage-at.ensures,
+  c.stage_at.ensures,
   c.notes_at.ensures,
 )

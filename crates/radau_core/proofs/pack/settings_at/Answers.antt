@@ -1,5 +1,4 @@
 -- `settings_at` meets its contract.
-use borrow.Author.Rules.{rules}
 use Rattle.words.specs.Words.{◌!◌}
 use Rattle.radau_core.specs.Choices.{flag_of}
 use Rattle.radau_core.specs.Places.{◌#◌}

@@ -3,7 +3,6 @@ use mathlib.Core.Path.{refl}
 use borrow.Author.Tests.{eq-eqb, ne_eqb}
 use Rattle.words.proofs.Branch.{yes, no}
 use Rattle.radau_core.specs.Choices.{whole_of}
-use borrow.Author.Rules.{rules}
 use Rattle.radau_core.proofs.pack.whole_at.Goals as goal
 
 pub returns-then-given-eq0 : goal.returns-then-given-eq0

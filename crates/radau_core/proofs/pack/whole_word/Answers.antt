@@ -1,5 +1,4 @@
 -- `whole_word` meets its contract.
-use borrow.Author.Rules.{rules}
 use Rattle.state.specs.Settings.{or_none}
 use Rattle.radau_core.proofs.pack.whole_word.Goals as goal
 

@@ -1,6 +1,5 @@
 -- `words_of` meets its contract: each choice by its word.
 use mathlib.Core.List.{[], ◌∷◌}
-use borrow.Author.Rules.{rules}
 use Rattle.radau_core.proofs.pack.words_of.Goals as goal
 
 pub returns : goal.returns

@@ -1,8 +1,7 @@
 -- `failed` meets its contract: the sixth failure ends the run, another halves the step.
-use mathlib.Core.Path.{refl, ap}
+use mathlib.Core.Path.{refl}
 use borrow.Author.Tests.{lt-ltb, le-ltb}
 use lib.ListN.{length-set}
-use borrow.Author.Rules.{rules}
 use Rattle.words.proofs.Branch.{yes, no}
 use Rattle.solve_blocks.specs.Matrices.{failed_of}
 use Rattle.radau_core.proofs.PlaceLaws.{words-at, doubles-at, resized}
@@ -18,7 +17,8 @@ pub returns-then-singular_count-gt5 : goal.returns-then-singular_count-gt5
 unfolding failed_of
 returns-then-singular_count-gt5 c = record {
   sized_2 = c.ended.ensures.sized;
-  doubles_after = yes _ _ _ (lt-ltb _ _ c.if-singular_count-gt5.true) (rw (c.ended.ensures.doubles_after, words-at c.requires.sized));
+  doubles_after = yes _ _ _ (lt-ltb _ _ c.if-singular_count-gt5.true)
+      (rw (c.ended.ensures.doubles_after, words-at c.requires.sized));
 }
 
 pub returns : goal.returns

@@ -1,7 +1,6 @@
 -- `missed` meets its contract.
 use mathlib.Core.Path.{refl}
 use lib.ListN.{length-set}
-use borrow.Author.Rules.{rules}
 use Rattle.radau_core.proofs.PlaceLaws.{words-at, resized, flag-back}
 use Rattle.radau_core.proofs.passes.missed.Goals as goal
 

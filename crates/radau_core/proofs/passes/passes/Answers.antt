@@ -1,16 +1,11 @@
 -- `passes` meets its contract: its loop is the definition's without the events, left early where
-use Prim.Native.Nat.{◌-◌}
+-- no other pass is wanted.
 use mathlib.Core.Path.{refl, sym, ◌∙◌}
 use native.Mathlib.Omega.{arith}
 use borrow.Author.Tests.{not-true, not-false}
-use borrow.Author.Rules.{rules}
-use Rattle.words.proofs.Loops.{Ran, begun}
-use Rattle.state.specs.Memory.{factors}
-use Rattle.solve_blocks.specs.Matrices.{Tried, tried}
-use Rattle.solve_blocks.specs.Needs.{FactorsLong}
-use Rattle.solve_blocks.proofs.PassLaws.{passed, passes-turned, passes-stopped, passes-ended}
+use Rattle.words.proofs.Loops.{begun}
+use Rattle.solve_blocks.proofs.PassLaws.{passes-turned, passes-stopped, passes-ended}
 use Rattle.solve_blocks.proofs.FitLaws.{next-fit, pass-asks}
-use Rattle.radau_core.specs.Places.{run_at, Sized, step_at}
 use Rattle.radau_core.proofs.PlaceLaws.{run-back}
 use Rattle.radau_core.proofs.passes.passes.Goals as goal
 
@@ -26,7 +21,8 @@ returns-then-not-passes_on c = record {
 
 pub tried-s-requires : goal.tried-s-requires
 tried-s-requires c = let others = pass-asks (next-fit _ _ _ c.loop.invariant.1 c.requires.step_fit (omega arith)
-    (sym (c.passes_on.ensures c.loop.doubles) ∙ not-false c.passes_on.result c.if-not-passes_on.false-raw) (sym (run-back c.loop.s _)))
+    (sym (c.passes_on.ensures c.loop.doubles) ∙ not-false c.passes_on.result c.if-not-passes_on.false-raw)
+    (sym (run-back c.loop.s _)))
     c.requires.square.0 c.requires.square.1 c.loop.invariant.1.kept in
     record {
       sized = c.loop.invariant.0;
@@ -38,7 +34,8 @@ pub loop-preserved : goal.loop-preserved
 loop-preserved c = (
   c.tried-s.ensures.sized_2,
   passes-turned _ _ c.loop.invariant.1 (omega arith)
-      (sym (c.passes_on.ensures c.loop.doubles) ∙ not-false c.passes_on.result c.if-not-passes_on.false-raw) (sym (run-back c.loop.s _))
+      (sym (c.passes_on.ensures c.loop.doubles) ∙ not-false c.passes_on.result c.if-not-passes_on.false-raw)
+      (sym (run-back c.loop.s _))
       (omega (arith, c.loop.invariant.1.kept, c.tried-s.auto)) c.tried-s.ensures.ip2_after,
 )
 

@@ -1,5 +1,4 @@
 -- `passes-on` meets its contract, by the step's four variants.
-use borrow.Author.Rules.{rules}
 use Rattle.radau_core.proofs.PlaceLaws.{unflagged}
 use Rattle.radau_core.proofs.passes.passes_on.Goals as goal
 

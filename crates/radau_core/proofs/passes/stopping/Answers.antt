@@ -1,7 +1,6 @@
 -- `stopping` meets its contract.
 use Prim.Native.Nat.{◌≤◌}
 use mathlib.Core.Path.{sym, subst, ap, ◌∙◌}
-use borrow.Author.Rules.{rules}
 use Rattle.state.specs.declared.run.Run.{Run}
 use Rattle.solve_blocks.specs.Matrices.{failed_of}
 use Rattle.radau_core.proofs.passes.stopping.Goals as goal

@@ -1,5 +1,4 @@
 -- `tried` meets its contract: the matrices made and decomposed, or kept.
-use borrow.Author.Rules.{rules}
 use Rattle.state.specs.Memory.{factors}
 use Rattle.solve_blocks.proofs.PassLaws.{pass-made, pass_kept}
 use Rattle.radau_core.specs.Places.{run_at}

@@ -1,5 +1,4 @@
 -- `wished` meets its contract, by the two rules.
-use borrow.Author.Rules.{rules}
 use Rattle.solve_blocks.specs.Matrices.{wished_of}
 use Rattle.radau_core.proofs.PlaceLaws.{unflagged}
 use Rattle.radau_core.proofs.passes.wished.Goals as goal

@@ -1,7 +1,6 @@
 -- `arrived` meets its contract.
 use mathlib.Core.Path.{refl}
 use lib.ListN.{length-set}
-use borrow.Author.Rules.{rules}
 use Rattle.solve_blocks.specs.Report.{arrived_of}
 use Rattle.solve_blocks.proofs.LogLaws.{core-yes, core-no}
 use Rattle.radau_core.proofs.PlaceLaws.{words-at, doubles-at, resized, flag-set, flag-clear}
@@ -17,7 +16,8 @@ pub returns-then-words-ne0 : goal.returns-then-words-ne0
 unfolding arrived_of
 returns-then-words-ne0 c = record {
   sized = c.ended.ensures.sized;
-  doubles_after = core-yes _ _ (flag-set c.if-words-ne0.true) (rw (c.ended.ensures.doubles_after, doubles-at c.requires));
+  doubles_after = core-yes _ _ (flag-set c.if-words-ne0.true)
+      (rw (c.ended.ensures.doubles_after, doubles-at c.requires));
 }
 
 pub returns : goal.returns

@@ -1,5 +1,4 @@
 -- `ask_first_report` meets its contract.
-use borrow.Author.Rules.{rules}
 use Rattle.radau_core.proofs.report.ask_first_report.Goals as goal
 
 pub returns : goal.returns

@@ -1,5 +1,4 @@
 -- `ask_report` meets its contract.
-use borrow.Author.Rules.{rules}
 use Rattle.solve_blocks.specs.Report.{ask_report}
 use Rattle.radau_core.proofs.report.ask_report.Goals as goal
 

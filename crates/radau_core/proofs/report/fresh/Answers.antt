@@ -1,7 +1,5 @@
 -- `fresh` meets its contract.
-use mathlib.Core.Path.{refl}
 use lib.ListN.{length-set}
-use borrow.Author.Rules.{rules}
 use Rattle.radau_core.proofs.PlaceLaws.{words-at, doubles-at, resized, flag-back}
 use Rattle.radau_core.proofs.report.fresh.Goals as goal
 

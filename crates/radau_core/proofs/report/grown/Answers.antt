@@ -1,7 +1,5 @@
 -- `grown` meets its contract.
-use mathlib.Core.Path.{refl}
 use lib.ListN.{length-set}
-use borrow.Author.Rules.{rules}
 use Rattle.words.proofs.Branch.{yes, no}
 use Rattle.solve_blocks.specs.Report.{grown_of}
 use Rattle.radau_core.proofs.PlaceLaws.{words-at, doubles-at, resized}

@@ -1,5 +1,4 @@
 -- `hnew` meets its contract.
-use borrow.Author.Rules.{rules}
 use Rattle.words.proofs.Branch.{yes, no}
 use Rattle.solve_blocks.specs.Report.{hnew_of}
 use Rattle.radau_core.proofs.PlaceLaws.{flag-set, flag-clear}

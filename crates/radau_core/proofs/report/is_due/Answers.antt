@@ -1,7 +1,6 @@
 -- `is_due` meets its contract.
 use Rattle.words.specs.Loop.{pick}
 use borrow.Author.Tests.{eq-eqb, ne_eqb}
-use borrow.Author.Rules.{rules}
 use Rattle.solve_blocks.specs.Report.{is_due}
 use Rattle.radau_core.specs.Choices.{number_of}
 use Rattle.radau_core.proofs.report.is_due.Goals as goal

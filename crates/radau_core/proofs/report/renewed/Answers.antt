@@ -1,7 +1,6 @@
 -- `renewed` meets its contract.
 use mathlib.Core.Path.{refl}
 use lib.ListN.{length-set}
-use borrow.Author.Rules.{rules}
 use Rattle.solve_blocks.specs.Report.{renewed_of}
 use Rattle.solve_blocks.proofs.LogLaws.{core-yes, core-no}
 use Rattle.radau_core.proofs.PlaceLaws.{words-at, resized}

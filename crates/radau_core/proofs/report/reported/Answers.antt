@@ -1,7 +1,5 @@
 -- `reported` meets its contract: each reply has its own answer.
-use mathlib.Core.Path.{refl}
 use lib.ListN.{length-set}
-use borrow.Author.Rules.{rules}
 use Rattle.words.specs.Loop.{pick}
 use Rattle.solve_blocks.specs.Report.{reported_of}
 use Rattle.radau_core.specs.Choices.{number_of}

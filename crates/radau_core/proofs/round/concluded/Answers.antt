@@ -1,7 +1,6 @@
 -- `concluded` meets its contract.
 use mathlib.Core.Path.{refl}
 use lib.ListN.{length-set}
-use borrow.Author.Rules.{rules}
 use Rattle.solve_blocks.proofs.RoundLaws.{concluded-far, concluded-near}
 use Rattle.radau_core.specs.Places.{run_at}
 use Rattle.radau_core.proofs.PlaceLaws.{doubles-at, resized}

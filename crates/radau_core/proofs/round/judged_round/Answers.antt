@@ -1,5 +1,4 @@
 -- `judged_round` meets its contract.
-use borrow.Author.Rules.{rules}
 use Rattle.words.specs.Loop.{pick}
 use Rattle.solve_blocks.specs.Newton.{judged_round}
 use Rattle.solve_blocks.proofs.LogLaws.{core-yes, core-no}

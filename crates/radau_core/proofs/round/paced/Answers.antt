@@ -1,7 +1,6 @@
 -- `paced` meets its contract.
 use mathlib.Core.Path.{refl}
 use lib.ListN.{length-set}
-use borrow.Author.Rules.{rules}
 use Rattle.words.specs.Loop.{pick}
 use Rattle.solve_blocks.proofs.RoundLaws.{paced-on, paced-over, fit-numbers}
 use Rattle.radau_core.specs.Places.{run_at}

@@ -2,7 +2,6 @@
 use mathlib.Core.Path.{refl}
 use native.Mathlib.Omega.{arith}
 use lib.ListN.{length-set}
-use borrow.Author.Rules.{rules}
 use Rattle.words.specs.Loop.{pick}
 use Rattle.solve_blocks.proofs.RoundLaws.{predicted-slow, predicted-on, fit-numbers}
 use Rattle.radau_core.specs.Places.{run_at}

@@ -1,7 +1,6 @@
 -- `rate` meets its contract.
 use mathlib.Core.Path.{refl}
 use borrow.Author.Tests.{eq-eqb, ne_eqb}
-use borrow.Author.Rules.{rules}
 use Rattle.words.proofs.Branch.{yes, no}
 use Rattle.solve_blocks.specs.Newton.{rate_of}
 use Rattle.radau_core.proofs.round.rate.Goals as goal

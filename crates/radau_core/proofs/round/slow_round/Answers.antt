@@ -1,7 +1,6 @@
 -- `slow_round` meets its contract.
 use mathlib.Core.Path.{refl}
 use lib.ListN.{length-set}
-use borrow.Author.Rules.{rules}
 use Rattle.solve_blocks.specs.Newton.{slow_round}
 use Rattle.radau_core.proofs.PlaceLaws.{words-at, resized}
 use Rattle.radau_core.proofs.round.slow_round.Goals as goal

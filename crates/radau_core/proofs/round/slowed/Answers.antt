@@ -1,7 +1,6 @@
 -- `slowed` meets its contract.
 use native.Mathlib.Omega.{arith}
 use lib.ListN.{length-set}
-use borrow.Author.Rules.{rules}
 use Rattle.solve_blocks.proofs.RoundLaws.{slowed-by}
 use Rattle.radau_core.specs.Places.{run_at}
 use Rattle.radau_core.proofs.PlaceLaws.{words-at, doubles-at, resized}
@@ -27,5 +26,6 @@ returns c = record {
   sized_2 = c.slow_round.ensures.sized;
   doubles_after = slowed-by (run_at c.args.words.now c.args.doubles.now) c.args.dyth _ _ _
       c.min.ensures c.max-qnewt.ensures c.inverse_root-hhfac.ensures _
-      (rw (c.rule_mode-rule.ensures, words-at c.requires.sized, doubles-at c.requires.sized) at c.slow_round.ensures.doubles_after);
+      (rw (c.rule_mode-rule.ensures, words-at c.requires.sized, doubles-at c.requires.sized) at
+      c.slow_round.ensures.doubles_after);
 }

@@ -1,10 +1,8 @@
 -- `scaled` meets its contract: its loop is the definition's.
-use Prim.Native.Nat.{◌-◌}
 use mathlib.Core.Path.{refl}
 use native.Mathlib.Omega.{arith}
 use lib.ListN.{length-set}
-use borrow.Author.Rules.{rules}
-use Rattle.words.proofs.Loops.{Ran, Long, begun, turned, ended}
+use Rattle.words.proofs.Loops.{begun, turned, ended}
 use Rattle.solve_blocks.specs.Scale.{scale_at, scaled_of}
 use Rattle.radau_core.proofs.scale.scaled.Goals as goal
 

@@ -1,5 +1,4 @@
 -- `weighted` meets its contract: its two divisions are the definition's.
-use borrow.Author.Rules.{rules}
 use Rattle.solve_blocks.specs.Scale.{weighted_of}
 use Rattle.radau_core.proofs.scale.weighted.Goals as goal
 

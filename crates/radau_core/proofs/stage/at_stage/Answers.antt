@@ -1,7 +1,6 @@
 -- `at-stage` meets its contract.
 use mathlib.Core.Path.{refl}
 use lib.ListN.{length-set}
-use borrow.Author.Rules.{rules}
 use Rattle.radau_core.proofs.PlaceLaws.{words-at, resized, stage-back}
 use Rattle.radau_core.proofs.stage.at_stage.Goals as goal
 

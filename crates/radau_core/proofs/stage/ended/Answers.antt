@@ -1,5 +1,4 @@
 -- `ended` meets its contract.
-use borrow.Author.Rules.{rules}
 use Rattle.radau_core.proofs.stage.ended.Goals as goal
 
 pub returns : goal.returns

@@ -1,7 +1,7 @@
 -- `stage_at` meets its contract, number by number.
 use Prim.Native.Nat.{ℕ}
 use mathlib.Core.Path.{sym, ap, ◌∙◌}
-use borrow.Author.Rules.{rules}
+use native.Mathlib.Omega.{arith}
 use Rattle.state.specs.declared.run.Status.{Status}
 use Rattle.state.specs.declared.run.Stage.TheVariants as stage
 use Rattle.radau_core.specs.Places.{◌#◌}
@@ -71,5 +71,6 @@ returns-in-12 c =
 pub returns-in_default : goal.returns-in_default
 returns-in_default c =
     let part_at : ℕ = c.args.words.now # 1 in
-    sym (place.at-first-derivative part_at c.in_default.rest.0.0.0.0.0.0.0.0.0.0.0.1
-    c.in_default.rest.0.0.0.0.0.0.0.0.0.0.1 c.in_default.rest.0.0.0.0.0.0.0.0.0.1 c.in_default.rest.0.0.0.0.0.0.0.0.1 c.in_default.rest.0.0.0.0.0.0.0.1 c.in_default.rest.0.0.0.0.0.0.1 c.in_default.rest.0.0.0.0.0.1 c.in_default.rest.0.0.0.0.1 c.in_default.rest.0.0.0.1 c.in_default.rest.0.0.1 c.in_default.rest.0.1 c.in_default.rest.1)
+    sym (place.at-first-derivative part_at (omega arith)
+    (omega arith) (omega arith) (omega arith) (omega arith) (omega arith) (omega arith) (omega arith) (omega arith)
+    (omega arith) (omega arith) (omega arith))

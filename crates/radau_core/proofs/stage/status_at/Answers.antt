@@ -1,6 +1,5 @@
 -- `status_at` meets its contract.
-use Prim.Native.Nat.{ℕ}
-use mathlib.Core.Path.{refl, ap}
+use native.Mathlib.Omega.{arith}
 use borrow.Author.Tests.{ne_eqb}
 use Rattle.words.specs.Loop.{pick}
 use Rattle.radau_core.specs.Choices.{status_of}
@@ -25,8 +24,8 @@ returns-in-5 c = rw c.in-5.is
 pub returns-in_default : goal.returns-in_default
 unfolding status_of pick
 returns-in_default c = rw (
-  ne_eqb _ 1 c.in_default.rest.0.0.0.1,
-  ne_eqb _ 2 c.in_default.rest.0.0.1,
-  ne_eqb _ 3 c.in_default.rest.0.1,
-  ne_eqb _ 5 c.in_default.rest.1,
+  ne_eqb c.args.word 1 (omega arith),
+  ne_eqb c.args.word 2 (omega arith),
+  ne_eqb c.args.word 3 (omega arith),
+  ne_eqb c.args.word 5 (omega arith),
 )

@@ -1,4 +1,5 @@
 -- `table_entry` meets its contract: the const table is the definitions' list, which the test of TableLaws.antt went
+-- through.
 use mathlib.Core.Path.{refl}
 use borrow.Author.Rules.{rules}
 use Rattle.scalar.proofs.TableLaws.{coefficient-right-proof}

@@ -1,4 +1,5 @@
 -- `whole_digits` meets its contract: the digits that were taken, all of m but the last `left`
+-- pairs, have the root so far.
 use native.Mathlib.Omega.{arith}
 use Rattle.scalar.proofs.DigitLaws.{digits_of, two-more, no_shift, root-of-part}
 use Rattle.scalar.proofs.digits.whole_digits.Goals as goal

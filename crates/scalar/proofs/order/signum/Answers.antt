@@ -21,12 +21,14 @@ returns-then-x-3 c = one-is ∙ sign_above _ (sym (above_zero _) ∙ c.if-x-3.tr
 
 pub returns-then-x-4 : goal.returns-then-x-4
 returns-then-x-4 c =
-    let at_zero : fin (lt («1·0» ⊘ c.args.x) «0·0») 1 (pos 0) ≡ signum_of c.args.x = sign_zero _ (sym (differs _) ∙ c.if-x.false) (sym (below-zero _) ∙ c.if-x-2.false)
+    let at_zero : fin (lt («1·0» ⊘ c.args.x) «0·0») 1 (pos 0) ≡ signum_of c.args.x = sign_zero _
+    (sym (differs _) ∙ c.if-x.false) (sym (below-zero _) ∙ c.if-x-2.false)
     (sym (above_zero _) ∙ c.if-x-3.false) in
     minus_one_is ∙ ap (λ (s : Bool). fin s 1 (pos 0)) (sym c.if-x-4.true) ∙ at_zero
 
 pub returns : goal.returns
 returns c =
-    let at_zero : fin (lt («1·0» ⊘ c.args.x) «0·0») 1 (pos 0) ≡ signum_of c.args.x = sign_zero _ (sym (differs _) ∙ c.if-x.false) (sym (below-zero _) ∙ c.if-x-2.false)
+    let at_zero : fin (lt («1·0» ⊘ c.args.x) «0·0») 1 (pos 0) ≡ signum_of c.args.x = sign_zero _
+    (sym (differs _) ∙ c.if-x.false) (sym (below-zero _) ∙ c.if-x-2.false)
     (sym (above_zero _) ∙ c.if-x-3.false) in
     one-is ∙ ap (λ (s : Bool). fin s 1 (pos 0)) (sym c.if-x-4.false) ∙ at_zero

@@ -1,4 +1,5 @@
 -- `root_between` meets its contract. Its loop keeps two ends between which the root's pattern lies,
+-- and they end as neighbours.
 use mathlib.Core.Path.{sym, ◌∙◌}
 use native.Mathlib.Omega.{arith}
 use Rattle.scalar.proofs.RootSteps.{moved_up, moved_down, neighbours}

@@ -8,7 +8,8 @@ use Rattle.scalar.proofs.PatternLaws.{units-low, units-high}
 use Rattle.scalar.proofs.DigitLaws.{field-place}
 use Rattle.scalar.proofs.square_root.any_width.Goals as goal
 
-from_fields : (b : ℕ) → 2 ^ 52 ≤ b → b < infinity_pattern → FullWidth (units b) (2 ^ 52 + b % 2 ^ 52) (1073 + b / 2 ^ 52)
+from_fields : (b : ℕ) → 2 ^ 52 ≤ b → b < infinity_pattern → FullWidth (units b) (2 ^ 52 + b % 2 ^ 52)
+    (1073 + b / 2 ^ 52)
 from_fields b h g =
     record {
       same = field-place (2 ^ 52 + b % 2 ^ 52) (b / 2 ^ 52) (omega arith)

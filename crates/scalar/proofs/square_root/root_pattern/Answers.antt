@@ -28,7 +28,8 @@ pub returns-then-d : goal.returns-then-d
 returns-then-d c =
     let place : EvenPlace (units c.args.b) c.even_place-s.result.m c.even_place-s.result.w = c.even_place-s.ensures in
     let digits-fit : c.wide_root-d.result.q < 2 ^ 53 = near_fits _ _ _ place _ _ c.wide_root-d.ensures in
-    let d = c.before.before.before.before.before in (near-two _ _ _ place _ _ d.wide_root-d.ensures c.if-d.true, omega (arith, place.most, digits-fit))
+    let d = c.before.before.before.before.before in
+    (near-two _ _ _ place _ _ d.wide_root-d.ensures c.if-d.true, omega (arith, place.most, digits-fit))
 
 pub overflow_add-result-then-d-2 : goal.overflow_add-result-then-d-2
 overflow_add-result-then-d-2 c =
@@ -49,4 +50,5 @@ pub returns : goal.returns
 returns c =
     let place : EvenPlace (units c.args.b) c.even_place-s.result.m c.even_place-s.result.w = c.even_place-s.ensures in
     let digits-fit : c.wide_root-d.result.q < 2 ^ 53 = near_fits _ _ _ place _ _ c.wide_root-d.ensures in
-    let d = c.before.before.before.before.before.before.before in (near_none _ _ _ place _ _ d.wide_root-d.ensures c.if-d-2.false, omega (arith, place.most, digits-fit))
+    let d = c.before.before.before.before.before.before.before in
+    (near_none _ _ _ place _ _ d.wide_root-d.ensures c.if-d-2.false, omega (arith, place.most, digits-fit))

@@ -1,4 +1,5 @@
 -- `sqrt` meets its contract: each early return is a case of the definition; and every double fits binary64, so that
+-- what the definition gives is a root.
 use Prim.Native.Nat.{ℕ}
 use mathlib.Core.Path.{sym, ap, subst, ◌∙◌}
 use native.Mathlib.Omega.{arith}

@@ -6,4 +6,5 @@ use Rattle.sheet.specs.Reader.{over}
 use Rattle.sheet_write.proofs.copy.copy.Given as goal
 
 abbrev pub invariant-loop-i : goal.invariant-loop-i
-invariant-loop-i l = (l.i ≤ l.count) × (length l.out ≡ length l.initial.out) × (l.out ≡ over (take l.i l.from) l.initial.out)
+invariant-loop-i l =
+    (l.i ≤ l.count) × (length l.out ≡ length l.initial.out) × (l.out ≡ over (take l.i l.from) l.initial.out)

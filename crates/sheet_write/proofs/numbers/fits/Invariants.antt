@@ -8,4 +8,5 @@ use Rattle.sheet_write.proofs.numbers.fits.Given as goal
 
 abbrev pub invariant-loop-i : goal.invariant-loop-i
 invariant-loop-i l = (l.i ≤ l.count)
-    × (fit_of (kind_of l.phase l.species) l.i (drop l.i (take l.count l.values)) ≡ fit_of (kind_of l.phase l.species) 0 (take l.count l.values))
+    × (fit_of (kind_of l.phase l.species) l.i (drop l.i (take l.count l.values))
+    ≡ fit_of (kind_of l.phase l.species) 0 (take l.count l.values))

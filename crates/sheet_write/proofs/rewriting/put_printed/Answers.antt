@@ -10,7 +10,8 @@ use Rattle.sheet_write.proofs.RewriteLaws.{over-taken}
 use Rattle.sheet_write.proofs.rewriting.put_printed.Goals as goal
 
 pub slice_bounds-copy-end : goal.slice_bounds-copy-end
-slice_bounds-copy-end c = sym (ap length c.print-count.ensures.out_after ∙ length_over _ _ ∙ length-replicate {A = ℕ} 1024 0)
+slice_bounds-copy-end c =
+    sym (ap length c.print-count.ensures.out_after ∙ length_over _ _ ∙ length-replicate {A = ℕ} 1024 0)
 
 pub copy-requires : goal.copy-requires
 copy-requires c = let print = c.print-count in

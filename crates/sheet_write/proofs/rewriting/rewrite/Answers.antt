@@ -27,6 +27,7 @@ returns-in-Malformed c = let args = c.args in
 
 pub returns-in-TooLong : goal.returns-in-TooLong
 returns-in-TooLong c = let args = c.args in
-    let all = rewrote-long _ args.out.now _ c.put_printed-in-TooLong.ensures.out_after c.put_printed-in-TooLong.ensures.value
+    let all = rewrote-long _ args.out.now _
+    c.put_printed-in-TooLong.ensures.out_after c.put_printed-in-TooLong.ensures.value
     (sym c.read-reading.ensures.value ∙ c.in-TooLong.is) c.refused-in-TooLong.ensures in
     record { out_after = all.0; value = all.1 }

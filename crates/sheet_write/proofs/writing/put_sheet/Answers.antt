@@ -17,7 +17,8 @@ put_numbers-head-requires c = let l : length c.args.settings.now ≤ 8 = omega a
     }
 
 pub put_numbers-given-requires : goal.put_numbers-given-requires
-put_numbers-given-requires c = let few = (settings-few c.args.settings.now c.requires.settings_len.0 c.requires.fits.settings).1 in
+put_numbers-given-requires c =
+    let few = (settings-few c.args.settings.now c.requires.settings_len.0 c.requires.fits.settings).1 in
     record {
       count_in_bounds = (omega arith, omega (arith, c.put_numbers-head.ensures.upper_bound), omega arith);
       fit = c.requires.fits.amounts;
@@ -35,7 +36,8 @@ put_numbers-counted-requires c = let l : length c.args.count.now ≤ 1 = omega a
     }
 
 pub put_numbers-requires : goal.put_numbers-requires
-put_numbers-requires c = let few = (settings-few c.args.settings.now c.requires.settings_len.0 c.requires.fits.settings).1 in
+put_numbers-requires c =
+    let few = (settings-few c.args.settings.now c.requires.settings_len.0 c.requires.fits.settings).1 in
     let most = count-few c.args.count.now c.requires.settings_len.2 c.requires.fits.count in record {
       count_in_bounds = (
         omega arith,
@@ -60,8 +62,10 @@ returns c = let settings = c.args.settings.now in
     let l : length settings ≤ 8 = omega arith in
     let m : length count ≤ 1 = omega arith in
     record {
-      put = sheet-put settings (take (get_or settings 7 0) amounts) count (take (get_or count 0 0 * 5) listed) c.requires.fits
-          c.requires.settings_len.0 (length-take-le _ _ (omega arith)) c.requires.settings_len.2 (length-take-le _ _ (omega arith))
+      put = sheet-put settings (take (get_or settings 7 0) amounts) count (take (get_or count 0 0 * 5) listed)
+          c.requires.fits
+          c.requires.settings_len.0
+          (length-take-le _ _ (omega arith)) c.requires.settings_len.2 (length-take-le _ _ (omega arith))
           (rw (take_all 8 settings) at c.put_numbers-head.ensures.put) c.put_numbers-given.ensures.put
           (rw (take_all 1 count) at c.put_numbers-counted.ensures.put) c.put_numbers.ensures.put;
       upper_bound = omega (

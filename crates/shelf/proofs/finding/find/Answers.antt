@@ -15,37 +15,44 @@ loop-left-init c = (omega arith, refl)
 
 pub overflow_mul-at : goal.overflow_mul-at
 overflow_mul-at c =
-    let low : c.place_before-at.result ≤ 47 = omega (arith, before-low c.loop-left.at c.loop-left.invariant.0, c.place_before-at.ensures) in
+    let low : c.place_before-at.result ≤ 47 =
+    omega (arith, before-low c.loop-left.at c.loop-left.invariant.0, c.place_before-at.ensures) in
     omega (arith, low)
 
 pub offset_bounds-ends-at : goal.offset_bounds-ends-at
 offset_bounds-ends-at c =
-    let low : c.place_before-at.result ≤ 47 = omega (arith, before-low c.loop-left.at c.loop-left.invariant.0, c.place_before-at.ensures) in
+    let low : c.place_before-at.result ≤ 47 =
+    omega (arith, before-low c.loop-left.at c.loop-left.invariant.0, c.place_before-at.ensures) in
     omega (arith, low)
 
 pub bounds-ends-at : goal.bounds-ends-at
 bounds-ends-at c =
-    let low : c.place_before-at.result ≤ 47 = omega (arith, before-low c.loop-left.at c.loop-left.invariant.0, c.place_before-at.ensures) in
+    let low : c.place_before-at.result ≤ 47 =
+    omega (arith, before-low c.loop-left.at c.loop-left.invariant.0, c.place_before-at.ensures) in
     omega (arith, low)
 
 pub overflow_mul-at-in-loop-left : goal.overflow_mul-at-in-loop-left
 overflow_mul-at-in-loop-left c =
-    let low : c.place_before-at.result ≤ 47 = omega (arith, before-low c.loop-left.at c.loop-left.invariant.0, c.place_before-at.ensures) in
+    let low : c.place_before-at.result ≤ 47 =
+    omega (arith, before-low c.loop-left.at c.loop-left.invariant.0, c.place_before-at.ensures) in
     omega (arith, low)
 
 pub overflow_add-at : goal.overflow_add-at
 overflow_add-at c =
-    let low : c.place_before-at.result ≤ 47 = omega (arith, before-low c.loop-left.at c.loop-left.invariant.0, c.place_before-at.ensures) in
+    let low : c.place_before-at.result ≤ 47 =
+    omega (arith, before-low c.loop-left.at c.loop-left.invariant.0, c.place_before-at.ensures) in
     omega (arith, low)
 
 pub offset_bounds-ends-at-in-loop-left : goal.offset_bounds-ends-at-in-loop-left
 offset_bounds-ends-at-in-loop-left c =
-    let low : c.place_before-at.result ≤ 47 = omega (arith, before-low c.loop-left.at c.loop-left.invariant.0, c.place_before-at.ensures) in
+    let low : c.place_before-at.result ≤ 47 =
+    omega (arith, before-low c.loop-left.at c.loop-left.invariant.0, c.place_before-at.ensures) in
     omega (arith, low)
 
 pub bounds-ends-at-in-loop-left : goal.bounds-ends-at-in-loop-left
 bounds-ends-at-in-loop-left c =
-    let low : c.place_before-at.result ≤ 47 = omega (arith, before-low c.loop-left.at c.loop-left.invariant.0, c.place_before-at.ensures) in
+    let low : c.place_before-at.result ≤ 47 =
+    omega (arith, before-low c.loop-left.at c.loop-left.invariant.0, c.place_before-at.ensures) in
     omega (arith, low)
 
 pub returns-then-within : goal.returns-then-within
@@ -58,7 +65,8 @@ returns-then-within c = let args = c.args in
 
 pub loop-left-preserved : goal.loop-left-preserved
 loop-left-preserved c =
-    let low : c.place_before-at.result ≤ 47 = omega (arith, before-low c.loop-left.at c.loop-left.invariant.0, c.place_before-at.ensures) in
+    let low : c.place_before-at.result ≤ 47 =
+    omega (arith, before-low c.loop-left.at c.loop-left.invariant.0, c.place_before-at.ensures) in
     let at_place = c.before.before.before.before in let args = at_place.args in (
       low,
       ap (λ p. found_from args.x args.ends.now p (at_place.loop-left.left - 1)) at_place.place_before-at.ensures
