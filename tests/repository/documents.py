@@ -47,7 +47,7 @@ def declares(text, name):
     declared under this name."""
     word = re.escape(name)
     before = r"(?:abbrev |unfoldable )?(?:pub )?(?:extern \"C\" )?(?:record |data |fn |enum |struct |const )?"
-    return re.search(rf"^\s*{before}{word}(?=[\s:(])", text, re.M)
+    return re.search(rf"^\s*{before}{word}(?=[\s:(<])", text, re.M)
 
 
 def about_names(text):

@@ -23,13 +23,20 @@ import command
 ROOT = pathlib.Path(__file__).resolve().parents[2]
 SETTLES = "use Rattle.words.specs.Contract.{Settles}"
 FILE = "crates/{}/proofs/Determinism.antt"
-# What the first answer depends on standard input, which is no argument: their contracts are relations. The last three
-# ask that the run is fit, or what a plan is, and are for crates here, which prove it; what users call refuses
+# What the first answer depends on standard input, which is no argument: their contracts are relations, or say as much
+# as is known of any reader. Those of `Out` hand on to standard output, of which no contract speaks. The last three ask
+# that the run is fit, or what a plan is, and are for crates here, which prove it; what users call refuses
 # (docs/DECISIONS.md).
 UNSETTLED = {
     "replay::word::read_word": "reads standard input",
     "replay::word::read_words": "reads standard input",
     "replay::word::read_block": "reads standard input",
+    "replay::input::read_full": "reads standard input",
+    "replay::out::Out::new": "writes to standard output",
+    "replay::out::Out::write": "writes to standard output",
+    "replay::out::Out::decimal": "writes to standard output",
+    "replay::out::Out::hex": "writes to standard output",
+    "replay::out::Out::end": "writes to standard output",
     "sheet_input::reading::read_all": "reads standard input",
     "piece_input::reading::read_piece": "reads standard input",
     "radau_core::advance::advanced": "asks that the run is fit",
