@@ -40,8 +40,16 @@ fn take(given: &Path, archive: &Path) {
 fn make(archive: &Path) {
     let root = Path::new(env!("CARGO_MANIFEST_DIR")).join("..");
     let maker = root.join("tools").join("archive");
-    for part in ["crates", "crates.txt", "tools/archive"] {
+    for part in ["crates.txt", "tools/archive"] {
         println!("cargo:rerun-if-changed={}", root.join(part).display());
+    }
+    // Beside these parts of a crate stands what is made of it.
+    for entry in std::fs::read_dir(root.join("crates")).into_iter().flatten().flatten() {
+        for part in ["src", "specs", "proofs"].map(|part| entry.path().join(part)) {
+            if part.is_dir() {
+                println!("cargo:rerun-if-changed={}", part.display());
+            }
+        }
     }
     if !maker.is_file() {
         stop(

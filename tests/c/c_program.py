@@ -53,7 +53,6 @@ HEADER = ROOT / "include" / "elchepur.h"
 HOST_HEADER = ROOT / "include" / "elchepur_host.h"
 TARGET = ROOT / "target" / "c"
 ARCHIVE = TARGET / "libelchepur.a"
-STAMPS = ROOT / "target" / "stamp"  # where rt notes what it proved
 PROGRAMS = ("c_calls", "c_replay", "c_program", "c_sheets", "c_csv", "c_hosted", "c_endings")
 # No product and sum may become one operation: the Rust's host has two.
 FLAGS = ["-std=c99", "-O2", "-ffp-contract=off", "-Wall", "-Wextra", "-pedantic", "-Werror"]
@@ -152,7 +151,7 @@ def check_header():
 
 def leans_on(name):
     """The crates that it names in crates.txt."""
-    line = re.search(rf"^{name}:(.*)$", (ROOT / "crates.txt").read_text(), re.MULTILINE)
+    line = re.search(rf"^{name}(?: staticlib)?:(.*)$", (ROOT / "crates.txt").read_text(), re.MULTILINE)
     return line.group(1).split() if line else []
 
 
@@ -175,16 +174,14 @@ def is_later(made, name):
 
 
 def is_made():
-    """Whether the archive was made of the proved crates as they stand."""
-    stamps = {name: STAMPS / name for name in below()}
-    if not all(is_later(ARCHIVE, name) for name in exported.CRATES) or not all(is_later(stamp, name) for name,
-        stamp in stamps.items()):
-        return False
-    return all(stamp.stat().st_mtime <= ARCHIVE.stat().st_mtime for stamp in stamps.values())
+    """Whether the archive was made of the proved crates as they stand: tools/archive makes it of no others."""
+    return all(is_later(ARCHIVE, name) for name in [*exported.CRATES, *below()])
 
 
 def is_proved():
-    return is_made() or all(is_later(STAMPS / name, name) for name in [*exported.CRATES, *below()])
+    """Whether rt has built each crate, which it does of a proved one alone, of what stands there."""
+    own = {name: ROOT / "crates" / name / "out" / f"lib{name}.a" for name in exported.CRATES}
+    return is_made() or all(is_later(made, lower) for name, made in own.items() for lower in [name, *below()])
 
 
 def check_archive():

@@ -3,7 +3,7 @@
 
     tests/replays/replay_joined.py write             write crates/joined/stdin and stdout
     tests/replays/replay_joined.py check [PROGRAM]   make both anew and compare them with what is stored; with a
-                                                     program, as target/bin/joined, run it on every text too
+                                                     program, as crates/joined/out/joined, run it on every text too
 
 Exit status: 0 nothing differs; 1 something differs, and the first is shown; 2 wrong use.
 

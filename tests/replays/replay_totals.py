@@ -3,7 +3,7 @@
 
     tests/replays/replay_totals.py write             write crates/totals/stdin and stdout
     tests/replays/replay_totals.py check [PROGRAM]   make both anew and compare them with what is stored; with a
-                                                     program, as target/bin/totals, run it on every text too
+                                                     program, as crates/totals/out/totals, run it on every text too
 
 Exit status: 0 nothing differs; 1 something differs, and the first is shown; 2 wrong use.
 

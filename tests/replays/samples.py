@@ -237,11 +237,6 @@ def answers(folder):
 # ---- the files
 
 
-def camel(name):
-    head, *rest = name.split("_")
-    return head + "".join(word.capitalize() for word in rest)
-
-
 def digits(number):
     return str(number) if number < 100 else "0x" + "_".join(re.findall("....", f"{number:016x}"))
 
@@ -267,9 +262,9 @@ def operand_text():
     for name, value in operands().items():
         if isinstance(value, list):
             doubles = [f"double {digits(pattern_of(x))}" for x in value]
-            found.append(declared(camel(name), "List Float", listed(doubles)))
+            found.append(declared(name, "List Float", listed(doubles)))
         else:
-            found.append(declared(camel(name), "Float", f"double {digits(pattern_of(value))}"))
+            found.append(declared(name, "Float", f"double {digits(pattern_of(value))}"))
     return "".join(found)
 
 
@@ -282,10 +277,10 @@ TITLE = """\
 -- What the Rust's own lines make of the operands. Made by `tests/replays/samples.py write`;
 -- nothing here is edited by hand.
 use Prim.Native.Nat.{ℕ}
-use mathlib.Core.List.{List, [], _∷_}
+use mathlib.Core.List.{List, [], ◌∷◌}
 """
 FLOATS = """use lib.Ieee.{Float}
-use Rattle·words.specs.Words.{double}
+use Rattle.words.specs.Words.{double}
 """
 
 
@@ -294,7 +289,7 @@ def file_text(crate, told):
     if crate == "solve_blocks":
         found.append(FLOATS + "\n-- ---- operands\n" + operand_text() + "\n-- ---- answers\n")
     for name, (pieces, _) in CRATES[crate].items():
-        text = declared(camel(name), "List ℕ", listed([digits(x) for x in told[name]]))
+        text = declared(name, "List ℕ", listed([digits(x) for x in told[name]]))
         found.append(f"\n-- {lines_named(pieces)}" + text)
     return "".join(found)
 

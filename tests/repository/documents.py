@@ -28,8 +28,11 @@ CITED = re.compile(r"`([^`\s]+)`\s+\((crates/[^)\s]+)\)")
 AUDIT = ROOT / "docs/AUDIT.md"
 WHERE = "## Where the names stand\n"
 LISTED = re.compile(r"^- (crates/\S+): ((?:`[^`\s]+`,?\s+)*`[^`\s]+`)", re.M)
-# Theorems and records of definitions are told by their form: `some-thing`, `someOf`, `someAt`, `someRows`.
-FORMED = re.compile(r"`([a-z]\w*(?:-[\w-]+|Of|At|Rows))`")
+# Theorems and records of definitions are told by their form: `some-thing`, `some_of`, `some_at`, `some_rows`; a theorem
+# may also be `some_thing`, and is then told by the files of proofs.
+FORMED = re.compile(r"`([a-z]\w*(?:-[\w-]+|_of|_at|_rows))`")
+SNAKE = re.compile(r"`([a-z]\w*_\w+)`")
+PROVED = re.compile(r"^pub ([a-z]\w*_\w+) :", re.M)
 FOLDERS = "|".join(re.escape(file.name) for file in ROOT.iterdir() if file.is_dir()
                    and file.name not in (".git", "target"))
 NAMED = re.compile(rf"`((?:{FOLDERS})/[^`\s*]*)`")
@@ -44,7 +47,7 @@ def declares(text, name):
     declared under this name."""
     word = re.escape(name)
     before = r"(?:abbrev |unfoldable )?(?:pub )?(?:extern \"C\" )?(?:record |data |fn |enum |struct |const )?"
-    return re.search(rf"^\s*{before}{word}(?=[\s:(])", text, re.M)
+    return re.search(rf"^\s*{before}{word}(?=[\s:(<])", text, re.M)
 
 
 def about_names(text):
@@ -70,7 +73,9 @@ def about_audit(text):
                 yield f"{file} declares no {name}"
             if f"`{name}`" not in told:
                 yield f"it lists {name}, which it doesn't cite"
-    yield from (f"it cites {name}, and lists no file of it" for name in set(FORMED.findall(told)) - listed.keys())
+    proved = {name for file in ROOT.glob("crates/*/proofs/*.antt") for name in PROVED.findall(file.read_text())}
+    formed = set(FORMED.findall(told)) | proved & set(SNAKE.findall(told))
+    yield from (f"it cites {name}, and lists no file of it" for name in formed - listed.keys())
 
 
 def printed_of(unproved, path, model, stored):

@@ -21,15 +21,22 @@ sys.path[:0] = [str(each) for each in pathlib.Path(__file__).resolve().parents[1
 import command
 
 ROOT = pathlib.Path(__file__).resolve().parents[2]
-SETTLES = "use Rattle·words.specs.Contract.{Settles}"
+SETTLES = "use Rattle.words.specs.Contract.{Settles}"
 FILE = "crates/{}/proofs/Determinism.antt"
-# What the first answer depends on standard input, which is no argument: their contracts are relations. The last three
-# ask that the run is fit, or what a plan is, and are for crates here, which prove it; what users call refuses
+# What the first answer depends on standard input, which is no argument: their contracts are relations, or say as much
+# as is known of any reader. Those of `Out` hand on to standard output, of which no contract speaks. The last three ask
+# that the run is fit, or what a plan is, and are for crates here, which prove it; what users call refuses
 # (docs/DECISIONS.md).
 UNSETTLED = {
     "replay::word::read_word": "reads standard input",
     "replay::word::read_words": "reads standard input",
     "replay::word::read_block": "reads standard input",
+    "replay::input::read_full": "reads standard input",
+    "replay::out::Out::new": "writes to standard output",
+    "replay::out::Out::write": "writes to standard output",
+    "replay::out::Out::decimal": "writes to standard output",
+    "replay::out::Out::hex": "writes to standard output",
+    "replay::out::Out::end": "writes to standard output",
     "sheet_input::reading::read_all": "reads standard input",
     "piece_input::reading::read_piece": "reads standard input",
     "radau_core::advance::advanced": "asks that the run is fit",
@@ -112,7 +119,7 @@ def theorem(crate, path, text_of=text_in):
         return "none", UNSETTLED[name]
     by, file = path[-1].replace("_", "-") + "-once", FILE.format(crate)
     text = text_of(file)
-    module = re.escape(f"use Rattle·{crate}·proofs.proofs.{'.'.join(path)} as ")
+    module = re.escape(f"use Rattle.{crate}.proofs.{'.'.join(path)} as ")
     alias = re.findall(rf"^{module}(\S+)$", text, re.M)
     insist(len(alias) == 1, f"is not named once in {file}")
     stated = re.findall(rf"^pub {re.escape(by)}\s*:((?:.|\n(?!{re.escape(by)}\b))*)\n{re.escape(by)}\b", text, re.M)
@@ -134,13 +141,13 @@ def theorem(crate, path, text_of=text_in):
 LIBRARY = "pub mod Determinism\n"
 HELD = f"""-- A sample.
 {SETTLES}
-use Rattle·samples·proofs.proofs.part.held as held
-use Rattle·samples·proofs.proofs.part.kept as kept
+use Rattle.samples.proofs.part.held as held
+use Rattle.samples.proofs.part.kept as kept
 
 pub held-once : Settles held.Kinds.ps held.Kinds.r held.Reads.Asked held.Reads.Post
 held-once κs a = (tt, λ o p. one-result (o .1))
 """
-KEPT = "samples·proofs.proofs.part.held"
+KEPT = "samples.proofs.part.held"
 SAMPLES = [
     ("no theorem", HELD.replace("held-once", "kept-once")),
     ("a private theorem", HELD.replace("pub held-once", "held-once")),

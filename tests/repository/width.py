@@ -21,7 +21,7 @@ import rust_text
 ROOT = rust_text.ROOT
 MOST = 120
 STORED = re.compile(r"crates/\w+/(stdin|stdout|data/.*)|.*\.(svg|sheet|tsv)")
-UNBROKEN = {"crates.txt": re.compile(r"\w+:.*"), ".edit": re.compile(r"(old|new): .*")}
+UNBROKEN = {"crates.txt": re.compile(r"\w+( staticlib)?:.*"), ".edit": re.compile(r"(old|new): .*")}
 NUMBERS = re.compile(r"\|(?:[-+.,:%\s\d]*\|)+")
 ADDRESS = re.compile(r"https?://\S+")
 

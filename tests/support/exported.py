@@ -10,7 +10,7 @@ import rust_text
 
 # The crates that offer functions to C.
 CRATES = ("export", "export_forecast", "export_sheet", "export_totals", "export_shelf", "export_csv")
-MARKED = re.compile(r'#\[no_mangle\]\npub extern "C" fn (\w+)\(([^)]*)\)(?: -> (\w+))?\n')
+MARKED = re.compile(r'#\[unsafe\(no_mangle\)\]\npub extern "C" fn (\w+)\(([^)]*)\)(?: -> (\w+))?\n')
 TYPE = re.compile(r"(&mut |&|)(\[)?(\w+)(?:; (\d+))?\]?")
 # The places of a state, and how many there are of each sort.
 PLACES = rust_text.ROOT / "crates" / "radau_core" / "src" / "places.rt"
@@ -38,7 +38,7 @@ def exported(crate="export"):
     for file in sorted((rust_text.ROOT / "crates" / crate / "src").glob("*.rt")):
         text = file.read_text()
         marked = MARKED.findall(text)
-        insist(len(marked) == text.count('extern "C"') == text.count("#[no_mangle]"),
+        insist(len(marked) == text.count('extern "C"') == text.count("no_mangle"),
                f"{file.name} exports a function in a form that is not expected")
         for name, parameters, result in marked:
             pairs = [tuple(pair.strip().split(": ", 1)) for pair in re.split(r",(?![^\[]*\])", numbered(parameters))

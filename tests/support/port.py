@@ -42,22 +42,22 @@ CRATES = {
     "model_run": ["words", "scalar", "matrix", "state", "opening", "solve_blocks", "model", "radau_core"],
     "forecast": ["words", "bits", "state", "sheet", "forecast_text", "model_run"],
     "export_forecast": ["words", "sheet", "forecast_text", "forecast"],
-    "csv": ["words", "bits", "state", "sheet", "forecast_text"],
-    "export_csv": ["words", "csv"],
+    "csv_table": ["words", "bits", "state", "sheet", "forecast_text"],
+    "export_csv": ["words", "csv_table"],
 }
 
 
 def stripped(text):
-    """Without `ghost use`, `requires` and `ensures`, each up to its last bracket, and without the form for C, in which
-    rustc passes slices otherwise than Rattle; types get what Rattle gives them unasked, and sums that wrap the name
-    that they have in Rust."""
+    """Without `ghost use`, `requires` and `ensures`, and attributes for the prover, each up to its last bracket, and
+    without the form for C, in which rustc passes slices otherwise than Rattle; types get what the tests here ask of
+    them, and sums that wrap the name that they have in Rust."""
     text = re.sub(r"use std::num::wrapping_add_\w+;\n", "", text)
     text = re.sub(r"(?:std::num::)?wrapping_add_(\w+)\(", r"\1::wrapping_add(", text)
     lines, depth = [], 0
-    for line in text.replace('#[no_mangle]\npub extern "C" fn', "pub fn").split("\n"):
-        word = line.strip().split(" ")[0]
-        if depth or word in ("ghost", "requires", "ensures"):
-            depth += line.count("{") - line.count("}")
+    for line in text.replace('#[unsafe(no_mangle)]\npub extern "C" fn', "pub fn").split("\n"):
+        word = re.match(r"\s*(?:(ghost|requires|ensures)\b|#!?\[(tactic|derive)\b)?", line)
+        if depth or word.group(1) or word.group(2):
+            depth += sum(line.count(opens) for opens in "{[(") - sum(line.count(closes) for closes in "}])")
             continue
         kind = re.match(r"(\s*)(pub )?(struct|enum) ", line)
         if kind:

@@ -4,19 +4,18 @@ answer is tried in milliseconds, and no tool needs a way around the proof for it
 
 import os
 import pathlib
-import platform
 import shutil
 import subprocess
 
 ROOT = pathlib.Path(__file__).resolve().parents[2]
 
 RT = """#!/bin/sh
-echo "$*" >>"{tree}/asked"
+echo "$* ${PWD##*/}" >>"{tree}/asked"
 case $1 in
-check) [ ! -f "{tree}/refuse" ] || {{ echo "rt: decay NOT PROVED"; exit 1; }}
-    echo "rt: words proved (unchanged since it was last proved)"
-    echo "rt: ok, 1 crates proved" ;;
-doc) echo "{tree}/kit/docs/START-HERE.md" ;;
+run) [ ! -f "{tree}/refuse" ] || {{ echo "fn main: not proved" >&2; exit 1; }}
+    echo "rt: nothing has changed since the last proved build, by out/program.stamp, so nothing is checked now" >&2
+    echo "rt: running out/program; to give it other input, run that file yourself" >&2 ;;
+doc) echo "{tree}/kit/START-HERE.md" ;;
 version) echo "stub-kit logic 0" ;;
 *) exit 2 ;;
 esac
@@ -30,8 +29,11 @@ exit "$(cat "{tree}/ends")"
 ARCHIVE = '#!/bin/sh\nprintf "rattle logic=stub" >"$1"\n'
 # What is installed.
 PROGRAMS = ("decay", "totals", "joined", "points")
-# On a processor other than x86-64 a program runs under the kit's emulator, behind a loader and the folder of libraries.
-EMULATOR = '#!/bin/sh\nshift 3\nexec "$@"\n'
+
+
+def executable(file, text):
+    file.write_text(text)
+    file.chmod(0o755)
 
 
 class Tree:
@@ -43,20 +45,23 @@ class Tree:
         shutil.copytree(ROOT / "include", self.folder / "include")
         for name in ("crates.txt", "VERSION", "Makefile", "LICENSE", "NOTICE", "CHANGELOG.md"):
             shutil.copy(ROOT / name, self.folder / name)
-        (self.folder / ".gitignore").write_text("/target/\n/kit/\n/asked\n/answer\n/ends\n/refuse\n")
+        (self.folder / ".gitignore").write_text("/target/\nout/\n/kit/\n/asked\n/answer\n/ends\n/refuse\n")
         self.script("kit/bin/rt", RT)
-        self.script("kit/docs/START-HERE.md", "")
-        self.script(f"kit/on/{platform.machine()}/toolchain/bin/qemu-x86_64", EMULATOR)
+        self.script("kit/START-HERE.md", "")
         for name in PROGRAMS:
-            self.script(f"target/bin/{name}", PROGRAM)
+            self.program(name)
         self.script("tools/archive", ARCHIVE)
         self.says("status 0 ")
 
     def script(self, name, text):
         file = self.folder / name
         file.parent.mkdir(parents=True, exist_ok=True)
-        file.write_text(text.replace("{tree}", str(self.folder)).replace("{{", "{").replace("}}", "}"))
-        file.chmod(0o755)
+        executable(file, text.replace("{tree}", str(self.folder)).replace("{{", "{").replace("}}", "}"))
+
+    def program(self, name, text=PROGRAM):
+        """A program of the tree, as `rt run` leaves it in its crate's folder."""
+        self.script(f"crates/{name}/out/{name}", text)
+        return self.folder / "crates" / name / "out" / name
 
     def says(self, answer, ends=0):
         """What the program prints from now on, and its status."""

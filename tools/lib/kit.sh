@@ -1,34 +1,34 @@
 # What the commands in bash ask of the kit. Sourced behind common.sh.
 
 # The kit's folder.
-kit() { (cd "$(dirname "$(rt doc)")/.." && pwd -P); }
+kit() { (cd "$(dirname "$(rt doc)")" && pwd -P); }
 
-# The kit once more in the folder $1/kit, made of links, but its clang keeps each module that it compiles at -O3, and
-# what it makes of it, as $1/module.bc and $1/module.o. So the kit's own commands hand out what they would throw away.
+# The kit once more in the folder $1/kit, made of links but for `rt` itself; but its clang compiles each module that it
+# is given once more, as $1/module.o: that of a static library at -O3 with every function inlined, that of `rt try` at
+# -O3 without the sanitizer; the module itself stays as $1/module.bc. So the kit's own commands hand out what they would
+# throw away.
 keeping_kit() {
-  local room=$1 kit machine own tools part
-  kit=$(kit) machine=$(uname -m)
-  own=$kit/on/$machine tools=$room/kit/on/$machine/toolchain
-  mkdir -p "$tools/bin"
-  for part in "$kit"/*; do [ "${part##*/}" = on ] || ln -s "$part" "$room/kit/"; done
-  for part in "$own"/*; do [ "${part##*/}" = toolchain ] || ln -s "$part" "$room/kit/on/$machine/"; done
-  cp -rL "$own/toolchain/lib" "$tools/lib"
-  for part in "$own"/toolchain/bin/*; do printf '#!/bin/sh\nexec "%s" "$@"\n' "$part" >"$tools/bin/${part##*/}"; done
+  local room=$1 kit tools part
+  kit=$(kit) tools=$room/kit/toolchain
+  mkdir -p "$room/kit/bin" "$tools/bin"
+  for part in "$kit"/*; do case ${part##*/} in bin | toolchain) ;; *) ln -s "$part" "$room/kit/" ;; esac; done
+  for part in "$kit"/bin/*; do ln -s "$part" "$room/kit/bin/"; done
+  rm "$room/kit/bin/rt" "$room/kit/bin/rtlib.py"
+  cp "$kit/bin/rt" "$kit/bin/rtlib.py" "$room/kit/bin/"
+  ln -s "$kit/toolchain/lib" "$tools/lib"
+  for part in "$kit"/toolchain/bin/*; do printf '#!/bin/sh\nexec "%s" "$@"\n' "$part" >"$tools/bin/${part##*/}"; done
   cat >"$tools/bin/clang" <<END
 #!/bin/sh
-"$own/toolchain/bin/clang" "\$@" || exit
-case " \$* " in *" -O3 "*) ;; *) exit 0 ;; esac
-for word in "\$@"; do case \$word in *.bc | *.o) cp "\$word" "$room/module.\${word##*.}" ;; esac; done
+"$kit/toolchain/bin/clang" "\$@" || exit
+case " \$* " in
+*" -x ir "*" -fsanitize=address "*) set -- "\$@" -O3 -fno-sanitize=address ;;
+*" -x ir "*" -fPIC -O3 "*) set -- "\$@" -mllvm -inline-threshold=100000 ;;
+*) exit 0 ;;
+esac
+cp module.bc "$room/module.bc"
+exec "$kit/toolchain/bin/clang" "\$@" -o "$room/module.o"
 END
   chmod +x "$tools"/bin/*
-}
-
-# Runs the program $1 on the file $2; where the processor is no x86-64, under the kit's emulator.
-run_on() {
-  [ "$(uname -m)" != x86_64 ] || { "$1" <"$2"; return; }
-  local tools
-  tools=$(kit)/on/$(uname -m)/toolchain
-  "$tools/bin/qemu-x86_64" "$tools/lib/ld-linux-x86-64.so.2" --library-path "$tools/lib" "$1" <"$2"
 }
 
 # What a program is compiled from, in one line.
@@ -43,15 +43,21 @@ unproved() {
   mkdir -p target/unproved
   rm -f "$made" "$made.sources"
   keeping_kit "$room"
-  # On a long input the kit's interpreter runs out of steps; what the three compiled ones write is held to stdout.
-  RATTLE_HOME=$room/kit rt try "$name" >"$room/said" 2>&1 ||
-    [ "$(grep -c '^ok: the native program ' "$room/said")" -eq 3 ] || return
+  # On a long input the kit's interpreter runs out of steps; what the compiled one writes is held to stdout.
+  (cd "crates/$name" && "$room/kit/bin/rt" try --steps 1 <stdin >"$room/wrote" 2>"$room/said") || return
+  cmp -s "$room/wrote" "crates/$name/stdout" || { echo "it writes another stdout" >>"$room/said"; return 1; }
   kit=$(kit)
-  "$kit/on/$(uname -m)/bin/rattle-link" --target x86_64-unknown-linux-gnu --toolchain "$kit/on/$(uname -m)/toolchain" \
-    -o "$room/$name" "$room/module.o" >>"$room/said" 2>&1 || return
+  "$kit/bin/rattle-link" --target x86_64-unknown-linux-gnu --toolchain "$kit/toolchain" -o "$room/$name" \
+    "$room/module.o" "$kit/c/libos_c.a" "$kit/c/liblibc_c.a" >>"$room/said" 2>&1 || return
   mv "$room/$name" "$made" || return
   echo "$key" >"$made.sources"
 }
+
+# Has the program $1 proved and built as crates/$1/out/$1, in this checkout, or sees that it is: it is run on no input.
+proved() { (cd "crates/$1" && rt run </dev/null 2>&1 >/dev/null | without_praise >&2); }
+
+# What `rt` says, without what it says where all is well already.
+without_praise() { sed '/^rt: nothing has changed since the last proved build/d; /^rt: running /d'; }
 
 # The program $1 of the sources, which rt has to know as proved, unless `mark` says that it need not be.
 of_sources() {
@@ -62,15 +68,15 @@ of_sources() {
     tail -n 5 "$room/said" >&2
     stop 4 "the sources can't be compiled; nothing was run"
   fi
-  program=$home/target/bin/$1
-  [ -x "$program" ] || echo "$1: proved and built first, in $2; --unproved takes seconds" >&2
-  (cd "$home" && rt check "$1" 2>&1 | sed '/(unchanged since it was last proved)$/d; /^rt: ok, /d' >&2) ||
-    stop 4 "it is not proved; nothing was run"
+  program=$home/crates/$1/out/$1
+  [ -x "$program" ] || echo "$1: proved and built first, in $2" >&2
+  (cd "$home" && proved "$1") || stop 4 "it is not proved; nothing was run"
 }
 
 # Sets `program` to the program $1, which takes $2 to prove; it lies beside the command where that was installed.
 find_program() {
   program=$home/bin/$1
+  [ "$(uname -m)" = x86_64 ] || stop 4 "the kit builds programs for x86-64; nothing was run"
   if [ -f "$home/crates.txt" ]; then
     of_sources "$@"
   elif [ -n "$mark" ]; then
@@ -78,6 +84,4 @@ find_program() {
   fi
   [ -n "$mark" ] || grep -aqF 'rattle logic=' "$program" ||
     stop 4 "$program lacks the kit's mark of a proved program; nothing was run"
-  [ "$(uname -m)" = x86_64 ] || command -v rt >/dev/null ||
-    stop 4 "there is no rt, whose emulator runs it; nothing was run"
 }

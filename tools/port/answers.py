@@ -6,12 +6,17 @@
 NAMES is a folder that `rt names` wrote, CRATE a crate's name, FUNCTION the folder of a proof below the crate's proofs/;
 with none, every Proof.antt of the crate. A Proof.antt that is turned is removed. What a check then says is mended by
 hand. It was used once, when the repository was brought from an older Rattle.
-"""
+
+Exit status: 0 every one is turned, or named as one that NAMES does not have; 2 wrong use."""
 
 import json
 import os
+import pathlib
 import re
 import sys
+
+sys.path.insert(0, str(pathlib.Path(__file__).resolve().parents[2] / "tests" / "support"))
+import command
 
 SEG = r"[\w'₀-₉-]+"
 PATH = re.compile(rf"(?<![\w'.₀-₉-])([a-zA-Zλ]{SEG}|[a-z])((?:\.{SEG})+)|\)((?:\.{SEG})+)")
@@ -93,7 +98,8 @@ def split(text):
             continue
         block.append((block[0][0] if block else "", line))
     blocks.append(block)
-    return [(b[-1][0] if b[-1][0] == "use" else b[0][0], "\n".join(t for _, t in b).rstrip() + "\n") for b in blocks if b]
+    return [(b[-1][0] if b[-1][0] == "use" else b[0][0], "\n".join(t for _, t in b).rstrip() + "\n")
+            for b in blocks if b]
 
 
 class Function:
@@ -198,7 +204,8 @@ class Turner:
         if rest[0] == "pre":
             rest[0] = "requires"
         head = rest[0]
-        if root == ")" and head not in ("args", "requires", "ranges", "type_inv", "auto") and not self.f.step(place, head):
+        known = ("args", "requires", "ranges", "type_inv", "auto")
+        if root == ")" and head not in known and not self.f.step(place, head):
             return root + "".join("." + s for s in segs)
         if head in ("requires",):
             names = (self.f.e.get("pre") or {}).get("fields") or []
@@ -275,7 +282,8 @@ class Turner:
             alias, path = m[1], m[2]
             root = path.split(".")[0]
             if root not in self.roots or re.search(r"\.args$", path):
-                text = text[:m.start()] + "let " + alias + " ≔ " + text[m.start():][re.match(rf"let {SEG} =\s+", text[m.start():]).end():]
+                rest = text[m.start():]
+                text = text[:m.start()] + "let " + alias + " ≔ " + rest[re.match(rf"let {SEG} =\s+", rest).end():]
                 continue
             tail = re.sub(rf"(?<![\w'.-]){re.escape(alias)}(?![\w'-])", lambda _: path, text[m.end():])
             text = text[:m.start()] + tail
@@ -306,7 +314,8 @@ class Turner:
             step = t[1].split(".")[-2]
             name = step[3:] if step.startswith("if-") else step
             used |= {f"then-{name}", f"else-{name}"}
-            text = (text[:m.start()] + f"elim {t[1]} [ then-{name} {fm[1]} ↦ {first[fm.end():]} | else-{name} {sm[1]} ↦ "
+            text = (text[:m.start()]
+                    + f"elim {t[1]} [ then-{name} {fm[1]} ↦ {first[fm.end():]} | else-{name} {sm[1]} ↦ "
                     + f"{second[sm.end():]} ]" + text[b1 + 1 + t.end():])
         return text, used
 
@@ -354,7 +363,8 @@ def as_record(body, names):
         fields = [f"{n} = {p}" for n, p in zip(names, first)]
         for i, n in enumerate(rest):
             fields.append(f"{n} = others" + ".1" * i + (".0" if i < len(rest) - 1 else ""))
-        return lets + f"let others = {parts[-1]} in\n    record {{\n" + "".join(f"      {f};\n" for f in fields) + "    }"
+        own = "".join(f"      {f};\n" for f in fields)
+        return lets + f"let others = {parts[-1]} in\n    record {{\n" + own + "    }"
     s = last.strip()
     if re.match(r"(rw|omega|search|simp|grind|cc|subst)\b", s):
         return body
@@ -458,7 +468,8 @@ def convert(root, crate, rel, entry, clauses):
         while rest and not re.match(rf"(unfolding|{re.escape(name)}\b)", rest):
             line, _, rest = rest.partition("\n")
             sig += " " + line.strip()
-        m0 = re.match(rf"(?:abbrev )?(?:pub )?{re.escape(name)} : \(?(?:({SEG}) : )?tie\.({SEG})((?: invariant-{SEG}| decreases-{SEG})*)\)? → (.*)$", sig)
+        places = rf"\(?(?:({SEG}) : )?tie\.({SEG})((?: invariant-{SEG}| decreases-{SEG})*)\)?"
+        m0 = re.match(rf"(?:abbrev )?(?:pub )?{re.escape(name)} : {places} → (.*)$", sig)
         if not m0 or "tie." in m0[4]:
             continue
         unf = [l for l in rest.split("\n") if l.startswith("unfolding")]
@@ -522,7 +533,8 @@ def convert(root, crate, rel, entry, clauses):
     def applied(text):
         for n in order:
             root = r"(?:[A-Za-z][\w'₀-₉-]*)"
-            text = re.sub(rf"\({re.escape(n)} {root}(?:\.before)*\)|(?<![\w'.-]){re.escape(n)} {root}(?:\.before)*(?![\w'.-])", n, text)
+            call = rf"{re.escape(n)} {root}(?:\.before)*"
+            text = re.sub(rf"\({call}\)|(?<![\w'.-]){call}(?![\w'.-])", n, text)
         return text
 
     def with_lets(text, c, unfolding):
@@ -560,7 +572,8 @@ def convert(root, crate, rel, entry, clauses):
     while grow:
         grow = False
         for name, body, comment, ways in kept:
-            if name not in in_invariants and re.search(rf"(?<![\w'.-]){re.escape(name)}(?![\w'-])", inv_text) and "goal." not in body:
+            cited = re.search(rf"(?<![\w'.-]){re.escape(name)}(?![\w'-])", inv_text)
+            if name not in in_invariants and cited and "goal." not in body:
                 in_invariants.add(name)
                 inv_text += body
                 grow = True
@@ -569,15 +582,19 @@ def convert(root, crate, rel, entry, clauses):
         out = [f"-- What each loop of `{rel.split('/')[-1]}` keeps.", *uses, f"use {module}.Given as goal", ""]
         for name, body, comment, ways in kept:
             if name in in_invariants:
-                b = body if re.match(r"(abbrev pub|pub|unfoldable pub)", body) else re.sub(r"^(abbrev )?", lambda m: (m[0] or "") + "pub ", body, count=1)
+                b = body
+                if not re.match(r"(abbrev pub|pub|unfoldable pub)", body):
+                    b = re.sub(r"^(abbrev )?", lambda m: (m[0] or "") + "pub ", body, count=1)
                 out += ([comment] if comment else []) + [b.rstrip(), ""]
                 inv_names.add(name)
-                inv_names |= set(re.findall(r"(?m)^  pub ([\w'₀-₉-]+) :", body)) if "record" in body.split("\n")[0] else set()
+                if "record" in body.split("\n")[0]:
+                    inv_names |= set(re.findall(r"(?m)^  pub ([\w'₀-₉-]+) :", body))
         for kind, new, value, comment in invariants:
             loop_is_for = f"overflow_step-{new[5:]}" in is_for
             if kind == "decreases" and loop_is_for:
                 continue
-            out += ([comment] if comment else []) + [f"abbrev pub {kind}-{new} : goal.{kind}-{new}", f"{kind}-{new} l = {value}", ""]
+            out += [comment] if comment else []
+            out += [f"abbrev pub {kind}-{new} : goal.{kind}-{new}", f"{kind}-{new} l = {value}", ""]
         with open(os.path.join(folder, "Invariants.antt"), "w", encoding="utf-8") as w:
             w.write("\n".join(out).rstrip() + "\n")
     ways = set()
@@ -587,7 +604,8 @@ def convert(root, crate, rel, entry, clauses):
         ways |= k[3]
     if answers or any(k[0] not in in_invariants for k in kept):
         out = [head or f"-- `{rel.split('/')[-1]}` meets its contract.", *uses]
-        exported = sorted(n for n in inv_names if re.search(rf"(?<![\w'.-]){re.escape(n)}(?![\w'-])", "\n".join(a[2] for a in answers) + "\n".join(k[1] for k in kept)))
+        citing = "\n".join(a[2] for a in answers) + "\n".join(k[1] for k in kept)
+        exported = sorted(n for n in inv_names if re.search(rf"(?<![\w'.-]){re.escape(n)}(?![\w'-])", citing))
         if exported:
             out.append(f"use {module}.Invariants.{{{', '.join(exported)}}}")
         out.append(f"use {module}.Goals as goal")
@@ -599,7 +617,9 @@ def convert(root, crate, rel, entry, clauses):
                 continue
             out += ([comment] if comment and comment != head else []) + [rename(body).rstrip(), ""]
         for new, c, value, unfolding, comment, _, old in answers:
-            out += ([comment] if comment and comment != head else []) + [f"pub {new} : goal.{new}", *unfolding, f"{new} {c} ={' ' if not value.startswith(chr(10)) else ''}{rename(value)}".rstrip(), ""]
+            out += [comment] if comment and comment != head else []
+            space = "" if value.startswith("\n") else " "
+            out += [f"pub {new} : goal.{new}", *unfolding, f"{new} {c} ={space}{rename(value)}".rstrip(), ""]
         with open(os.path.join(folder, "Answers.antt"), "w", encoding="utf-8") as w:
             w.write("\n".join(out).rstrip() + "\n")
     os.remove(os.path.join(folder, "Proof.antt"))
@@ -607,9 +627,15 @@ def convert(root, crate, rel, entry, clauses):
 
 
 def main(argv):
+    command.helped(__doc__, argv)
+    if len(argv) < 2 or any(word.startswith("-") for word in argv):
+        command.wrong("it takes a folder of names, a crate, and functions")
     names, crate, only = argv[0], argv[1], argv[2:]
     root = os.getcwd()
-    with open(os.path.join(names, "crates", crate, "names.json"), encoding="utf-8") as f:
+    told = os.path.join(names, "crates", crate, "names.json")
+    if not os.path.isfile(told):
+        command.wrong(f"there is no {told}")
+    with open(told, encoding="utf-8") as f:
         entries = json.load(f)
     clauses = contracts(root)
     for folder, _, files in os.walk(os.path.join(root, "crates")):

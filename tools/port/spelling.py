@@ -7,12 +7,17 @@ It was run once, after the kit's port.py and in the same commit. A word is a nam
 and has a capital in a part between dashes, as `acceptedOf` or `placeAt-next`. It becomes `accepted_of`,
 `place_at-next`, in .antt, in .rt (where only clauses and comments have such words), in must-fail edits and in pages.
 A name that the kit's script had given the very same spelling gets its dashes back.
-"""
+
+Exit status: 0 all is respelt; 2 wrong use."""
 
 import collections
 import os
+import pathlib
 import re
 import sys
+
+sys.path.insert(0, str(pathlib.Path(__file__).resolve().parents[2] / "tests" / "support"))
+import command
 
 WORD = r"[A-Za-z0-9_'\u0370-\u03ff\u2080-\u2089\u00b2\u00b3\u00b9-]+"
 # Names of lemmas and of places in a proof that port.py turned from dashes to the spelling that a definition now takes.
@@ -56,6 +61,7 @@ def dashed(text, taken):
 
 
 def main():
+    command.nothing(__doc__, sys.argv[1:])
     words = collections.Counter()
     for path in files((".antt",)):
         with open(path, encoding="utf-8") as f:
