@@ -1,6 +1,5 @@
 -- What each loop of `replayed` keeps.
 use Prim.Native.Nat.{◌-◌}
-use borrow.Author.Rules.{rules}
 use Rattle.replay_matrix.proofs.replayed.Given as goal
 
 abbrev pub invariant-loop : goal.invariant-loop
