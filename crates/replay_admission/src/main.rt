@@ -13,7 +13,7 @@ use replay::found::Found;
 use replay::out::Out;
 use replay::told::{counted, malformed, write_summary};
 use replay::word::Reading;
-use std::io::{self, BufReader, Read};
+use std::io::{self, Read};
 
 // More cases than there are.
 const MOST_CASES: u64 = 20_000;
@@ -46,7 +46,7 @@ fn main(rt: HostRuntime) -> io::Result<()> {
         pivots fit:\npivots unfit:\ncounts fit:\ncounts unfit:\nstrides fit:\nstrides unfit:\n\
         two clauses:\n13 before 14:\n13 before 15:\nended 14:\nreplies admitted:\nreplies 15:\nuntested:\n";
     let out = Out::new(rt.stdout());
-    let mut input = BufReader::new(rt.alloc(), rt.stdin())?;
+    let mut input = rt.stdin();
     write_summary(&out, replayed(&mut input, &out, names), names);
     out.end()
 }

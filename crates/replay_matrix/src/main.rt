@@ -17,7 +17,7 @@ use replay::found::Found;
 use replay::out::Out;
 use replay::told::{counted, malformed, write_summary};
 use replay::word::{read_word, within};
-use std::io::{self, BufReader, Read};
+use std::io::{self, Read};
 
 // More cases than there are.
 const MOST_CASES: u64 = 20_000;
@@ -180,7 +180,7 @@ fn main(rt: HostRuntime) -> io::Result<()> {
     let names =
         b"lu_decomp\nlu_decomp_complex\nlin_solve\nlin_solve_complex\ninterpolate\nbounds\nrefusals\n";
     let out = Out::new(rt.stdout());
-    let mut input = BufReader::new(rt.alloc(), rt.stdin())?;
+    let mut input = rt.stdin();
     write_summary(&out, replayed(&mut input, &out, names), names);
     out.end()
 }

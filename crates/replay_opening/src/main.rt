@@ -15,7 +15,7 @@ use replay::count::Counts;
 use replay::out::Out;
 use replay::told::{counted, malformed, write_summary};
 use replay::word::Reading;
-use std::io::{self, BufReader, Read};
+use std::io::{self, Read};
 
 // More cases than there are.
 const MOST_CASES: u64 = 20_000;
@@ -44,7 +44,7 @@ fn main(rt: HostRuntime) -> io::Result<()> {
         b"accepted:\nrefused 1:\nrefused 2:\nrefused 3:\nrefused 4:\nrefused 5:\nrefused 6:\n\
         refused 7:\nrefused 8:\nrefused 9:\nrefused 10:\nrefused 11:\nrefused 12:\n";
     let out = Out::new(rt.stdout());
-    let mut input = BufReader::new(rt.alloc(), rt.stdin())?;
+    let mut input = rt.stdin();
     write_summary(&out, replayed(&mut input, &out, names), names);
     out.end()
 }

@@ -13,7 +13,7 @@ use replay::input::read_full;
 use replay::out::Out;
 use replay::told::{MOST_TOLD, write_summary};
 use routine::{ROUTINES, result, row};
-use std::io::{self, BufReader, Read};
+use std::io::{self, Read};
 
 // More lines than the vectors have.
 const MOST_LINES: u64 = 20_000;
@@ -70,7 +70,7 @@ fn main(rt: HostRuntime) -> io::Result<()> {
     let names = b"sqrt\nroot\ninverse_root\npower\ntwo_thirds\nfour_fifths\nquarter\n\
         abs\nmax\nmin\nclamp\nsignum\ncoefficient\n";
     let out = Out::new(rt.stdout());
-    let mut input = BufReader::new(rt.alloc(), rt.stdin())?;
+    let mut input = rt.stdin();
     write_summary(&out, replayed(&mut input, &out), names);
     out.end()
 }
