@@ -13,7 +13,7 @@ use Rattle.state.specs.declared.talk.Reply.{Reply}
 use Rattle.state.specs.declared.talk.Verdict.TheVariants.{Passed, Refused}
 use Rattle.state.specs.Memory.{Memory, lengths_fit, amounts_fit, newton_fit, given_fit, factors_fit, differences_fit}
 use Rattle.state.specs.Pivots.{stray}
-use Rattle.opening.specs.Rows.{Test, test, verdict_of, range_rows, outside}
+use Rattle.opening.specs.Rows.{Test, verdict_of, range_rows, outside}
 use Rattle.opening.specs.Admission.{asking_at, answers_report, stride_below, unfit_of, all_unfit, shape_rows}
 use Rattle.opening.specs.Admission.{state_rows, count_rows, reply_rows, admission_rows}
 use Rattle.opening.proofs.RowLaws.{verdict-append}

@@ -127,7 +127,8 @@ module _ {accepted rejected judged jac lu ode rounds column : ℕ} {r : Run} whe
   ceilings : Left accepted rejected judged jac lu ode rounds column r → Ceilings r
   ceilings p = omega (arith, p.judged-left, mul-le-mul_left r.settings.newton_maxiter p.total-fits)
 
-  fits : (s : Stage) → (asking_at s).column ≡ column → Left accepted rejected judged jac lu ode rounds column r → Fits s r
+  fits : (s : Stage) → (asking_at s).column ≡ column → Left accepted rejected judged jac lu ode rounds column r → Fits
+      s r
   fits s e p = record { ceilings = ceilings p; total = p.total-fits; failures = p.failures-fit; column = omega arith }
 
 -- the stages that are not the end
@@ -158,7 +159,8 @@ pub bounds-first : (r : Run) → r.stage ≡ stage.FirstDerivative → r.counts 
     → WithinAt r.stage r
 unfolding WithinAt
 bounds-first r at counts control some n =
-    let opened : Left 0 0 0 1 2 1 0 0 (r ▸ in_counts (λ _. first_counts) ▸ in_control (λ _. first_control)) = omega arith in
+    let opened : Left 0 0 0 1 2 1 0 0 (r ▸ in_counts (λ _. first_counts) ▸ in_control (λ _. first_control)) = omega
+    arith in
     let counted : WithinAt stage.FirstDerivative (r ▸ in_control (λ _. first_control)) =
     subst (λ (c : Counts). WithinAt stage.FirstDerivative (r ▸ in_counts (λ _. c) ▸ in_control (λ _. first_control)))
     (sym counts) opened in

@@ -60,7 +60,8 @@ fair-from h zero j e = tt
 fair-from h (suc k) j e =
     let b = both _ _ e in (fair-true j.point (h j) b.0, fair-from h k (next j (h j)) b.1)
 
-pub computed : (o : Opening) (start : Journal) (h : Strategy) (k : ℕ) → Starts (open_of o) start → plays h k start ≡ true
+pub computed : (o : Opening) (start : Journal) (h : Strategy) (k : ℕ) → Starts (open_of o) start → plays h k start ≡
+    true
     → JournalOf o (after start (actions h k start))
 computed o start h k starts e =
     record { first = start; starts = starts; acts = actions h k start; fair = fair-from h k start e; is = refl }

@@ -5,7 +5,7 @@
 --     counted-end                      at the next request it says the six counts
 use Prim.Native.Nat.{ℕ, zero, suc, ◌+◌}
 use mathlib.Core.Path.{◌≡◌, refl, sym, ap, ◌∙◌}
-use mathlib.Core.Bool.{Bool, true, false, not}
+use mathlib.Core.Bool.{Bool, not}
 use mathlib.Core.List.{List, [], ◌∷◌, ◌++◌}
 use native.Mathlib.Omega.{arith}
 use lib.Ieee.{Float}
@@ -224,7 +224,8 @@ module _ (r : Run) where
       }
 
   pub counted-closed : (p : Reply) (mass jac : List Float) → Closed p mass jac (CountedAt r)
-  unfolding CountedAt kind_of kind_at place_at is_ode is_jac asks_at grow reject rejected_by later later_all more means_of pick
+  unfolding CountedAt kind_of kind_at place_at is_ode is_jac asks_at grow reject rejected_by later later_all more
+      means_of pick
   counted-closed p mass jac =
       record {
         first-filled = λ w. asks _ _ w refl refl refl;

@@ -1,24 +1,20 @@
 -- Demand 3 of 00, from the proofs of Journals.antt.
-use Prim.Native.Nat.{ℕ, ◌+◌, ◌*◌, ◌≤◌, ◌<◌}
 use mathlib.Core.Path.{◌≡◌, refl, sym, ap, ◌∙◌, subst}
-use mathlib.Core.Bool.{Bool, true, false, true≢false}
-use mathlib.Core.Logic.{◌↔◌}
+use mathlib.Core.Bool.{true, true≢false}
 use Rattle.state.specs.declared.run.Counts.{Counts}
-use Rattle.state.specs.declared.run.Run.{Run}
 use Rattle.state.specs.declared.run.Notes.{Notes}
-use Rattle.state.specs.declared.run.Stage.{Stage}
 use Rattle.state.specs.declared.run.Stage.TheVariants as stage
 use Rattle.state.specs.declared.run.Status.{Status}
 use Rattle.state.specs.declared.run.Status.TheVariants.{Success}
 use Rattle.state.specs.declared.talk.Request.{Request}
 use Rattle.state.specs.declared.talk.Request.TheVariants as request
 use Rattle.state.specs.declared.talk.Result.TheVariants as result
-use Rattle.state.specs.Result.{result_at, result_of}
+use Rattle.state.specs.Result.{result_at}
 use Rattle.opening.specs.Rows.{Opening}
 use Rattle.opening.specs.Opening.{open_of}
 use Rattle.history.specs.Host.{is_end}
 use Rattle.account.specs.Journal.{Journal, Starts, JournalOf}
-use Rattle.account.specs.Reading.{counts_of, standing_at}
+use Rattle.account.specs.Reading.{counts_of}
 use Rattle.account.specs.Account.{Strategy, played, FairHost, EndsWithin, Limits}
 use Rattle.account.specs.Demand.{tells, Demand3}
 use Rattle.account.proofs.Matches.{Matches, ended-matches}

@@ -14,7 +14,6 @@ use Rattle.words.specs.Words.{◌⊕◌, ◌⊖◌, ◌⊗◌, ◌⊘◌}
 use Rattle.words.specs.Constants.{«0·0», «1·0», «0·1»}
 use Rattle.words.specs.Loop.{pick}
 use Rattle.scalar.specs.Order.{abs_of, signum_of}
-use Rattle.matrix.specs.Answers.{Stop}
 use Rattle.matrix.specs.Complex.{parts}
 use Rattle.matrix.specs.Elimination.{worked}
 use Rattle.matrix.specs.Lu.{real}
@@ -36,13 +35,13 @@ use Rattle.solve_blocks.specs.declared.step.Call.{Call}
 use Rattle.solve_blocks.specs.Entries.{Three, three}
 use Rattle.solve_blocks.specs.Matrices.{built_of}
 use Rattle.solve_blocks.specs.Needs.{FactorsLong}
-use Rattle.solve_blocks.specs.Report.{ask_modified, is_interrupt}
+use Rattle.solve_blocks.specs.Report.{ask_modified}
 use Rattle.solve_blocks.specs.Events.{Event, real-singular, complex-singular, factored, over-limit, too_small, begun}
 use Rattle.solve_blocks.specs.Events.{rounds-used, diverged, slow, error-solve, failed, accepted, aimed, not-aimed}
 use Rattle.account.specs.Reading.{one, is_report, asks_at}
 use Rattle.account.specs.Reading.{Progress, progress_event, progress_events, reported_at, progress_reply}
 use Rattle.account.specs.Reading.{Standing, past_event, past_events, past_reply}
-use Rattle.account.specs.Truth.{made_of, e1_at, e2_at, TooSmall, Reaches, Aims, True, AllTrue}
+use Rattle.account.specs.Truth.{e1_at, e2_at, TooSmall, Reaches, Aims, True, AllTrue}
 use Rattle.solve_blocks.proofs.Anew.{built-anew, stop-anew}
 use Rattle.solve_blocks.proofs.Decompositions.{Long}
 use Rattle.solve_blocks.proofs.Passes.{Each}

@@ -223,7 +223,8 @@ module _ (s : Status) (ts : List Turn) where
 
 -- the marks that stand for a status
 marks-are : (s : Status)
-    → ((end_marks s).well ≡ same_status s status.Success) × ((end_marks s).singular ≡ same_status s status.SingularMatrix)
+    → ((end_marks s).well ≡ same_status s status.Success) ×
+    ((end_marks s).singular ≡ same_status s status.SingularMatrix)
 unfolding end_marks
 marks-are status.Success = (refl, refl)
 marks-are status.UserInterrupt = (refl, refl)
@@ -410,7 +411,8 @@ over-proof o j w e p =
     let h = k.held in
     let r = j.point.run in
     let ended : (asking_at r.stage).ended ≡ true = sym (matches-end h.matches) ∙ e in
-    let b = by-stage (λ (s : Stage). (asking_at s).ended ≡ true → WithinAt s r → Ceilings r × ((asking_at s).column ≡ 0))
+    let b = by-stage (λ (s : Stage). (asking_at s).ended ≡ true → WithinAt s r → Ceilings r ×
+    ((asking_at s).column ≡ 0))
     (λ s on off. absurd (true≢false (sym off ∙ on))) (ended-ceilings r) r.stage ended h.within in
     rw (ended-refuses r j.point.memory (bounded o k.none j.point j.point.memory h h.long refl b.0
     (omega (arith, b.1)) (λ on. absurd (true≢false (sym ended ∙ on))))

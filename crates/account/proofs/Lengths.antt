@@ -41,11 +41,13 @@ use Rattle.solve_blocks.specs.Events.{Logged}
 use Rattle.solve_blocks.specs.Entries.{Three, three}
 use Rattle.solve_blocks.specs.Scale.{scale_at, scaled_of, divide_at, weighted_of}
 use Rattle.solve_blocks.specs.Matrices.{run_of}
-use Rattle.solve_blocks.specs.Attempt.{stage_sum_at, ask_stage_of, guess_at, guess_of, Begun, started, began_of, attempt_of}
+use Rattle.solve_blocks.specs.Attempt.{stage_sum_at, ask_stage_of, guess_at, guess_of, Begun, started, began_of}
+use Rattle.solve_blocks.specs.Attempt.{attempt_of}
 use Rattle.solve_blocks.specs.Newton.{transform_at, mass_add_at, add_sums, right_sides, solved_of, add_at}
 use Rattle.solve_blocks.specs.Newton.{back_at, updated_of, RoundDone, concluded_of, slow_round, slowed_of}
 use Rattle.solve_blocks.specs.Newton.{predicted_of, paced_of, judged_round, round_of, Resumed, again_of}
-use Rattle.solve_blocks.specs.Estimate.{defect_at, defect_of, Sides, sides, side_at, sides_of, solved_first, plus_at, sum_at}
+use Rattle.solve_blocks.specs.Estimate.{defect_at, defect_of, Sides, sides, side_at, sides_of, solved_first, plus_at}
+use Rattle.solve_blocks.specs.Estimate.{sum_at}
 use Rattle.solve_blocks.specs.Judge.{Moved, moved, move_at, moved_of, accepted_of, rejected_of}
 use Rattle.solve_blocks.specs.Judge.{Judged, judged_of, tested_of, estimate_of, refined_of}
 use Rattle.solve_blocks.specs.Report.{reported_of, grown_of, renewed_of, arrived_of, ask_report}

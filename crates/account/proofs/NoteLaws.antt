@@ -20,7 +20,6 @@ use Rattle.scalar.proofs.Tests.{negative, below-zero}
 use Rattle.state.specs.declared.run.Notes.{Notes}
 use Rattle.state.specs.declared.run.Singular.TheVariants as singular
 use Rattle.state.specs.declared.run.Strides.{Strides}
-use Rattle.state.specs.declared.run.Strides.TheVariants as strides
 use Rattle.state.specs.declared.talk.Reply.{Reply}
 use Rattle.state.specs.Memory.{Memory}
 use Rattle.state.specs.Numbers.{smallest_stride, largest_stride}
@@ -34,7 +33,7 @@ use Rattle.account.specs.Journal.{Turn}
 use Rattle.account.specs.Reading.{Progress, progress_event, progress_reply, progress_at}
 use Rattle.account.specs.Reading.{Standing, past_event, past_reply, standing_at}
 use Rattle.account.specs.Truth.{True, AllTrue, TrueIn}
-use Rattle.account.specs.Latest.{Latest, never, real-at, complex-at, latest_event, latest_events, latest_in}
+use Rattle.account.specs.Latest.{Latest, latest_event, latest_events, latest_in}
 use Rattle.account.specs.Latest.{kept_of, OfItsPass}
 use Rattle.account.specs.Strides.{step_event, step_events, strides_of, best_with, best_of, kept_strides, kept_notes}
 use Rattle.account.proofs.EventsTrue.{run_at}
@@ -231,11 +230,13 @@ strides-not-below (h ∷ hs) =
 
 min-not-below : (a b : Float) → NotBelow a → NotBelow b → NotBelow (min_of a b)
 unfolding min_of
-min-not-below a b p q = pick_all NotBelow (is_nan a) _ _ (λ _. q) (λ _. pick_all NotBelow (lt b a) _ _ (λ _. q) (λ _. p))
+min-not-below a b p q = pick_all NotBelow (is_nan a) _ _ (λ _. q) (λ _. pick_all NotBelow (lt b a) _ _ (λ _. q)
+    (λ _. p))
 
 max-not-below : (a b : Float) → NotBelow a → NotBelow b → NotBelow (max_of a b)
 unfolding max_of
-max-not-below a b p q = pick_all NotBelow (is_nan a) _ _ (λ _. q) (λ _. pick_all NotBelow (lt a b) _ _ (λ _. q) (λ _. p))
+max-not-below a b p q = pick_all NotBelow (is_nan a) _ _ (λ _. q) (λ _. pick_all NotBelow (lt a b) _ _ (λ _. q)
+    (λ _. p))
 
 best-not-below : (best : Float → Float → Float) → ((a b : Float) → NotBelow a → NotBelow b → NotBelow (best a b))
     → (a : Float) (rest : List Float) → NotBelow a → NoneBelow rest → NotBelow (best_with best a rest)

@@ -23,7 +23,6 @@ use Rattle.solve_blocks.specs.Needs.{MemoryLong}
 use Rattle.history.specs.Host.{Action}
 use Rattle.history.specs.History.{Point}
 use Rattle.account.specs.Journal.{Fair, Journal}
-use Rattle.account.specs.Reading.{one}
 use Rattle.account.specs.Latest.{Latest, never, latest_events, kept_of}
 use Rattle.account.specs.Strides.{step_events, strides_of, kept_strides, kept_notes}
 use Rattle.solve_blocks.proofs.AdvanceWhole.{whole_of}

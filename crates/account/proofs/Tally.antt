@@ -2,7 +2,7 @@
 use Prim.Native.Nat.{ℕ, zero, suc, ◌+◌, ◌*◌, ◌≤◌}
 use mathlib.Core.Path.{◌≡◌, refl, sym, ap, ◌∙◌, subst}
 use mathlib.Core.Bool.{Bool, true, false, true≢false, not, ◌&&◌, ◌||◌}
-use mathlib.Core.List.{List, [], ◌∷◌}
+use mathlib.Core.List.{[]}
 use native.Mathlib.Omega.{arith}
 use lib.Dec.{eqb}
 use lib.ListN.{length}
@@ -25,7 +25,7 @@ use Rattle.opening.proofs.RowLaws.{NoneHolds}
 use Rattle.solve_blocks.specs.Events.{Event, Logged}
 use Rattle.solve_blocks.specs.Advance.{Called}
 use Rattle.history.specs.Host.{is_end, Action}
-use Rattle.account.specs.Journal.{of_kind, Fair, Turn, Journal}
+use Rattle.account.specs.Journal.{of_kind, Fair, Journal}
 use Rattle.solve_blocks.specs.Report.{is_interrupt}
 use Rattle.account.specs.Reading.{one, many, Question, question, questions, asked_in, is_ode, is_jac, is_report}
 use Rattle.account.specs.Reading.{Asks, asks_at, acceptances, first_stage, Means, means_of, happened, counts_of}
@@ -407,8 +407,8 @@ module _ (o : Opening) (j : Journal) (p : Opens o j.point) (start : j.turns ≡ 
   ledger-first = record { solves = rw (p.place, start) refl; attempts = rw (p.place, start) refl }
 
   pub tallied-first : Tallied o j
-  unfolding many happened rejected_in accepted_in acceptances asked_in is_ode is_jac is_report is_end in_jacobian asks_at differs
-      first_stage interrupted_in ends_with owed left pick progress_at
+  unfolding many happened rejected_in accepted_in acceptances asked_in is_ode is_jac is_report is_end in_jacobian
+      asks_at differs first_stage interrupted_in ends_with owed left pick progress_at
   tallied-first =
       record {
         ode = rw (p.counts, p.request, p.place, start) refl;

@@ -14,7 +14,7 @@ use Rattle.solve_blocks.specs.Events.{Event}
 use Rattle.solve_blocks.specs.Advance.{advance_of}
 use Rattle.state.specs.declared.talk.Opened.TheVariants as opened
 use Rattle.history.specs.Host.{part_at, Action, wrote}
-use Rattle.history.specs.History.{Point, point, next_point}
+use Rattle.history.specs.History.{Point, next_point}
 
 -- ---- what a host may do
 

@@ -2,7 +2,7 @@
 -- on those numbers, spelled out here: no definition of `solve_blocks` makes it so. The numbers that an event doesn't
 -- carry are those of the opening o, of the memory m in which its advance worked, and of the history before it: how far
 -- the run had come (g) and where its attempts stood (st). A NaN meets no test: neither `le` nor `lt` holds of it.
-use Rattle.std.specs.Prelude.{ℕ, ◌*◌, ◌≤◌, ◌<◌, ◌≡◌, Bool, true, false, List, [], ◌∷◌, Float}
+use Rattle.std.specs.Prelude.{◌*◌, ◌≤◌, ◌<◌, ◌≡◌, Bool, true, false, List, [], ◌∷◌, Float}
 use Rattle.std.specs.Float.Ieee.{le, lt}
 use Rattle.words.specs.Words.{◌⊕◌, ◌⊖◌, ◌⊗◌, ◌⊘◌}
 use Rattle.words.specs.Constants.{«0·0», «1·0», «0·99», «0·1»}

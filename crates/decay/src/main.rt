@@ -5,34 +5,37 @@
 
 use forecast::forecast;
 use forecast_text::print;
-use libc::STDOUT_FILENO;
+use replay::out::Out;
 use replay::word::within;
 use sheet_input::read_all;
 use sheet_input::reading::{Input, KEPT};
+use std::io;
 
 // Room for all that is printed of a sheet.
 const OUT: usize = 1024;
 
 // What was put into an array that was lent to be written; of what lies behind a reference the length is known.
-fn write_first(out: &[u8; OUT], count: usize) {
+fn write_first(to: &Out, out: &[u8; OUT], count: usize) {
     let bytes: &[u8] = out;
-    io::write_all(STDOUT_FILENO, &bytes[0..within(count, bytes.len())]);
+    to.write(&bytes[0..within(count, bytes.len())]);
 }
 
 // Prints what becomes of the sheet, which is as long as was read.
-fn tell(kept: &[u8; KEPT], length: usize) {
+fn tell(to: &Out, kept: &[u8; KEPT], length: usize) {
     let bytes: &[u8] = kept;
     let mut out = [0u8; OUT];
     let printed = print(forecast(&bytes[0..within(length, bytes.len())]), &mut out);
-    write_first(&out, printed);
+    write_first(to, &out, printed);
 }
 
-fn main() {
+fn main(rt: HostRuntime) -> io::Result<()> {
+    let to = Out::new(rt.stdout());
     let mut kept = [0u8; KEPT];
-    match read_all(&mut kept) {
-        Input::Bytes(length) => tell(&kept, length),
+    match read_all(&mut rt.stdin(), &mut kept) {
+        Input::Bytes(length) => tell(&to, &kept, length),
         Input::Unreadable => {
-            io::write_all(STDOUT_FILENO, b"unreadable\n");
+            to.write(b"unreadable\n");
         }
     }
+    to.end()
 }

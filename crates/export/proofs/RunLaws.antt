@@ -61,7 +61,8 @@ module _ (words : List ℕ) (doubles : List Float) (told : List ℕ) (at : List 
   -- the admission refuses, or the run is advanced where it was put
   module _ (k : ℕ) (value : Float) (m : Memory) (r : Run) (p : Reply) (hr : r ≡ run_at words doubles)
       (hp : p ≡ reply_of r.stage k value) where
-    pub refused-left : {n : ℕ} (x : Refusal) → verdict_of (admission_rows r p m) ≡ verdict.Refused x → n ≡ refusal_number x
+    pub refused-left : {n : ℕ} (x : Refusal) → verdict_of (admission_rows r p m) ≡ verdict.Refused x
+        → n ≡ refusal_number x
         → left (crossed n words doubles told at) m ≡ advance_left k value words doubles told at m
     unfolding of_answer
     refused-left x e hn =

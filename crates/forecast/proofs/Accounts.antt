@@ -155,7 +155,8 @@ refuses ending.TooLong = true
 no_end : {X : Type 0} (e : Reached) (y : List Float) (x : Ending) → refuses x ≡ true → tells e y ≡ refused_by x → X
 no_end e y x refused is = absurd (true≢false (sym refused ∙ sym (ap (λ (f : Forecast). refuses f.ending) is)))
 
-accounted-by : (m : Model) → Valid m → (a : Opened) (memory : Memory) → open_of (opening_for m) ≡ opening_outcome a memory
+accounted-by : (m : Model) → Valid m → (a : Opened) (memory : Memory) → open_of (opening_for m) ≡ opening_outcome a
+    memory
     → (e : Reached) (y : List Float) → FromOpened m a memory (tells e y) → Accounted m e y
 unfolding FromOpened
 accounted-by m valid (opened.Refused x) memory opens e y f = no_end e y (ending.Refused x) refl f

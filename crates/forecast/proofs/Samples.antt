@@ -155,13 +155,13 @@ record Course : Type 0 where
   told : still_forecast ≡ ended_at (after 4).point.run StepSizeTooSmall (after 4).point.memory.amounts.y
 
 course : Course
-unfolding is_end talk_by done derivative_of source_at reply_to filled modified wrote next_point advance_by verdict_of pick loop
-    amounts_fit newton_fit given_fit factors_fit differences_fit zeros noughts asking_at answers_report stray_at stray replied_of
-    called_of pass_at passes_of started_of reported_of first_run shape_of nind1_of or_none fixed_of cleared_of mass_kept converted_of
-    scalar_turns scale_at scaled_of ask_jacobian_by ask_column_of column_of perturbation column_at at put mass_at jac_at build_at
-    build_row built_of lu_decomp_of lu_decomp_complex_of single worked answered is_zero is_zero_complex at_complex size_complex
-    real_tried_of complex_tried_of tried_of attempt_of first_step_of wished_step or_else abs_of max_of clamp_of signum_of is_nan add
-    sub mul div neg eq le lt of_bits
+unfolding is_end talk_by done derivative_of source_at reply_to filled modified wrote next_point advance_by verdict_of
+    pick loop amounts_fit newton_fit given_fit factors_fit differences_fit zeros noughts asking_at answers_report
+    stray_at stray replied_of called_of pass_at passes_of started_of reported_of first_run shape_of nind1_of or_none
+    fixed_of cleared_of mass_kept converted_of scalar_turns scale_at scaled_of ask_jacobian_by ask_column_of column_of
+    perturbation column_at at put mass_at jac_at build_at build_row built_of lu_decomp_of lu_decomp_complex_of single
+    worked answered is_zero is_zero_complex at_complex size_complex real_tried_of complex_tried_of tried_of attempt_of
+    first_step_of wished_step or_else abs_of max_of clamp_of signum_of is_nan add sub mul div neg eq le lt of_bits
 course = record {
   first = refl;
   second = refl;

@@ -149,7 +149,8 @@ forecast-solves bytes h {amounts} {rates} {species} f e a r s told =
     (ap (λ (v : List ℕ). outcome_from h v rates species) a
     ∙ ap (λ (v : List ℕ). outcome_from h (amounts_left (read_of bytes) (noughts 32)) v species) r
     ∙ ap
-    (λ (v : List ℕ). outcome_from h (amounts_left (read_of bytes) (noughts 32)) (rates_left (read_of bytes) (noughts 64)) v)
+    (λ (v : List ℕ). outcome_from h (amounts_left (read_of bytes) (noughts 32))
+    (rates_left (read_of bytes) (noughts 64)) v)
     s)
     told)
 

@@ -1,6 +1,6 @@
 // The model of a sheet, run, and what is told of it.
 ghost use Rattle.std.specs.Prelude.{◌≡◌};
-ghost use Rattle.state.specs.declared.talk.Result.TheVariants as result;
+ghost use Rattle.state.specs.declared.talk.Result.TheVariants.{Ended, NotEnded};
 ghost use Rattle.state.specs.Result.{result_of};
 ghost use Rattle.forecast.specs.Forecast.{refused_by};
 ghost use Rattle.forecast.specs.Told.{outcome_from, Over, Ends, Told};
@@ -13,9 +13,9 @@ use sheet::sheet::Heading;
 use state::run::{Run, Status};
 use state::talk::{Blame, IntegrationResult, Result};
 
-// Stands where no run comes: its caller shows that it isn't called.
+// Stands where no run that has ended comes: of its run, which has a result, the caller shows that it isn't called.
 fn never(run: Run) -> IntegrationResult
-    requires { ⊥ }
+    requires { result_of run ≡ NotEnded }
 {
     let numbers = run.numbers;
     let counts = run.counts;
@@ -33,7 +33,7 @@ fn never(run: Run) -> IntegrationResult
 // The result of a run that has ended.
 fn end_of(run: Run) -> IntegrationResult
     requires { Over run }
-    ensures* { λ r. ⌜ result_of run ≡ result.Ended r ⌝ }
+    ensures { result_of run ≡ Ended result }
 {
     match run.result() {
         Result::Ended(end) => end,
@@ -43,7 +43,7 @@ fn end_of(run: Run) -> IntegrationResult
 
 // A refusal has no amounts.
 pub fn refused(ending: Ending) -> Forecast
-    ensures* { λ r. ⌜ r ≡ refused_by ending ⌝ }
+    ensures { result ≡ refused_by ending }
 {
     Forecast {
         ending,
@@ -54,7 +54,7 @@ pub fn refused(ending: Ending) -> Forecast
 // What is told of an outcome for n amounts.
 fn told(n: usize, outcome: TaskOutcome) -> Forecast
     requires { Ends outcome.finish }
-    ensures* { λ r. ⌜ Told n outcome.finish outcome.amounts r ⌝ }
+    ensures { Told n outcome.finish outcome.amounts result }
 {
     let finish = outcome.finish;
     let amounts = outcome.amounts;
@@ -80,8 +80,8 @@ pub fn modelled(
     rates: &[u64; 64],
     species: &[usize; 256],
 ) -> Forecast
-    ensures* { λ r. ⌜ (let o = outcome_from heading amounts.now rates.now species.now in
-        Told heading.species o.finish o.amounts r) ⌝ }
+    ensures { let o = outcome_from heading amounts.now rates.now species.now in
+        Told heading.species o.finish o.amounts result }
 {
     let speeds = rates_from(rates);
     let task = task_from(heading, amounts_from(amounts));

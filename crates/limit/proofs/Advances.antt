@@ -61,7 +61,8 @@ unless-more a b c t l e = by (ltb a c) refl (ltb b c) refl
 module _ (M : ℕ) (r : Run) (p : Reply) (m : Memory) (more : r.settings.max_steps ≤ M) (permitted : M ≤ 1_000_000)
   where
     -- the rows in their order, of which six look at the limit
-    pub admits-more : verdict_of (admission_rows r p m) ≡ Passed → verdict_of (admission_rows (run_with M r) p m) ≡ Passed
+    pub admits-more : verdict_of (admission_rows r p m) ≡ Passed → verdict_of (admission_rows (run_with M r) p m) ≡
+        Passed
     admits-more e =
         let none = (verdict-first-proof (admission_rows r p m)).1.0 e in
         let least = (within 1 1_000_000 r.settings.max_steps (none 2 (omega arith))).0 in

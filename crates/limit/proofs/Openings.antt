@@ -14,7 +14,8 @@ use Rattle.state.specs.declared.talk.Verdict.{Verdict}
 use Rattle.state.specs.declared.talk.Verdict.TheVariants.{Passed, Refused}
 use Rattle.state.specs.Memory.{Memory}
 use Rattle.opening.specs.Rows.{Test, Opening, opening_rows, verdict_of}
-use Rattle.opening.specs.Opening.{OpeningOutcome, opening_outcome, open_of, by_verdict, accepted_of, first_run, fixed_of}
+use Rattle.opening.specs.Opening.{OpeningOutcome, opening_outcome, open_of, by_verdict, accepted_of, first_run}
+use Rattle.opening.specs.Opening.{fixed_of}
 use Rattle.opening.specs.Opening.{shape_of, first_step_of}
 use Rattle.opening.proofs.RowLaws.{verdict-first-proof}
 use Rattle.opening.proofs.OpeningLaws.{within}
@@ -48,7 +49,8 @@ module _ (M : ℕ) (o : Opening) (least : 1 ≤ o.settings.max_steps) (more : o.
   pub opening-same : open_of (opening_with M o) ≡ opened_with M (open_of o)
   unfolding open_of by_verdict
   opening-same =
-      ap (λ (ts : List Test). by_verdict (verdict_of ts) (opening_with M o)) rows_same ∙ by (verdict_of (opening_rows o))
+      ap (λ (ts : List Test). by_verdict (verdict_of ts) (opening_with M o)) rows_same ∙ by
+      (verdict_of (opening_rows o))
     where
       by : (v : Verdict) → by_verdict v (opening_with M o) ≡ opened_with M (by_verdict v o)
       by Passed = accepted-same M o

@@ -11,7 +11,6 @@ use Rattle.state.specs.declared.run.Tolerances.TheVariants.{Scalars}
 use Rattle.state.specs.declared.settings.Rule.TheVariants.{Book}
 use Rattle.state.specs.declared.talk.Place.TheVariants.{ContToZ1, YToF0}
 use Rattle.state.specs.declared.talk.Refusal.TheVariants.{Unfit}
-use Rattle.state.specs.declared.talk.Reply.{Reply}
 use Rattle.state.specs.declared.talk.Reply.TheVariants.{Filled, Continue}
 use Rattle.state.specs.declared.talk.Request.{Request}
 use Rattle.state.specs.declared.talk.Request.TheVariants.{Derivative, Report}

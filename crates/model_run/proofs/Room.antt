@@ -198,5 +198,6 @@ unfolding ran_of
 ran-is t rates species here q p {n} l e o =
     ap (ended_at t (n - 0))
     (o ∙ ap (λ (m : Memory). standing_at (last_of (host_for t rates species) budget (point here q p m))) e)
-    ∙ ap (λ (k : ℕ). ended_at t k (standing_at (last_of (host_for t rates species) budget (point here q p (memory_of t)))))
+    ∙ ap (λ (k : ℕ). ended_at t k
+    (standing_at (last_of (host_for t rates species) budget (point here q p (memory_of t)))))
     (sub-zero n ∙ l)

@@ -1,6 +1,6 @@
 -- What one read of standard input may come to. Which bytes come no contract can say; how many, this one does.
 use Rattle.std.specs.Prelude.{ℕ, ◌≤◌, List}
-use Rattle.io.specs.Counts.{IsPrefixLen}
+use Rattle.replay.specs.Input.{IsPrefixLen}
 use Rattle.piece_input.specs.declared.reading.Came.{Came}
 use Rattle.piece_input.specs.declared.reading.Came.TheVariants.{Bytes, End, Failed}
 

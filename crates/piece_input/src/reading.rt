@@ -1,7 +1,7 @@
 // Standard input, read by read.
 ghost use Rattle.piece_input.specs.Came.{CameInto};
 
-use libc::STDIN_FILENO;
+use std::io::Read;
 
 pub const PIECE: usize = 4096;
 
@@ -16,17 +16,13 @@ pub enum Came {
     Failed,
 }
 
-pub fn read_piece(piece: &mut [u8; PIECE]) -> Came
+pub fn read_piece<R: Read>(input: &mut R, piece: &mut [u8; PIECE]) -> Came
     ensures { CameInto piece.new result }
 {
     let room: &mut [u8] = piece;
-    let got = libc::read(STDIN_FILENO, room);
-    if got < 0 {
-        return Came::Failed;
+    match input.read(room) {
+        Ok(0) => Came::End,
+        Ok(count) => Came::Bytes(count),
+        Err(_) => Came::Failed,
     }
-    let count = io::count(got, room);
-    if count == 0 {
-        return Came::End;
-    }
-    Came::Bytes(count)
 }

@@ -11,13 +11,14 @@ use csv_table::table::put_header;
 use forecast::forecast;
 use forecast::task::{amounts_from, rates_from};
 use forecast_text::print;
-use libc::STDOUT_FILENO;
+use replay::out::Out;
 use replay::word::within;
 use reports::beginning::{Beginning, Begun, Pending, begin};
 use reports::line::{Line, put_report};
 use reports::step::{BUDGET, next_report};
 use sheet_input::read_all;
 use sheet_input::reading::{Input, KEPT};
+use std::io;
 
 // Room for every line, and for all that is printed of a refused sheet.
 const OUT: usize = 1024;
@@ -35,33 +36,33 @@ const RATES: usize = 64;
 const SPECIES: usize = 256;
 
 // Of what lies behind a reference the length is known.
-fn write_first(out: &[u8; OUT], count: usize) {
+fn write_first(to: &Out, out: &[u8; OUT], count: usize) {
     let bytes: &[u8] = out;
-    io::write_all(STDOUT_FILENO, &bytes[0..within(count, bytes.len())]);
+    to.write(&bytes[0..within(count, bytes.len())]);
 }
 
 // Writes the line that was put. None is refused: a sheet that runs has 1 to 32 amounts, and there is room for them.
-fn write_line(answer: Exported, out: &[u8; OUT]) {
+fn write_line(to: &Out, answer: Exported, out: &[u8; OUT]) {
     match answer {
-        Exported::Written(count) => write_first(out, count),
+        Exported::Written(count) => write_first(to, out, count),
         Exported::RefusedOrder => {}
         Exported::RefusedRoom => {}
     }
 }
 
-fn write_header(n: usize) {
+fn write_header(to: &Out, n: usize) {
     let mut out = [0u8; OUT];
     let answer = put_header(n, &mut out);
-    write_line(answer, &out);
+    write_line(to, answer, &out);
 }
 
 // Writes the record of a report; true at the end, which is none.
-fn is_over(pending: Pending, y: &[f64]) -> bool {
+fn is_over(to: &Out, pending: Pending, y: &[f64]) -> bool {
     let request = pending.request;
     let mut out = [0u8; OUT];
     match put_report(request, y, &mut out) {
         Line::Put(answer) => {
-            write_line(answer, &out);
+            write_line(to, answer, &out);
             false
         }
         Line::Nothing => true,
@@ -95,6 +96,7 @@ fn pivots() -> [usize; VECTOR]
 
 // From report to report, up to the end.
 fn write_reports(
+    to: &Out,
     begun: Begun,
     rates: &[f64],
     species: &[usize],
@@ -152,7 +154,7 @@ fn write_reports(
             f_perturbed,
             f_origin,
         );
-        if is_over(pending, y) {
+        if is_over(to, pending, y) {
             return;
         }
     }
@@ -166,6 +168,7 @@ fn amounts_of(bits: &[u64; VECTOR]) -> [f64; VECTOR]
 
 // The points of a run, in memory that is its amounts and else +0: the front of each array is lent.
 fn write_points(
+    to: &Out,
     begun: Begun,
     amounts: &[u64; VECTOR],
     n: usize,
@@ -199,6 +202,7 @@ fn write_points(
     let mut f_perturbed = vector();
     let mut f_origin = vector();
     write_reports(
+        to,
         begun,
         rates,
         species,
@@ -234,47 +238,50 @@ fn square(n: usize) -> usize {
 }
 
 // A sheet has at most 32 amounts, so that nothing is cut off here.
-fn write_run(begun: Begun, amounts: &[u64; VECTOR], rates: &[f64], species: &[usize]) {
+fn write_run(to: &Out, begun: Begun, amounts: &[u64; VECTOR], rates: &[f64], species: &[usize]) {
     let n = within(begun.n, VECTOR);
     let n4 = within(4 * n, COEFFICIENTS);
     let nn = within(square(n), MATRIX);
-    write_points(begun, amounts, n, n4, nn, rates, species);
+    write_points(to, begun, amounts, n, n4, nn, rates, species);
 }
 
 // The table of a run that was begun, of what the reader left.
 fn write_table(
+    to: &Out,
     begun: Begun,
     amounts: &[u64; VECTOR],
     rates: &[u64; RATES],
     species: &[usize; SPECIES],
 ) {
-    write_header(begun.n);
+    write_header(to, begun.n);
     let speeds = rates_from(rates);
-    write_run(begun, amounts, &speeds, species);
+    write_run(to, begun, amounts, &speeds, species);
 }
 
-fn tell(kept: &[u8; KEPT], length: usize) {
+fn tell(to: &Out, kept: &[u8; KEPT], length: usize) {
     let bytes: &[u8] = kept;
     let sheet = &bytes[0..within(length, bytes.len())];
     let mut amounts = [0u64; VECTOR];
     let mut rates = [0u64; RATES];
     let mut species = [0usize; SPECIES];
     match begin(sheet, &mut amounts, &mut rates, &mut species) {
-        Beginning::Begun(begun) => write_table(begun, &amounts, &rates, &species),
+        Beginning::Begun(begun) => write_table(to, begun, &amounts, &rates, &species),
         Beginning::Refused => {
             let mut out = [0u8; OUT];
             let printed = print(forecast(sheet), &mut out);
-            write_first(&out, printed);
+            write_first(to, &out, printed);
         }
     }
 }
 
-fn main() {
+fn main(rt: HostRuntime) -> io::Result<()> {
+    let to = Out::new(rt.stdout());
     let mut kept = [0u8; KEPT];
-    match read_all(&mut kept) {
-        Input::Bytes(length) => tell(&kept, length),
+    match read_all(&mut rt.stdin(), &mut kept) {
+        Input::Bytes(length) => tell(&to, &kept, length),
         Input::Unreadable => {
-            io::write_all(STDOUT_FILENO, b"unreadable\n");
+            to.write(b"unreadable\n");
         }
     }
+    to.end()
 }

@@ -1,6 +1,8 @@
 -- The laws of reading: what 17 bytes give; a block that is filled word by word, with nothing put yet and with one word
 -- more; what is answered where all words were read, or not; and what of a lent block stays.
-use Rattle.std.proofs.Common.{◌≡◌, ℕ, ◌+◌, ◌<◌, ◌≤◌, Bool, true, false, leb, ◌⊎◌, List, length, get_or, set, sym, refl, ◌∙◌, subst, inl, inr, ⊎_elim, le_trans, le_of_lt, arith, length-set, get_or-set_other, get_or-set_same, eq-eqb, ne_eqb, le-leb, leb-false}
+use Rattle.std.proofs.Common.{◌≡◌, ℕ, ◌+◌, ◌<◌, ◌≤◌, Bool, true, false, leb, ◌⊎◌, List, length, get_or, set, sym}
+use Rattle.std.proofs.Common.{refl, ◌∙◌, subst, inl, inr, ⊎_elim, le_trans, le_of_lt, arith, length-set}
+use Rattle.std.proofs.Common.{get_or-set_other, get_or-set_same, eq-eqb, ne_eqb, le-leb, leb-false}
 use native.Mathlib.Decide.{dec_lt}
 use borrow.Author.Tests.{lt-leb}
 use Rattle.words.specs.Loop.{pick}

@@ -1,4 +1,5 @@
 -- In order of reading.
+pub mod Input
 pub mod Word
 pub mod Read
 pub mod Settings

@@ -1,5 +1,5 @@
 -- The settings of a run, made of words. The word at place 3 has a bit for each choice.
-use Rattle.std.specs.Prelude.{ℕ, ◌/◌, ◌%◌, Bool, false, List, ◌==◌, slice_index, Float}
+use Rattle.std.specs.Prelude.{ℕ, ◌/◌, ◌%◌, Bool, false, List, ◌==◌, slice_index}
 use Rattle.words.specs.Words.{double}
 use Rattle.words.specs.Loop.{pick}
 use Rattle.state.specs.declared.settings.Settings.{Settings}
@@ -39,7 +39,8 @@ unfoldable pub rule_of : List ℕ → Rule
 rule_of words = pick (choice_of words 2048) Book Rust
 
 unfoldable pub tolerances_of : List ℕ → Tolerances
-tolerances_of words = pick (choice_of words 4096) Lists (Scalars (double (word_at words 14)) (double (word_at words 15)))
+tolerances_of words =
+    pick (choice_of words 4096) Lists (Scalars (double (word_at words 14)) (double (word_at words 15)))
 
 abbrev pub settings_of : List ℕ → Settings
 settings_of words =

@@ -7,7 +7,9 @@
 
 pub mod count;
 pub mod found;
+pub mod input;
 pub mod memory;
+pub mod out;
 pub mod settings;
 pub mod told;
 pub mod word;

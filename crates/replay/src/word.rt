@@ -4,8 +4,9 @@ ghost use Rattle.std.specs.Prelude.{◌≡◌, ◌≤◌};
 ghost use Rattle.replay.specs.Word.{spelled_of, within_of, quarter_of, reading_of};
 ghost use Rattle.replay.specs.Read.{WordRead, after_of, WordsRead, BlockRead};
 
+use crate::input::read_full;
 use bits::digit;
-use libc::STDIN_FILENO;
+use std::io::Read;
 
 #[derive(Clone, Copy)]
 pub enum Word {
@@ -46,11 +47,11 @@ pub fn spelled(text: &[u8], from: usize, end: usize) -> Word
 }
 
 // The next word of standard input, which `after` is to follow.
-pub fn read_word(after: u8) -> Word
+pub fn read_word<R: Read>(input: &mut R, after: u8) -> Word
     ensures { WordRead after result }
 {
     let mut text = [0u8; 17];
-    if io::read_full(STDIN_FILENO, &mut text) == 0 {
+    if read_full(input, &mut text) == 0 {
         return Word::End;
     }
     if text[16] != after {
@@ -75,11 +76,11 @@ pub fn within(count: usize, room: usize) -> usize
 }
 
 // Fills the block with the next words, from the place `from` up to `end`. False where one is wrong or missing.
-pub fn read_words(block: &mut [u64], from: usize, end: usize) -> bool
+pub fn read_words<R: Read>(input: &mut R, block: &mut [u64], from: usize, end: usize) -> bool
     ensures { WordsRead from end block.old block.new result }
 {
     for i in from..within(end, block.len()) {
-        let next = read_word(after(i));
+        let next = read_word(input, after(i));
         match next {
             Word::Value(word) => block[i] = word,
             Word::Wrong => return false,
@@ -100,17 +101,17 @@ pub fn read_well(good: bool) -> Reading
 }
 
 // Fills the block with the next words, from its first up to `end`.
-pub fn read_block(block: &mut [u64], end: usize) -> Reading
+pub fn read_block<R: Read>(input: &mut R, block: &mut [u64], end: usize) -> Reading
     ensures { BlockRead end block.old block.new result }
 {
     if block.len() == 0 {
         return Reading::Malformed;
     }
-    let first = read_word(b' ');
+    let first = read_word(input, b' ');
     match first {
         Word::Value(word) => {
             block[0] = word;
-            read_well(read_words(block, 1, end))
+            read_well(read_words(input, block, 1, end))
         }
         Word::Wrong => Reading::Malformed,
         Word::End => Reading::End,

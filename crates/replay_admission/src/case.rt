@@ -8,6 +8,7 @@ use state::run::{
     Control, Counts, Fixed, Notes, Numbers, Run, Shape, Singular, Stage, Status, Strides,
 };
 use state::talk::Reply;
+use std::io::Read;
 
 pub const WORDS: usize = 48;
 
@@ -270,8 +271,8 @@ impl Case {
 }
 
 // The next case of standard input.
-pub fn read_case() -> Case {
+pub fn read_case<R: Read>(input: &mut R) -> Case {
     let mut words = [0u64; WORDS];
-    let reading = read_block(&mut words, WORDS);
+    let reading = read_block(input, &mut words, WORDS);
     Case { words, reading }
 }

@@ -5,8 +5,9 @@
 use bits::double;
 use csv_table::answers::Exported;
 use csv_table::table::{put_header, put_record};
-use libc::STDOUT_FILENO;
+use replay::out::Out;
 use replay::word::{Reading, read_block, within};
+use std::io::{self, BufReader};
 
 // The words of a line: x and its amounts.
 const WORDS: usize = 4;
@@ -20,45 +21,48 @@ const ROOM: usize = 128;
 const MOST_POINTS: u64 = 10_000;
 
 // Writes the line that was put, or that it was refused.
-fn write_line(answer: Exported, line: &[u8; ROOM]) {
+fn write_line(to: &Out, answer: Exported, line: &[u8; ROOM]) {
     let bytes: &[u8] = line;
     match answer {
         Exported::Written(count) => {
-            io::write_all(STDOUT_FILENO, &bytes[0..within(count, bytes.len())]);
+            to.write(&bytes[0..within(count, bytes.len())]);
         }
         Exported::RefusedOrder => {
-            io::write_all(STDOUT_FILENO, b"refused 1\n");
+            to.write(b"refused 1\n");
         }
         Exported::RefusedRoom => {
-            io::write_all(STDOUT_FILENO, b"refused 24\n");
+            to.write(b"refused 24\n");
         }
     }
 }
 
-fn write_header() {
+fn write_header(to: &Out) {
     let mut line = [0u8; ROOM];
     let answer = put_header(AMOUNTS, &mut line);
-    write_line(answer, &line);
+    write_line(to, answer, &line);
 }
 
-fn write_point(words: &[u64; WORDS]) {
+fn write_point(to: &Out, words: &[u64; WORDS]) {
     let amounts = [double(words[1]), double(words[2]), double(words[3])];
     let mut line = [0u8; ROOM];
     let answer = put_record(double(words[0]), &amounts, &mut line);
-    write_line(answer, &line);
+    write_line(to, answer, &line);
 }
 
-fn main() {
-    write_header();
+fn main(rt: HostRuntime) -> io::Result<()> {
+    let to = Out::new(rt.stdout());
+    let mut input = BufReader::new(rt.alloc(), rt.stdin())?;
+    write_header(&to);
     for _ in 0..MOST_POINTS {
         let mut words = [0u64; WORDS];
-        match read_block(&mut words, WORDS) {
-            Reading::Good => write_point(&words),
+        match read_block(&mut input, &mut words, WORDS) {
+            Reading::Good => write_point(&to, &words),
             Reading::Malformed => {
-                io::write_all(STDOUT_FILENO, b"malformed\n");
-                return;
+                to.write(b"malformed\n");
+                return to.end();
             }
-            Reading::End => return,
+            Reading::End => return to.end(),
         }
     }
+    to.end()
 }

@@ -8,13 +8,15 @@
 use forecast::forecast;
 use forecast_text::ending::Ending;
 use forecast_text::print;
-use libc::STDIN_FILENO;
 use replay::count::Counts;
 use replay::found::Found;
+use replay::input::read_full;
+use replay::out::Out;
 use replay::told::{counted, malformed, write_summary};
 use replay::word::{Word, quarter, read_word, within};
 use state::run::Status;
 use state::talk::IntegrationResult;
+use std::io::{self, BufReader, Read};
 
 // More pairs than there are.
 const MOST_PAIRS: u64 = 1_000;
@@ -143,6 +145,7 @@ fn found_of(first: bool, second: bool, together: bool) -> Found {
 
 // The counts after one pair more, of which all was read.
 fn with_texts(
+    to: &Out,
     counts: Counts,
     names: &[u8],
     sheet: &[u8],
@@ -163,17 +166,23 @@ fn with_texts(
     let second = answered(&raised_out, raised_printed, raised_answer);
     let same = unmoved(&out, printed, &raised_out, raised_printed);
     let goes_on = (OVER <= row) & grown_ends(ending, raised_ending);
-    counted(counts, names, row, found_of(first, second, same | goes_on))
+    counted(
+        to,
+        counts,
+        names,
+        row,
+        found_of(first, second, same | goes_on),
+    )
 }
 
 // Whether as many bytes were read as were asked for.
-fn read_first(bytes: &mut [u8], count: usize) -> bool {
+fn read_first<R: Read>(input: &mut R, bytes: &mut [u8], count: usize) -> bool {
     let end = within(count, bytes.len());
-    io::read_full(STDIN_FILENO, &mut bytes[0..end]) == count
+    read_full(input, &mut bytes[0..end]) == count
 }
 
 // The counts after one pair more, of which the head was read: it has the lengths of the four texts that follow.
-fn with_pair(counts: Counts, names: &[u8], head: u64) -> Counts {
+fn with_pair<R: Read>(input: &mut R, to: &Out, counts: Counts, names: &[u8], head: u64) -> Counts {
     let mut sheet = [0u8; ROOM];
     let mut answer = [0u8; ROOM];
     let mut raised = [0u8; ROOM];
@@ -182,12 +191,13 @@ fn with_pair(counts: Counts, names: &[u8], head: u64) -> Counts {
     let b = quarter(head, 1) as usize;
     let c = quarter(head, 2) as usize;
     let d = quarter(head, 3) as usize;
-    let first = read_first(&mut sheet, a);
-    let second = read_first(&mut answer, b);
-    let third = read_first(&mut raised, c);
-    let fourth = read_first(&mut raised_answer, d);
+    let first = read_first(input, &mut sheet, a);
+    let second = read_first(input, &mut answer, b);
+    let third = read_first(input, &mut raised, c);
+    let fourth = read_first(input, &mut raised_answer, d);
     if first & second & third & fourth {
         return with_texts(
+            to,
             counts,
             names,
             &sheet[0..within(a, ROOM)],
@@ -196,27 +206,30 @@ fn with_pair(counts: Counts, names: &[u8], head: u64) -> Counts {
             &raised_answer[0..within(d, ROOM)],
         );
     }
-    malformed(counts)
+    malformed(to, counts)
 }
 
 // Nothing is read behind what is malformed.
-fn replayed(names: &[u8]) -> Counts {
+fn replayed<R: Read>(input: &mut R, to: &Out, names: &[u8]) -> Counts {
     let mut counts = Counts::none();
     for _ in 0..MOST_PAIRS {
         if counts.malformed != 0 {
             return counts;
         }
-        match read_word(b'\n') {
+        match read_word(input, b'\n') {
             Word::End => return counts,
-            Word::Wrong => return malformed(counts),
-            Word::Value(head) => counts = with_pair(counts, names, head),
+            Word::Wrong => return malformed(to, counts),
+            Word::Value(head) => counts = with_pair(input, to, counts, names, head),
         }
     }
     counts
 }
 
-fn main() {
+fn main(rt: HostRuntime) -> io::Result<()> {
     let names =
         b"status 0, the same:\nstatus 3, the same:\nstatus 5, the same:\nstatus 2, then 2:\nstatus 2, then another:\n";
-    write_summary(replayed(names), names);
+    let to = Out::new(rt.stdout());
+    let mut input = BufReader::new(rt.alloc(), rt.stdin())?;
+    write_summary(&to, replayed(&mut input, &to, names), names);
+    to.end()
 }

@@ -1,7 +1,8 @@
 // The head of a case, a line of its own. The values after it are words, one to a line.
 // tests/replays/replay_matrix.py, which writes them, says how they are laid out.
-use libc::STDIN_FILENO;
+use replay::input::read_full;
 use replay::word::{Word, spelled};
+use std::io::Read;
 
 // The head of a case: which routine, what it is to answer, whether the matrix and the pivots are those that the case
 // before left, the order n, and how many entries of each part of the memory the routine is lent.
@@ -70,9 +71,9 @@ fn decode(head: &[u8; 44]) -> Head {
 }
 
 // The next line of standard input, which is to be the head of a case or not there.
-pub fn read_head() -> Head {
+pub fn read_head<R: Read>(input: &mut R) -> Head {
     let mut head = [0u8; 44];
-    if io::read_full(STDIN_FILENO, &mut head) == 0 {
+    if read_full(input, &mut head) == 0 {
         return Head::End;
     }
     decode(&head)

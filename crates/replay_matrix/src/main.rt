@@ -14,61 +14,77 @@ use line::{Case, Head, read_head};
 use memory::{ROOM, fill, fill_pivots, keep, keep_pivots, meet, meet_pivots};
 use replay::count::Counts;
 use replay::found::Found;
+use replay::out::Out;
 use replay::told::{counted, malformed, write_summary};
 use replay::word::{read_word, within};
+use std::io::{self, BufReader, Read};
 
 // More cases than there are.
 const MOST_CASES: u64 = 20_000;
 
 // The matrix and the pivots that the case gives.
-fn given_factors(case: Case, ar: &mut [f64], ai: &mut [f64], ip: &mut [usize]) -> bool {
+fn given_factors<R: Read>(
+    input: &mut R,
+    case: Case,
+    ar: &mut [f64],
+    ai: &mut [f64],
+    ip: &mut [usize],
+) -> bool {
     let entries = within(case.matrix, ar.len());
     let imaginary = within(case.matrix_imaginary, ai.len());
     let pivots = within(case.pivots, ip.len());
-    let first = fill(&mut ar[0..entries]);
-    let second = fill(&mut ai[0..imaginary]);
-    let third = fill_pivots(&mut ip[0..pivots]);
+    let first = fill(input, &mut ar[0..entries]);
+    let second = fill(input, &mut ai[0..imaginary]);
+    let third = fill_pivots(input, &mut ip[0..pivots]);
     first & second & third
 }
 
 // The right side that the case gives.
-fn given_side(case: Case, br: &mut [f64], bi: &mut [f64]) -> bool {
+fn given_side<R: Read>(input: &mut R, case: Case, br: &mut [f64], bi: &mut [f64]) -> bool {
     let side = within(case.side, br.len());
     let imaginary = within(case.side_imaginary, bi.len());
-    let first = fill(&mut br[0..side]);
-    let second = fill(&mut bi[0..imaginary]);
+    let first = fill(input, &mut br[0..side]);
+    let second = fill(input, &mut bi[0..imaginary]);
     first & second
 }
 
 // Holds all that a decomposition may write against the next lines.
-fn met_factors(case: Case, found: Found, ar: &[f64], ai: &[f64], ip: &[usize]) -> Found {
+fn met_factors<R: Read>(
+    input: &mut R,
+    case: Case,
+    found: Found,
+    ar: &[f64],
+    ai: &[f64],
+    ip: &[usize],
+) -> Found {
     let entries = within(case.matrix, ar.len());
     let imaginary = within(case.matrix_imaginary, ai.len());
     let pivots = within(case.pivots, ip.len());
-    let first = meet(&ar[0..entries], found);
-    let second = meet(&ai[0..imaginary], first);
-    meet_pivots(&ip[0..pivots], second)
+    let first = meet(input, &ar[0..entries], found);
+    let second = meet(input, &ai[0..imaginary], first);
+    meet_pivots(input, &ip[0..pivots], second)
 }
 
 // Holds all that another routine may write against the next lines.
-fn met_side(case: Case, found: Found, br: &[f64], bi: &[f64]) -> Found {
+fn met_side<R: Read>(input: &mut R, case: Case, found: Found, br: &[f64], bi: &[f64]) -> Found {
     let side = within(case.side, br.len());
     let imaginary = within(case.side_imaginary, bi.len());
-    let first = meet(&br[0..side], found);
-    meet(&bi[0..imaginary], first)
+    let first = meet(input, &br[0..side], found);
+    meet(input, &bi[0..imaginary], first)
 }
 
 // Holds the answer against the head, and with 17 the column against the next line.
-fn met_answer(case: Case, told: Answered) -> Found {
+fn met_answer<R: Read>(input: &mut R, case: Case, told: Answered) -> Found {
     let found = Found::nothing().compared(told.answer, case.wanted);
     if case.wanted == SINGULAR {
-        return found.held_against(told.column, read_word(b'\n'));
+        return found.held_against(told.column, read_word(input, b'\n'));
     }
     found
 }
 
 // A case in which the routine works: the lines after it tell what is then in the memory.
-fn worked(
+fn worked<R: Read>(
+    input: &mut R,
     case: Case,
     ar: &mut [f64; ROOM],
     ai: &mut [f64; ROOM],
@@ -77,11 +93,11 @@ fn worked(
     ip: &mut [usize; ROOM],
 ) -> Found {
     let told = called(case, ar, ai, br, bi, ip);
-    let found = met_answer(case, told);
+    let found = met_answer(input, case, told);
     if is_decomposition(case.letter) {
-        return met_factors(case, found, ar, ai, ip);
+        return met_factors(input, case, found, ar, ai, ip);
     }
-    met_side(case, found, br, bi)
+    met_side(input, case, found, br, bi)
 }
 
 // A case that the routine refuses: nothing is written to the memory.
@@ -108,7 +124,9 @@ fn refused(
 }
 
 // The counts after one case more.
-fn judged(
+fn judged<R: Read>(
+    input: &mut R,
+    out: &Out,
     counts: Counts,
     names: &[u8],
     case: Case,
@@ -120,22 +138,22 @@ fn judged(
 ) -> Counts {
     let mut good = true;
     if !case.held {
-        good = given_factors(case, ar, ai, ip);
+        good = given_factors(input, case, ar, ai, ip);
     }
-    let side = given_side(case, br, bi);
+    let side = given_side(input, case, br, bi);
     let found = if is_worked(case.wanted) {
-        worked(case, ar, ai, br, bi, ip)
+        worked(input, case, ar, ai, br, bi, ip)
     } else {
         refused(case, ar, ai, br, bi, ip)
     };
     let at = row(case.letter, case.wanted);
     if good & side & (at < ROWS) {
-        return counted(counts, names, at, found);
+        return counted(out, counts, names, at, found);
     }
-    malformed(counts)
+    malformed(out, counts)
 }
 
-fn replayed(names: &[u8]) -> Counts {
+fn replayed<R: Read>(input: &mut R, out: &Out, names: &[u8]) -> Counts {
     let mut counts = Counts::none();
     let mut ar = [0.0; ROOM];
     let mut ai = [0.0; ROOM];
@@ -143,13 +161,13 @@ fn replayed(names: &[u8]) -> Counts {
     let mut bi = [0.0; ROOM];
     let mut ip = [0usize; ROOM];
     for _ in 0..MOST_CASES {
-        let head = read_head();
+        let head = read_head(input);
         match head {
             Head::End => return counts,
-            Head::Malformed => return malformed(counts),
+            Head::Malformed => return malformed(out, counts),
             Head::Good(case) => {
                 counts = judged(
-                    counts, names, case, &mut ar, &mut ai, &mut br, &mut bi, &mut ip,
+                    input, out, counts, names, case, &mut ar, &mut ai, &mut br, &mut bi, &mut ip,
                 );
             }
         }
@@ -158,8 +176,11 @@ fn replayed(names: &[u8]) -> Counts {
 }
 
 // The names of the rows, in the order of `row`.
-fn main() {
+fn main(rt: HostRuntime) -> io::Result<()> {
     let names =
         b"lu_decomp\nlu_decomp_complex\nlin_solve\nlin_solve_complex\ninterpolate\nbounds\nrefusals\n";
-    write_summary(replayed(names), names);
+    let out = Out::new(rt.stdout());
+    let mut input = BufReader::new(rt.alloc(), rt.stdin())?;
+    write_summary(&out, replayed(&mut input, &out, names), names);
+    out.end()
 }

@@ -3,15 +3,16 @@
 use bits::{double, pattern};
 use replay::found::Found;
 use replay::word::{Word, read_word};
+use std::io::Read;
 
 // The entries of each part of the memory: as many as the matrix of the first order that is refused has.
 pub const ROOM: usize = 1089;
 
 // Fills the doubles with the next lines. False where one is no value; the others are read all the same.
-pub fn fill(part: &mut [f64]) -> bool {
+pub fn fill<R: Read>(input: &mut R, part: &mut [f64]) -> bool {
     let mut good = true;
     for i in 0..part.len() {
-        let next = read_word(b'\n');
+        let next = read_word(input, b'\n');
         match next {
             Word::Value(x) => part[i] = double(x),
             _ => good = false,
@@ -21,10 +22,10 @@ pub fn fill(part: &mut [f64]) -> bool {
 }
 
 // The same for pivots.
-pub fn fill_pivots(part: &mut [usize]) -> bool {
+pub fn fill_pivots<R: Read>(input: &mut R, part: &mut [usize]) -> bool {
     let mut good = true;
     for i in 0..part.len() {
-        let next = read_word(b'\n');
+        let next = read_word(input, b'\n');
         match next {
             Word::Value(x) => part[i] = x as usize,
             _ => good = false,
@@ -34,19 +35,19 @@ pub fn fill_pivots(part: &mut [usize]) -> bool {
 }
 
 // Holds the doubles against the next lines.
-pub fn meet(part: &[f64], found: Found) -> Found {
+pub fn meet<R: Read>(input: &mut R, part: &[f64], found: Found) -> Found {
     let mut now = found;
     for i in 0..part.len() {
-        now = now.held_against(pattern(part[i]), read_word(b'\n'));
+        now = now.held_against(pattern(part[i]), read_word(input, b'\n'));
     }
     now
 }
 
 // The same for pivots.
-pub fn meet_pivots(part: &[usize], found: Found) -> Found {
+pub fn meet_pivots<R: Read>(input: &mut R, part: &[usize], found: Found) -> Found {
     let mut now = found;
     for i in 0..part.len() {
-        now = now.held_against(part[i] as u64, read_word(b'\n'));
+        now = now.held_against(part[i] as u64, read_word(input, b'\n'));
     }
     now
 }

@@ -6,6 +6,7 @@ use replay::settings::{CHOICES, LISTS, N, X0, XEND, choice, settings_of, toleran
 use replay::word::{Reading, quarter, read_block, read_well, read_words};
 use state::run::Tolerances;
 use state::settings::Settings;
+use std::io::Read;
 
 // The words of an opening.
 pub const OPENING: usize = 40;
@@ -108,10 +109,14 @@ fn pair_words(choices: u64, n: u64) -> usize {
 }
 
 // What is wanted of an accepted one.
-fn read_wanted(words: &mut [u64; WORDS], pairs: &mut [u64; PAIRS]) -> Reading {
+fn read_wanted<R: Read>(
+    input: &mut R,
+    words: &mut [u64; WORDS],
+    pairs: &mut [u64; PAIRS],
+) -> Reading {
     let count = pair_words(words[CHOICES], words[N]);
-    let answer = read_words(words, OPENING, WORDS);
-    let lists = read_words(pairs, 0, count);
+    let answer = read_words(input, words, OPENING, WORDS);
+    let lists = read_words(input, pairs, 0, count);
     read_well(answer & lists)
 }
 
@@ -123,12 +128,12 @@ fn is_good(reading: Reading) -> bool {
 }
 
 // The next case of standard input.
-pub fn read_case() -> Case {
+pub fn read_case<R: Read>(input: &mut R) -> Case {
     let mut words = [0u64; WORDS];
     let mut pairs = [0u64; PAIRS];
-    let mut reading = read_block(&mut words, OPENING);
+    let mut reading = read_block(input, &mut words, OPENING);
     if is_good(reading) & (quarter(words[OUTCOME], 0) == 0) {
-        reading = read_wanted(&mut words, &mut pairs);
+        reading = read_wanted(input, &mut words, &mut pairs);
     }
     Case {
         words,

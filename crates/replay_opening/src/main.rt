@@ -12,34 +12,39 @@ mod part;
 use call::judged;
 use case::{Case, read_case};
 use replay::count::Counts;
+use replay::out::Out;
 use replay::told::{counted, malformed, write_summary};
 use replay::word::Reading;
+use std::io::{self, BufReader, Read};
 
 // More cases than there are.
 const MOST_CASES: u64 = 20_000;
 
 // The counts after one case more.
-fn with_case(counts: Counts, names: &[u8], case: Case) -> Counts {
-    counted(counts, names, case.row() as usize, judged(case))
+fn with_case(out: &Out, counts: Counts, names: &[u8], case: Case) -> Counts {
+    counted(out, counts, names, case.row() as usize, judged(case))
 }
 
-fn replayed(names: &[u8]) -> Counts {
+fn replayed<R: Read>(input: &mut R, out: &Out, names: &[u8]) -> Counts {
     let mut counts = Counts::none();
     for _ in 0..MOST_CASES {
-        let case = read_case();
+        let case = read_case(input);
         let reading = case.reading;
         match reading {
             Reading::End => return counts,
-            Reading::Malformed => return malformed(counts),
-            Reading::Good => counts = with_case(counts, names, case),
+            Reading::Malformed => return malformed(out, counts),
+            Reading::Good => counts = with_case(out, counts, names, case),
         }
     }
     counts
 }
 
-fn main() {
+fn main(rt: HostRuntime) -> io::Result<()> {
     let names =
         b"accepted:\nrefused 1:\nrefused 2:\nrefused 3:\nrefused 4:\nrefused 5:\nrefused 6:\n\
         refused 7:\nrefused 8:\nrefused 9:\nrefused 10:\nrefused 11:\nrefused 12:\n";
-    write_summary(replayed(names), names);
+    let out = Out::new(rt.stdout());
+    let mut input = BufReader::new(rt.alloc(), rt.stdin())?;
+    write_summary(&out, replayed(&mut input, &out, names), names);
+    out.end()
 }

@@ -12,8 +12,10 @@ mod turn;
 use call::{CallOutcome, Talk, start};
 use replay::count::Counts;
 use replay::found::Found;
+use replay::out::Out;
 use replay::told::{counted, malformed, write_summary};
 use replay::word::Reading;
+use std::io::{self, BufReader, Read};
 use stored::{HEAD, Opening, read_asked, read_opening};
 use turn::{met, next};
 
@@ -58,16 +60,18 @@ fn is_refused(talk: Talk) -> bool {
 }
 
 // The counts after one reply more, which is not to be refused. The end of a run has none.
-fn with_reply(counts: Counts, names: &[u8], talk: Talk, head: u64) -> Counts {
+fn with_reply(out: &Out, counts: Counts, names: &[u8], talk: Talk, head: u64) -> Counts {
     if head % 0x10 == 0 {
         return counts;
     }
     let taken = Found::nothing().truth(is_refused(talk), false);
-    counted(counts, names, REPLIES + (head % 0x10) as usize, taken)
+    counted(out, counts, names, REPLIES + (head % 0x10) as usize, taken)
 }
 
 // All requests of a run, of which the last is to be its end.
-fn with_requests(
+fn with_requests<R: Read>(
+    input: &mut R,
+    out: &Out,
     before: Counts,
     names: &[u8],
     n: usize,
@@ -78,51 +82,68 @@ fn with_requests(
     let mut outcome = opened;
     let mut head = 0;
     for _ in 0..requests {
-        let asked = read_asked(n);
+        let asked = read_asked(input, n);
         if !asked.good {
-            return malformed(counts);
+            return malformed(out, counts);
         }
         let words = asked.words;
         head = words[HEAD];
-        counts = counted(counts, names, row_of(head), met(outcome, n, words));
+        counts = counted(out, counts, names, row_of(head), met(outcome, n, words));
         outcome = next(outcome, n, words);
         let talk = outcome.talk;
-        counts = with_reply(counts, names, talk, head);
+        counts = with_reply(out, counts, names, talk, head);
     }
     let ended = Found::nothing().compared(head / 0x1000, 4);
-    counted(counts, names, RUNS, ended)
+    counted(out, counts, names, RUNS, ended)
 }
 
 // The counts after one run more.
-fn with_run(counts: Counts, names: &[u8], opening: Opening) -> Counts {
+fn with_run<R: Read>(
+    input: &mut R,
+    out: &Out,
+    counts: Counts,
+    names: &[u8],
+    opening: Opening,
+) -> Counts {
     let outcome = start(opening.ask(), opening.n(), opening.memory());
-    with_requests(counts, names, opening.n(), opening.requests(), outcome)
+    with_requests(
+        input,
+        out,
+        counts,
+        names,
+        opening.n(),
+        opening.requests(),
+        outcome,
+    )
 }
 
 // Nothing is read behind what is malformed.
-fn replayed(names: &[u8]) -> Counts {
+fn replayed<R: Read>(input: &mut R, out: &Out, names: &[u8]) -> Counts {
     let mut counts = Counts::none();
     for _ in 0..MOST_RUNS {
         if counts.malformed != 0 {
             return counts;
         }
-        let opening = read_opening();
+        let opening = read_opening(input);
         let reading = opening.reading;
         match reading {
             Reading::End => return counts,
-            Reading::Malformed => return malformed(counts),
-            Reading::Good => counts = with_run(counts, names, opening),
+            Reading::Malformed => return malformed(out, counts),
+            Reading::Good => counts = with_run(input, out, counts, names, opening),
         }
     }
     counts
 }
 
-fn main() {
+fn main(rt: HostRuntime) -> io::Result<()> {
     let names =
         b"derivative y to f0:\nderivative cont to z1:\nderivative cont to z2:\nderivative cont to z3:\n\
         derivative cont to f1:\nderivative y to f_origin:\nderivative y_perturbed to f_perturbed:\n\
         Jacobian:\nreport:\nreport with coefficients:\n\
         ended, status 0:\nended, status 1:\nended, status 2:\nended, status 3:\nended, status 5:\n\
         reply filled:\nreply continue:\nreply interrupt:\nreply modified:\nreply mark:\nruns:\n";
-    write_summary(replayed(names), names);
+    let out = Out::new(rt.stdout());
+    let mut input = BufReader::new(rt.alloc(), rt.stdin())?;
+    write_summary(&out, replayed(&mut input, &out, names), names);
+    out.end()
 }

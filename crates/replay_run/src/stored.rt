@@ -8,6 +8,7 @@ use bits::double;
 use replay::memory::Memory;
 use replay::settings::{LISTS, MASS_FULL, N, X0, XEND, choice, settings_of, tolerances_of};
 use replay::word::{Reading, read_block, read_well, read_words};
+use std::io::Read;
 
 // How many requests follow an opening.
 const REQUESTS: usize = 19;
@@ -98,13 +99,13 @@ impl Opening {
 }
 
 // The next opening of standard input.
-pub fn read_opening() -> Opening {
+pub fn read_opening<R: Read>(input: &mut R) -> Opening {
     let mut words = [0u64; OPENING];
-    let first = read_block(&mut words, GIVEN);
+    let first = read_block(input, &mut words, GIVEN);
     match first {
         Reading::Good => {
             let end = opening_end(&words);
-            let rest = read_words(&mut words, GIVEN, end);
+            let rest = read_words(input, &mut words, GIVEN, end);
             let reading = read_well(rest & (words[N] <= ORDER as u64));
             Opening { words, reading }
         }
@@ -138,11 +139,11 @@ fn asked_end(head: u64, n: usize) -> usize {
 }
 
 // The next request of a run of order n.
-pub fn read_asked(n: usize) -> Asked {
+pub fn read_asked<R: Read>(input: &mut R, n: usize) -> Asked {
     let mut words = [0u64; ASKED];
-    let first = read_words(&mut words, 0, FLOATS);
+    let first = read_words(input, &mut words, 0, FLOATS);
     let end = asked_end(words[HEAD], n);
-    let rest = read_words(&mut words, FLOATS, end);
+    let rest = read_words(input, &mut words, FLOATS, end);
     Asked {
         words,
         good: first & rest,

@@ -7,65 +7,70 @@ mod line;
 mod routine;
 
 use bits::pattern;
-use libc::{STDIN_FILENO, STDOUT_FILENO};
 use line::{Decoded, decode};
 use replay::count::Counts;
+use replay::input::read_full;
+use replay::out::Out;
 use replay::told::{MOST_TOLD, write_summary};
 use routine::{ROUTINES, result, row};
+use std::io::{self, BufReader, Read};
 
 // More lines than the vectors have.
 const MOST_LINES: u64 = 20_000;
 
-fn malformed(counts: Counts, text: &[u8; 73]) -> Counts {
+fn malformed(out: &Out, counts: Counts, text: &[u8; 73]) -> Counts {
     if counts.missed < MOST_TOLD {
-        io::write_all(STDOUT_FILENO, b"malformed ");
-        io::write_all(STDOUT_FILENO, text);
-        io::write_all(STDOUT_FILENO, b"\n");
+        out.write(b"malformed ");
+        out.write(text);
+        out.write(b"\n");
     }
     counts.unread()
 }
 
-fn differing(counts: Counts, text: &[u8; 73], at: usize, gave: u64) -> Counts {
+fn differing(out: &Out, counts: Counts, text: &[u8; 73], at: usize, gave: u64) -> Counts {
     if counts.missed < MOST_TOLD {
-        io::write_all(STDOUT_FILENO, b"gave ");
-        io::print_hex(STDOUT_FILENO, gave, 16);
-        io::write_all(STDOUT_FILENO, b" at ");
-        io::write_all(STDOUT_FILENO, text);
+        out.write(b"gave ");
+        out.hex(gave);
+        out.write(b" at ");
+        out.write(text);
     }
     counts.differed(at)
 }
 
 // The counts after one line more.
-fn judged(counts: Counts, text: &[u8; 73]) -> Counts {
+fn judged(out: &Out, counts: Counts, text: &[u8; 73]) -> Counts {
     let Decoded::Good(vector) = decode(text) else {
-        return malformed(counts, text);
+        return malformed(out, counts, text);
     };
     let at = row(vector.letter);
     if ROUTINES <= at {
-        return malformed(counts, text);
+        return malformed(out, counts, text);
     }
     let gave = pattern(result(vector));
     if gave == vector.answer {
         return counts.agreed(at);
     }
-    differing(counts, text, at, gave)
+    differing(out, counts, text, at, gave)
 }
 
-fn replayed() -> Counts {
+fn replayed<R: Read>(input: &mut R, out: &Out) -> Counts {
     let mut counts = Counts::none();
     for _ in 0..MOST_LINES {
         let mut text = [0u8; 73];
-        if io::read_full(STDIN_FILENO, &mut text) == 0 {
+        if read_full(input, &mut text) == 0 {
             return counts;
         }
-        counts = judged(counts, &text);
+        counts = judged(out, counts, &text);
     }
     counts
 }
 
 // The names of the rows, in the order of `row`.
-fn main() {
+fn main(rt: HostRuntime) -> io::Result<()> {
     let names = b"sqrt\nroot\ninverse_root\npower\ntwo_thirds\nfour_fifths\nquarter\n\
         abs\nmax\nmin\nclamp\nsignum\ncoefficient\n";
-    write_summary(replayed(), names);
+    let out = Out::new(rt.stdout());
+    let mut input = BufReader::new(rt.alloc(), rt.stdin())?;
+    write_summary(&out, replayed(&mut input, &out), names);
+    out.end()
 }

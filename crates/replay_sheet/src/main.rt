@@ -9,15 +9,17 @@ mod record;
 use forecast::forecast;
 use forecast_text::ending::Ending;
 use forecast_text::print;
-use libc::STDIN_FILENO;
 use record::{Head, read_head};
 use replay::count::Counts;
 use replay::found::Found;
+use replay::input::read_full;
+use replay::out::Out;
 use replay::told::{counted, malformed, write_summary};
 use replay::word::within;
 use sheet_write::rewrite;
 use state::run::Status;
 use state::talk::{IntegrationResult, Refusal};
+use std::io::{self, BufReader, Read};
 
 // More records than there are.
 const MOST_RECORDS: u64 = 2_000;
@@ -85,9 +87,9 @@ fn met(gave: &[u8], wanted: &[u8]) -> Found {
 }
 
 // Whether as many bytes were read as were asked for.
-fn read_first(bytes: &mut [u8], count: usize) -> bool {
+fn read_first<R: Read>(input: &mut R, bytes: &mut [u8], count: usize) -> bool {
     let end = within(count, bytes.len());
-    io::read_full(STDIN_FILENO, &mut bytes[0..end]) == count
+    read_full(input, &mut bytes[0..end]) == count
 }
 
 // What was printed, held against the stored answer. Of what lies behind a reference the length is known.
@@ -121,14 +123,15 @@ fn both(first: Found, second: Found) -> Found {
 }
 
 // The counts after one record more, whose sheet and answer were read.
-fn with_answer(counts: Counts, names: &[u8], sheet: &[u8], wanted: &[u8]) -> Counts {
-    let mut out = [0u8; OUT];
+fn with_answer(out: &Out, counts: Counts, names: &[u8], sheet: &[u8], wanted: &[u8]) -> Counts {
+    let mut text = [0u8; OUT];
     let told = forecast(sheet);
-    let printed = print(told, &mut out);
+    let printed = print(told, &mut text);
     let ending = told.ending;
     let row = row_of(ending);
-    let found = met_first(&out, printed, wanted);
+    let found = met_first(&text, printed, wanted);
     counted(
+        out,
         counts,
         names,
         row,
@@ -137,40 +140,53 @@ fn with_answer(counts: Counts, names: &[u8], sheet: &[u8], wanted: &[u8]) -> Cou
 }
 
 // The counts after one record more, of which the head was read.
-fn with_record(counts: Counts, names: &[u8], sheet: usize, answer: usize) -> Counts {
+fn with_record<R: Read>(
+    input: &mut R,
+    out: &Out,
+    counts: Counts,
+    names: &[u8],
+    sheet: usize,
+    answer: usize,
+) -> Counts {
     let mut bytes = [0u8; ROOM];
     let mut wanted = [0u8; ROOM];
-    let first = read_first(&mut bytes, sheet);
-    let second = read_first(&mut wanted, answer);
+    let first = read_first(input, &mut bytes, sheet);
+    let second = read_first(input, &mut wanted, answer);
     if first & second {
         return with_answer(
+            out,
             counts,
             names,
             &bytes[0..within(sheet, ROOM)],
             &wanted[0..within(answer, ROOM)],
         );
     }
-    malformed(counts)
+    malformed(out, counts)
 }
 
 // Nothing is read behind what is malformed.
-fn replayed(names: &[u8]) -> Counts {
+fn replayed<R: Read>(input: &mut R, out: &Out, names: &[u8]) -> Counts {
     let mut counts = Counts::none();
     for _ in 0..MOST_RECORDS {
         if counts.malformed != 0 {
             return counts;
         }
-        match read_head() {
+        match read_head(input) {
             Head::End => return counts,
-            Head::Malformed => return malformed(counts),
-            Head::Record(sheet, answer) => counts = with_record(counts, names, sheet, answer),
+            Head::Malformed => return malformed(out, counts),
+            Head::Record(sheet, answer) => counts = with_record(
+                input, out, counts, names, sheet, answer,
+            ),
         }
     }
     counts
 }
 
-fn main() {
+fn main(rt: HostRuntime) -> io::Result<()> {
     let names =
         b"status 0:\nstatus 2:\nstatus 3:\nstatus 5:\nrefused 3:\nrefused 4:\nrefused 9:\nrefused 20:\nrefused 21:\n";
-    write_summary(replayed(names), names);
+    let out = Out::new(rt.stdout());
+    let mut input = BufReader::new(rt.alloc(), rt.stdin())?;
+    write_summary(&out, replayed(&mut input, &out, names), names);
+    out.end()
 }

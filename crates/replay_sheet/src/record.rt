@@ -1,7 +1,8 @@
 // The head of a stored record: how many bytes the sheet and the answer have, in four decimal digits each.
 ghost use Rattle.std.specs.Prelude.{◌≤◌};
 
-use libc::STDIN_FILENO;
+use replay::input::read_full;
+use std::io::Read;
 
 #[derive(Clone, Copy)]
 pub enum Head {
@@ -33,9 +34,9 @@ fn spelled(text: &[u8; 10], from: usize) -> usize {
 }
 
 // The next head of standard input.
-pub fn read_head() -> Head {
+pub fn read_head<R: Read>(input: &mut R) -> Head {
     let mut text = [0u8; 10];
-    let got = io::read_full(STDIN_FILENO, &mut text);
+    let got = read_full(input, &mut text);
     if got == 0 {
         return Head::End;
     }

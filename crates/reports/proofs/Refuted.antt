@@ -46,8 +46,8 @@ record_of_old xold y buffer = let e = record_of xold y buffer in noted (Put e.an
 -- of a report from -0 to +0 the first byte: a minus, where a 0 is wanted
 pub old-point-put : ((xold x : Float) (offered : Bool) (y : List Float) (buffer : List ℕ)
     → record_of_old xold y buffer ≡ line_at (Report xold x offered) y buffer) → ⊥
-unfolding line_at ordered_of line_of over amounts_text text sign_text magnitude_text trimmed pointed exponent_text width_of
-    digits byte_of power pick ne of_bits to_bits
+unfolding line_at ordered_of line_of over amounts_text text sign_text magnitude_text trimmed pointed exponent_text
+    width_of digits byte_of power pick ne of_bits to_bits
 old-point-put same =
     let row = same (double 0x8000_0000_0000_0000) (double 0) false (double 0 ∷ []) (replicate 64 0) in
     let z : ◌≡◌ {A = ℕ} 45 48 = ap (λ e. get_or e.buffer 0 0) row in omega arith

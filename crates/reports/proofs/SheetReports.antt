@@ -1,15 +1,13 @@
 -- The reports that are met from the beginning of a sheet's run on are those of the journal by which its forecast is
 -- accounted for: the host of the code does what the model's does at each point of it, and the budget lasts.
-use Prim.Native.Nat.{ℕ, zero, suc, ◌≤◌, ◌<◌}
+use Prim.Native.Nat.{ℕ, zero, suc, ◌<◌}
 use mathlib.Core.Bool.{false, true≢false}
 use mathlib.Core.Path.{◌≡◌, refl, sym, ap, ◌∙◌, subst}
-use mathlib.Core.List.{List, [], ◌++◌, map}
+use mathlib.Core.List.{List, [], ◌++◌}
 use native.Mathlib.Omega.{arith}
 use lib.ListN.{length, take}
 use lib.Ieee.{Float}
-use Rattle.words.specs.Words.{double}
 use Rattle.state.specs.declared.run.Run.{Run}
-use Rattle.state.specs.declared.talk.Opened.{Opened}
 use Rattle.state.specs.declared.talk.Opened.TheVariants as opened
 use Rattle.state.specs.declared.talk.Place.{Place}
 use Rattle.state.specs.declared.talk.Request.{Request}
@@ -22,20 +20,20 @@ use Rattle.history.specs.History.{Point, point}
 use Rattle.account.specs.Journal.{Journal, journal, Starts}
 use Rattle.account.specs.Account.{played}
 use Rattle.account.proofs.FirstPoint.{opens}
-use Rattle.solve_whole.specs.Talk.{World, Talk, talk, offered, talk_by}
+use Rattle.solve_whole.specs.Talk.{World, Talk, talk, offered}
 use Rattle.solve_whole.proofs.Talks.{one_end}
 use Rattle.solve_whole.proofs.Theorems.{solve-offered}
 use Rattle.sheet.specs.Sheet.{Model, Valid}
 use Rattle.sheet.specs.Reader.{Read, accepted, heading_of, amounts_left, rates_left, species_left, read_of}
 use Rattle.sheet.proofs.Accepted.{accepted-sound}
-use Rattle.model_run.specs.Budget.{Answering, budget, lent_of, memory_of, opening_of}
+use Rattle.model_run.specs.Budget.{budget, lent_of, memory_of, opening_of}
 use Rattle.model_run.specs.declared.run.Task.{Task}
 use Rattle.model_run.proofs.OpeningKept.{opening-kept}
 use Rattle.forecast_text.specs.declared.ending.Reached.{Reached}
 use Rattle.forecast.specs.Forecast.{opening_for, host_of}
-use Rattle.forecast.specs.Account.{strategy_of, most_of, Accounted, Accounts}
+use Rattle.forecast.specs.Account.{strategy_of, Accounted, Accounts}
 use Rattle.forecast.specs.Told.{task_from}
-use Rattle.forecast.proofs.Turns.{always, strategy, done_at, point_at, played-point}
+use Rattle.forecast.proofs.Turns.{strategy, done_at, played-point}
 use Rattle.forecast.proofs.BudgetLasts.{starts, enough}
 use Rattle.forecast.proofs.ModelRead.{rates_for, species_for}
 use Rattle.forecast.proofs.HostsAgree.{code_host, model_host, reached, same_at, model-talks, model-fair}

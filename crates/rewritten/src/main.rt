@@ -2,35 +2,38 @@
 // it was refused. The bytes that it prints are what `rewrite` puts; here is only reading and writing.
 #![tactic(auto)]
 
-use libc::STDOUT_FILENO;
+use replay::out::Out;
 use replay::word::within;
 use sheet_input::read_all;
 use sheet_input::reading::{Input, KEPT};
 use sheet_write::rewrite;
+use std::io;
 
 // Room for every sheet.
 const OUT: usize = 4096;
 
 // Of what lies behind a reference the length is known.
-fn write_first(out: &[u8; OUT], count: usize) {
+fn write_first(to: &Out, out: &[u8; OUT], count: usize) {
     let bytes: &[u8] = out;
-    io::write_all(STDOUT_FILENO, &bytes[0..within(count, bytes.len())]);
+    to.write(&bytes[0..within(count, bytes.len())]);
 }
 
 // Prints the sheet, which is as long as was read, once more.
-fn tell(kept: &[u8; KEPT], length: usize) {
+fn tell(to: &Out, kept: &[u8; KEPT], length: usize) {
     let bytes: &[u8] = kept;
     let mut out = [0u8; OUT];
     let count = rewrite(&bytes[0..within(length, bytes.len())], &mut out);
-    write_first(&out, count);
+    write_first(to, &out, count);
 }
 
-fn main() {
+fn main(rt: HostRuntime) -> io::Result<()> {
+    let to = Out::new(rt.stdout());
     let mut kept = [0u8; KEPT];
-    match read_all(&mut kept) {
-        Input::Bytes(length) => tell(&kept, length),
+    match read_all(&mut rt.stdin(), &mut kept) {
+        Input::Bytes(length) => tell(&to, &kept, length),
         Input::Unreadable => {
-            io::write_all(STDOUT_FILENO, b"unreadable\n");
+            to.write(b"unreadable\n");
         }
     }
+    to.end()
 }

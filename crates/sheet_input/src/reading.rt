@@ -1,8 +1,8 @@
 // Standard input, of which the first bytes are kept.
 ghost use Rattle.sheet_input.specs.Input.{KeptIn};
 
-use libc::STDIN_FILENO;
 use replay::word::within;
+use std::io::{self, Read};
 use std::num::wrapping_add_usize;
 
 // One byte more than a sheet may have, so that a longer one is told from it.
@@ -25,36 +25,31 @@ pub enum Input {
     Unreadable,
 }
 
-fn came(got: isize, room: &[u8]) -> Piece {
-    if got < 0 {
-        return Piece::Failed;
+fn came(got: io::Result<usize>) -> Piece {
+    match got {
+        Ok(0) => Piece::End,
+        Ok(count) => Piece::Bytes(count),
+        Err(_) => Piece::Failed,
     }
-    let count = io::count(got, room);
-    if count == 0 {
-        return Piece::End;
-    }
-    Piece::Bytes(count)
 }
 
 // One read behind the bytes that are kept already; where there is no more room, what comes is dropped.
-fn read_some(kept: &mut [u8], done: usize) -> Piece {
+fn read_some<R: Read>(input: &mut R, kept: &mut [u8], done: usize) -> Piece {
     if done < kept.len() {
-        let got = libc::read(STDIN_FILENO, &mut kept[done..]);
-        return came(got, kept);
+        return came(input.read(&mut kept[done..]));
     }
     let mut dropped = [0u8; 4096];
-    let got = libc::read(STDIN_FILENO, &mut dropped);
-    came(got, &dropped)
+    came(input.read(&mut dropped))
 }
 
 // Reads standard input to its end, and keeps its first bytes. After an error nothing is judged: to judge the part that
 // came would blame a line that isn't wrong.
-pub fn read_all(kept: &mut [u8; KEPT]) -> Input
+pub fn read_all<R: Read>(input: &mut R, kept: &mut [u8; KEPT]) -> Input
     ensures { KeptIn result }
 {
     let mut done = 0;
     for _ in 0..MOST_READS {
-        match read_some(kept, done) {
+        match read_some(input, kept, done) {
             Piece::Bytes(more) => done = within(wrapping_add_usize(done, more), KEPT),
             Piece::End => return Input::Bytes(done),
             Piece::Failed => return Input::Unreadable,

@@ -23,7 +23,6 @@ use Rattle.solve_blocks.specs.Report.{ask_report}
 use Rattle.solve_blocks.specs.Advance.{Called, replied_of, called_of}
 use Rattle.solve_blocks.proofs.AdvanceWhole.{whole_of}
 use Rattle.history.specs.Host.{Action, filled, modified, wrote}
-use Rattle.history.specs.History.{point}
 use Rattle.account.specs.Journal.{Fair, Turn, turn, Journal, next}
 use Rattle.account.specs.Reading.{is_report, later_all}
 use Rattle.account.proofs.Matches.{matches-report}

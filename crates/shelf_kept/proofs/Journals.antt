@@ -7,7 +7,6 @@ use lib.ListN.{length, take}
 use lib.Ieee.{Float}
 use Rattle.words.specs.Loop.{pick}
 use Rattle.words.proofs.Branch.{pick_yes}
-use Rattle.state.specs.declared.run.Stage.TheVariants as stage
 use Rattle.opening.specs.Rows.{Opening}
 use Rattle.opening.specs.Opening.{open_of}
 use Rattle.history.specs.Host.{Action}
@@ -15,7 +14,7 @@ use Rattle.account.specs.Journal.{Fair, Journal, next, FairFrom, after, Starts, 
 use Rattle.account.specs.Reading.{is_report}
 use Rattle.account.proofs.Matches.{matches-report}
 use Rattle.account.proofs.FirstPoint.{opens}
-use Rattle.account.proofs.Journals.{Sound, sound-first, sound-next, sound}
+use Rattle.account.proofs.Journals.{Sound, sound-first, sound-next}
 use Rattle.shelf.specs.Shelf.{Step, empty_shelf, kept_of}
 use Rattle.shelf.specs.Refusals.{Room}
 use Rattle.shelf.specs.Ask.{answer_of, ask_of}

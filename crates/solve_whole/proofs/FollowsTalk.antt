@@ -20,7 +20,7 @@ use Rattle.state.specs.declared.talk.Request.TheVariants as request
 use Rattle.solve_blocks.specs.declared.step.Call.{Call}
 use Rattle.solve_blocks.specs.declared.step.Step.{Step}
 use Rattle.solve_blocks.specs.declared.step.Step.TheVariants as step
-use Rattle.solve_blocks.specs.Matrices.{call, passes_of, pass_at}
+use Rattle.solve_blocks.specs.Matrices.{passes_of, pass_at}
 use Rattle.solve_blocks.specs.Advance.{Stepped, stepped, Called, called, received_of, passed_of, called_of, advance_by}
 use Rattle.history.specs.Host.{is_end}
 use Rattle.history.specs.History.{point, next_point}
@@ -74,7 +74,8 @@ module _ (host : Host) where
   -- ---- one advance
 
   module _ (t : Talk) (still : is_end t.point.request ≡ false) where
-    before_more : (d : ℕ) → ((j : ℕ) → j < d → GoesOn (advanced_by admitted host t) j) → (j : ℕ) → j < suc d → GoesOn t j
+    before_more : (d : ℕ) → ((j : ℕ) → j < d → GoesOn (advanced_by admitted host t) j) → (j : ℕ) → j < suc d → GoesOn t
+        j
     unfolding talk_by
     before_more d g zero l = still
     before_more d g (suc j) l = g j (omega arith)

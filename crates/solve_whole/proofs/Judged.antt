@@ -14,7 +14,8 @@ use Rattle.solve_blocks.specs.Events.{Logged}
 use Rattle.solve_blocks.specs.Setters.{◌▸◌, in_counts, one_lu}
 use Rattle.solve_blocks.specs.Entries.{three}
 use Rattle.solve_blocks.specs.Estimate.{solved_first, error_of, plus_at, sum_at}
-use Rattle.solve_blocks.specs.Judge.{Judged, judged_of, tested_of, estimate_of, refined_of, ask_accepted, ask_refinement}
+use Rattle.solve_blocks.specs.Judge.{Judged, judged_of, tested_of, estimate_of, refined_of, ask_accepted}
+use Rattle.solve_blocks.specs.Judge.{ask_refinement}
 use Rattle.solve_blocks.specs.Advance.{Stepped, stepped, replied_of, conclude_of}
 use Rattle.history.specs.Host.{is_end}
 use Rattle.solve_whole.specs.Talk.{Host, World, on_memory, ask}

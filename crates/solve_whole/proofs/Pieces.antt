@@ -103,7 +103,8 @@ module _ (host : Host) (d : ℕ) where
   pub first_goes : (next : Next)
       → ((r : Run) (w : World) → Sound 0 r → Sim host d (step.Main r) (w ▸ on_memory (rescaled r)) (next r w))
       → (r : Run) (w : World) → Sound 0 r
-      → Sim host d (step.Asked (ask_first_report r)) w (report host stage.FirstDerivativeAgain (ask_first_report r) w next)
+      → Sim host d (step.Asked (ask_first_report r)) w (report host stage.FirstDerivativeAgain (ask_first_report r) w
+      next)
   unfolding replied_of is_end
   first_goes next goes r w sound =
       let c = ask_first_report r in

@@ -27,7 +27,8 @@ use Rattle.state.specs.declared.talk.Verdict.{Verdict}
 use Rattle.state.specs.declared.talk.Verdict.TheVariants as verdict
 use Rattle.state.specs.Memory.{Memory}
 use Rattle.opening.specs.Rows.{Opening, opening_rows, verdict_of}
-use Rattle.opening.specs.Opening.{OpeningOutcome, opening_outcome, open_of, by_verdict, accepted_of, first_run, shape_of}
+use Rattle.opening.specs.Opening.{OpeningOutcome, opening_outcome, open_of, by_verdict, accepted_of, first_run}
+use Rattle.opening.specs.Opening.{shape_of}
 use Rattle.opening.proofs.Theorems.{verdict-first}
 use Rattle.opening.proofs.OpeningLaws.{within}
 use Rattle.solve_blocks.specs.Matrices.{passes_of, pass_at}

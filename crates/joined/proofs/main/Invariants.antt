@@ -1,6 +1,5 @@
 -- What each loop of `main` keeps.
 use Prim.Native.Nat.{◌-◌}
-use borrow.Author.Rules.{rules}
 use Rattle.joined.proofs.main.Given as goal
 
 abbrev pub invariant-loop : goal.invariant-loop

@@ -3,7 +3,7 @@ use Rattle.std.proofs.Common.{◌-◌, rules}
 use Rattle.replay_run.proofs.replayed.Given as goal
 
 abbrev pub invariant-loop : goal.invariant-loop
-invariant-loop l = Unit {0}
+invariant-loop g l = Unit {0}
 
 abbrev pub decreases-loop : goal.decreases-loop
-decreases-loop l = 1000 - l.counter
+decreases-loop g l = 1000 - l.counter

@@ -3,4 +3,4 @@ use Rattle.std.proofs.Common.{◌-◌, arith, rules}
 use Rattle.replay_run.proofs.with_requests.Goals as goal
 
 pub overflow_step : goal.overflow_step
-overflow_step c = omega (arith, c.loop-test.true, c.ranges.requests)
+overflow_step g c = omega (arith, c.loop-test.true, c.ranges.requests)

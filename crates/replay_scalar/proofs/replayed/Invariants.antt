@@ -1,11 +1,9 @@
 -- What each loop of `replayed` keeps.
 use Prim.Native.Nat.{◌-◌}
-use native.Mathlib.Omega.{arith}
-use borrow.Author.Rules.{rules}
 use Rattle.replay_scalar.proofs.replayed.Given as goal
 
 abbrev pub invariant-loop : goal.invariant-loop
-invariant-loop l = Unit {0}
+invariant-loop g l = Unit {0}
 
 abbrev pub decreases-loop : goal.decreases-loop
-decreases-loop l = 20000 - l.counter
+decreases-loop g l = 20000 - l.counter

@@ -1,6 +1,5 @@
 -- `whole_word` meets its contract.
 use Rattle.state.specs.Settings.{or_none}
-use borrow.Author.Rules.{rules}
 use Rattle.export.proofs.choices.whole_word.Goals as goal
 
 pub returns-in-Absent : goal.returns-in-Absent

@@ -1,13 +1,11 @@
 -- `numbers_of` meets its contract: each entry by what its call says.
 use mathlib.Core.List.{[], ◌∷◌}
-use borrow.Author.Rules.{rules}
 use Rattle.export.proofs.defaults.numbers_of.Goals as goal
 
 pub returns : goal.returns
-returns c = let s = c.args.s in
-    λ i.
-    s.max_steps
-    ∷ s.newton_maxiter
+returns c = λ i.
+    c.args.s.max_steps
+    ∷ c.args.s.newton_maxiter
     ∷ c.flag_word.ensures i
     ∷ c.flag_word-2.ensures i
     ∷ c.mass_word.ensures i

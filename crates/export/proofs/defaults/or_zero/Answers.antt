@@ -1,5 +1,4 @@
 -- `or_zero` meets its contract.
-use borrow.Author.Rules.{rules}
 use Rattle.state.specs.Settings.{or_else}
 use Rattle.export.proofs.defaults.or_zero.Goals as goal
 

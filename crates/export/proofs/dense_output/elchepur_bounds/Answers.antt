@@ -1,6 +1,5 @@
 -- `elchepur_bounds` meets its contract: the ends are `dense`'s own.
 use mathlib.Core.Path.{ap}
-use borrow.Author.Rules.{rules}
 use Rattle.export.specs.Ends.{ends_of}
 use Rattle.export.proofs.dense_output.elchepur_bounds.Goals as goal
 

@@ -1,6 +1,5 @@
 -- `elchepur_interpolate` meets its contract: it is `dense`'s own, read field by field.
 use mathlib.Core.Path.{ap, ◌∙◌}
-use borrow.Author.Rules.{rules}
 use Rattle.dense.specs.Answers.{interpolated_number}
 use Rattle.export.proofs.dense_output.elchepur_interpolate.Goals as goal
 

@@ -1,7 +1,6 @@
 -- `elchepur_held_step` meets its contract.
 use mathlib.Core.Path.{ap, ◌∙◌}
 use Rattle.state.specs.declared.run.Run.{Run}
-use borrow.Author.Rules.{rules}
 use Rattle.export.proofs.held.elchepur_held_step.Goals as goal
 
 pub returns : goal.returns

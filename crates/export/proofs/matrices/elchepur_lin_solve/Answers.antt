@@ -1,6 +1,5 @@
 -- `elchepur_lin_solve` meets its contract: it is `matrix`'s own, read field by field. Assumes nothing.
 use mathlib.Core.Path.{ap, ◌∙◌}
-use borrow.Author.Rules.{rules}
 use Rattle.matrix.specs.Answers.{solved_number}
 use Rattle.export.proofs.matrices.elchepur_lin_solve.Goals as goal
 

@@ -1,6 +1,5 @@
 -- `elchepur_result` meets its contract: the result of the run is told.
 use Rattle.export.proofs.RunLaws.{result-left}
-use borrow.Author.Rules.{rules}
 use Rattle.export.proofs.run.elchepur_result.Goals as goal
 
 pub returns : goal.returns

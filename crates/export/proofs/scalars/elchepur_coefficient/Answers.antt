@@ -1,6 +1,5 @@
 -- `elchepur_coefficient` meets its contract: the entry is `scalar`'s own.
 use mathlib.Core.Path.{refl}
-use borrow.Author.Rules.{rules}
 use Rattle.export.proofs.scalars.elchepur_coefficient.Goals as goal
 
 pub returns-in-Value : goal.returns-in-Value

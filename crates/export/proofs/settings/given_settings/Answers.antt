@@ -2,30 +2,27 @@
 use Rattle.words.specs.Words.{◌!◌}
 use Rattle.radau_core.specs.Choices.{flag_of}
 use Rattle.radau_core.specs.Places.{◌#◌}
-use borrow.Author.Rules.{rules}
 use Rattle.export.proofs.settings.given_settings.Goals as goal
 
 pub returns : goal.returns
-returns c = let w = c.args.w.now in
-    let x = c.args.x.now in
-    λ i.
+returns c = λ i.
     record {
-      max_steps = w # 0;
-      uround = x ! 0;
-      safety_factor = x ! 1;
-      scale_min = x ! 2;
-      scale_max = x ! 3;
+      max_steps = c.args.w.now # 0;
+      uround = c.args.x.now ! 0;
+      safety_factor = c.args.x.now ! 1;
+      scale_min = c.args.x.now ! 2;
+      scale_max = c.args.x.now ! 3;
       max_step = c.number.ensures i;
       min_step = c.number-2.ensures i;
-      newton_maxiter = w # 1;
+      newton_maxiter = c.args.w.now # 1;
       newton_tol = c.number-3.ensures i;
-      predictive = flag_of (w # 2);
+      predictive = flag_of (c.args.w.now # 2);
       nind1 = c.whole.ensures i;
       nind2 = c.whole-2.ensures i;
       nind3 = c.whole-3.ensures i;
       mass = c.mass.ensures i;
       source = c.source.ensures i;
       first_step = c.number-4.ensures i;
-      dense_output = flag_of (w # 3);
+      dense_output = flag_of (c.args.w.now # 3);
       rule = c.rule.ensures i;
     }

@@ -1,17 +1,15 @@
 -- `end_numbers` meets its contract: status and blame by their numbers, the counts as they are.
 use mathlib.Core.List.{[], ◌∷◌}
-use borrow.Author.Rules.{rules}
 use Rattle.export.proofs.talk.end_numbers.Goals as goal
 
 pub returns : goal.returns
-returns c = let counts = c.args.res.counts in
-    λ i. c.status_number.ensures i
-    ∷ counts.ode
-    ∷ counts.jac
-    ∷ counts.lu
-    ∷ counts.total
-    ∷ counts.accepted
-    ∷ counts.rejected
+returns c = λ i. c.status_number.ensures i
+    ∷ c.args.res.counts.ode
+    ∷ c.args.res.counts.jac
+    ∷ c.args.res.counts.lu
+    ∷ c.args.res.counts.total
+    ∷ c.args.res.counts.accepted
+    ∷ c.args.res.counts.rejected
     ∷ c.blame_kind.ensures i
     ∷ c.blame_column.ensures i
     ∷ []

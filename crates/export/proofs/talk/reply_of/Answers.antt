@@ -1,10 +1,10 @@
 -- `reply_of` meets its contract.
 use mathlib.Core.Path.{refl, sym, ◌∙◌}
 use borrow.Author.Tests.{ne_eqb}
+use Rattle.std.proofs.Common.{◌≢◌, arith}
 use Rattle.words.specs.Loop.{pick}
 use Rattle.words.proofs.Branch.{yes, no}
 use Rattle.export.specs.Talk.{stray_reply, reply_of}
-use borrow.Author.Rules.{rules}
 use Rattle.export.proofs.talk.reply_of.Goals as goal
 
 pub returns-in-1 : goal.returns-in-1
@@ -29,18 +29,30 @@ returns-in-5 c = rw c.in-5.is
 
 pub returns-then-report_is_open : goal.returns-then-report_is_open
 unfolding reply_of stray_reply
-returns-then-report_is_open c = no _ _ _ (ne_eqb _ _ c.in_default.rest.0.0.0.0.1)
-    (no _ _ _ (ne_eqb _ _ c.in_default.rest.0.0.0.1)
-    (no _ _ _ (ne_eqb _ _ c.in_default.rest.0.0.1)
-    (no _ _ _ (ne_eqb _ _ c.in_default.rest.0.1)
-    (no _ _ _ (ne_eqb _ _ c.in_default.rest.1)
+returns-then-report_is_open c =
+    let not-1 : c.args.reply ≢ 1 = omega arith in
+    let not-2 : c.args.reply ≢ 2 = omega arith in
+    let not-3 : c.args.reply ≢ 3 = omega arith in
+    let not-4 : c.args.reply ≢ 4 = omega arith in
+    let not-5 : c.args.reply ≢ 5 = omega arith in
+    no _ _ _ (ne_eqb _ _ not-1)
+    (no _ _ _ (ne_eqb _ _ not-2)
+    (no _ _ _ (ne_eqb _ _ not-3)
+    (no _ _ _ (ne_eqb _ _ not-4)
+    (no _ _ _ (ne_eqb _ _ not-5)
     (yes _ _ _ (sym c.report_is_open.ensures ∙ c.if-report_is_open.true) refl)))))
 
 pub returns-else-report_is_open : goal.returns-else-report_is_open
 unfolding reply_of stray_reply
-returns-else-report_is_open c = no _ _ _ (ne_eqb _ _ c.in_default.rest.0.0.0.0.1)
-    (no _ _ _ (ne_eqb _ _ c.in_default.rest.0.0.0.1)
-    (no _ _ _ (ne_eqb _ _ c.in_default.rest.0.0.1)
-    (no _ _ _ (ne_eqb _ _ c.in_default.rest.0.1)
-    (no _ _ _ (ne_eqb _ _ c.in_default.rest.1)
+returns-else-report_is_open c =
+    let not-1 : c.args.reply ≢ 1 = omega arith in
+    let not-2 : c.args.reply ≢ 2 = omega arith in
+    let not-3 : c.args.reply ≢ 3 = omega arith in
+    let not-4 : c.args.reply ≢ 4 = omega arith in
+    let not-5 : c.args.reply ≢ 5 = omega arith in
+    no _ _ _ (ne_eqb _ _ not-1)
+    (no _ _ _ (ne_eqb _ _ not-2)
+    (no _ _ _ (ne_eqb _ _ not-3)
+    (no _ _ _ (ne_eqb _ _ not-4)
+    (no _ _ _ (ne_eqb _ _ not-5)
     (no _ _ _ (sym c.report_is_open.ensures ∙ c.if-report_is_open.false) refl)))))

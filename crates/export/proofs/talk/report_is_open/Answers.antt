@@ -1,6 +1,5 @@
 -- `report_is_open` meets its contract.
 use mathlib.Core.Path.{ap}
-use borrow.Author.Rules.{rules}
 use Rattle.opening.specs.declared.admission.Asking.{Asking}
 use Rattle.export.proofs.talk.report_is_open.Goals as goal
 

@@ -1,6 +1,5 @@
 -- `tell_opened` meets its contract.
 use Rattle.export.specs.Talk.{crossed, of_opened}
-use borrow.Author.Rules.{rules}
 use Rattle.export.proofs.talk.tell_opened.Goals as goal
 
 pub returns-in-Refused : goal.returns-in-Refused

@@ -1,5 +1,4 @@
 -- `tell_points` meets its contract.
-use borrow.Author.Rules.{rules}
 use Rattle.export.proofs.talk.tell_points.Goals as goal
 
 pub returns-in-Derivative : goal.returns-in-Derivative

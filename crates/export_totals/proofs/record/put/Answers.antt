@@ -1,5 +1,5 @@
 -- `put` meets its contract: each turn pastes one word more.
-use Prim.Native.Nat.{ℕ, ◌+◌}
+use Prim.Native.Nat.{ℕ, ◌+◌, ◌≤◌}
 use mathlib.Core.Path.{◌≡◌, ap, sym, ◌∙◌}
 use mathlib.Core.List.{List}
 use native.Mathlib.Nat.{le_antisymm}
@@ -10,15 +10,18 @@ use lib.ListN.{length, get_or, set}
 use lib.Seq.{paste, paste-zero, paste-suc, length-paste}
 use Rattle.export_totals.proofs.record.put.Goals as goal
 
+-- at any turn the words are as many as they were
+long : (words part : List ℕ) (at k : ℕ) (now : List ℕ) → at + length part ≤ length words → k ≤ length part
+    → now ≡ paste words at part k → length now ≡ length words
+long words part at k now fits in_part is = ap length is ∙ length-paste words at part k (omega arith) in_part
+
 pub loop-k-init : goal.loop-k-init
 loop-k-init c = (search rules, paste-zero c.args.words.now c.args.at c.args.part.now)
 
 pub bounds-words-at : goal.bounds-words-at
-bounds-words-at c =
-    let long : length c.loop-k.words ≡ length c.args.words.now = let a = c.args in
-    ap length c.loop-k.invariant.1
-    ∙ length-paste a.words.now a.at a.part.now c.loop-k.k (omega arith) c.loop-k.invariant.0 in
-    omega (arith, long)
+bounds-words-at c = let a = c.args in
+    let l = c.loop-k in
+    omega (arith, long a.words.now a.part.now a.at l.k l.words c.requires l.invariant.0 l.invariant.1)
 
 pub loop-k-preserved : goal.loop-k-preserved
 loop-k-preserved c = let a = c.args in
@@ -32,11 +35,9 @@ loop-k-preserved c = let a = c.args in
     )
 
 pub shape_of-words : goal.shape_of-words
-shape_of-words c =
-    let long : length c.loop-k.words ≡ length c.args.words.now = let a = c.args in
-    ap length c.loop-k.invariant.1
-    ∙ length-paste a.words.now a.at a.part.now c.loop-k.k (omega arith) c.loop-k.invariant.0 in
-    long
+shape_of-words c = let a = c.args in
+    let l = c.loop-k in
+    long a.words.now a.part.now a.at l.k l.words c.requires l.invariant.0 l.invariant.1
 
 pub returns : goal.returns
 returns c = let a = c.args in

@@ -2,7 +2,6 @@
 use Prim.Native.Nat.{ℕ}
 use mathlib.Core.Path.{◌≡◌, sym, ◌∙◌, subst}
 use mathlib.Core.List.{List}
-use borrow.Author.Rules.{rules}
 use Rattle.state.specs.Memory.{noughts}
 use Rattle.sheet.specs.Reader.{answer_of, read_of}
 use Rattle.sheet.specs.declared.sheet.Reading.{Reading}
@@ -22,11 +21,12 @@ module _ (bytes : List ℕ) {x : Reading} (is : x ≡ answer_of (read_of bytes))
 
 pub returns-in-Read : goal.returns-in-Read
 unfolding noughts
-returns-in-Read c = let read = c.read-reading in
-    forecast-solves c.args.bytes.now _
-    {amounts = read.new.1.0} {rates = read.new.1.1.0} {species = read.new.1.1.1.0} c.modelled.result
-    (sym c.in-Read.is ∙ read.ensures.0) read.ensures.1.0 read.ensures.1.1.0
-    read.ensures.1.1.1 c.modelled.ensures
+returns-in-Read c = forecast-solves c.args.bytes.now _
+    {amounts = c.read-reading.new.amounts} {rates = c.read-reading.new.rates} {species = c.read-reading.new.species}
+    c.modelled.result
+    (sym c.in-Read.is ∙ c.read-reading.ensures.value) c.read-reading.ensures.amounts_after
+    c.read-reading.ensures.rates_after
+    c.read-reading.ensures.species_after c.modelled.ensures
 
 pub returns-in-Malformed : goal.returns-in-Malformed
 returns-in-Malformed c = malformed c.args.bytes.now c.read-reading.ensures.value c.refused.result _

@@ -1,5 +1,4 @@
 -- `amounts_from` meets its contract.
-use borrow.Author.Rules.{rules}
 use Rattle.forecast.proofs.task.amounts_from.Goals as goal
 
 pub returns : goal.returns

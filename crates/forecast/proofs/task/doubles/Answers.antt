@@ -1,5 +1,5 @@
 -- `doubles` meets its contract. The loop's invariant: the first i floats are the doubles of the first i patterns.
-use Prim.Native.Nat.{ℕ, ◌+◌, ◌-◌, ◌≤◌, ◌<◌}
+use Prim.Native.Nat.{ℕ, ◌+◌, ◌<◌}
 use mathlib.Core.Path.{◌≡◌, refl, sym, ap, ◌∙◌}
 use mathlib.Core.List.{List, [], ◌∷◌, ◌++◌, map, map-append}
 use native.Mathlib.Numerals.{add-one}
@@ -34,13 +34,13 @@ pub loop-i-init : goal.loop-i-init
 loop-i-init c = (omega arith, refl, search rules, refl)
 
 pub loop-i-preserved : goal.loop-i-preserved
-loop-i-preserved c = let inv = c.loop-i.invariant in (
+loop-i-preserved c = (
   omega arith,
   refl,
-  length-set c.loop-i.floats _ _ ∙ inv.2,
+  length-set c.loop-i.floats _ _ ∙ c.loop-i.invariant.2,
   turned c.args.bits.now
       c.loop-i.floats c.loop-i.i c.double.result
-      (omega arith) (omega arith) inv.3 c.double.ensures,
+      (omega arith) (omega arith) c.loop-i.invariant.3 c.double.ensures,
 )
 
 pub returns : goal.returns

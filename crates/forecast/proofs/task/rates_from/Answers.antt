@@ -1,5 +1,4 @@
 -- `rates_from` meets its contract.
-use borrow.Author.Rules.{rules}
 use Rattle.forecast.proofs.task.rates_from.Goals as goal
 
 pub returns : goal.returns

@@ -1,5 +1,4 @@
 -- `settings_from` meets its contract.
-use borrow.Author.Rules.{rules}
 use Rattle.forecast.proofs.task.settings_from.Goals as goal
 
 pub returns : goal.returns

@@ -1,5 +1,4 @@
 -- `task_from` meets its contract.
-use borrow.Author.Rules.{rules}
 use Rattle.forecast.proofs.task.task_from.Goals as goal
 
 pub returns : goal.returns

@@ -2,7 +2,6 @@
 use Prim.Native.Nat.{ℕ}
 use mathlib.Core.Path.{◌≡◌, sym, ap, ◌∙◌}
 use native.Mathlib.Omega.{arith}
-use borrow.Author.Rules.{rules}
 use Rattle.state.specs.declared.run.Run.{Run}
 use Rattle.state.specs.declared.talk.Result.TheVariants as result
 use Rattle.state.specs.Result.{result_at, result_of}
@@ -14,7 +13,7 @@ unfolding result_at
 not-without r o e = let is = sym (ap (result_at r) o.is) ∙ e in let z : ◌≡◌ {A = ℕ} 0 1 = cc in omega arith
 
 pub never-requires : goal.never-requires
-never-requires c = not-without _ c.requires (sym c.result.ensures ∙ c.in-NotEnded.is)
+never-requires c = sym c.result.ensures ∙ c.in-NotEnded.is
 
 pub returns-in-Ended : goal.returns-in-Ended
 returns-in-Ended c = sym c.result.ensures ∙ c.in-Ended.is

@@ -2,7 +2,6 @@
 use Prim.Native.Nat.{ℕ}
 use mathlib.Core.Path.{◌≡◌, sym, ap, ◌∙◌, subst}
 use mathlib.Core.List.{List, map}
-use borrow.Author.Rules.{rules}
 use lib.Ieee.{Float}
 use Rattle.words.specs.Words.{double}
 use Rattle.sheet.specs.declared.sheet.Heading.{Heading}

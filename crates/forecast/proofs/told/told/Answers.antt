@@ -2,7 +2,6 @@
 use Prim.Native.Nat.{ℕ}
 use mathlib.Core.Path.{◌≡◌, refl, sym, subst}
 use mathlib.Core.List.{List}
-use borrow.Author.Rules.{rules}
 use lib.Ieee.{Float}
 use Rattle.state.specs.declared.run.Run.{Run}
 use Rattle.state.specs.declared.talk.IntegrationResult.{IntegrationResult}
@@ -43,5 +42,5 @@ returns-in-Refused c = let a = c.args in
 
 pub returns-in-Ran : goal.returns-in-Ran
 returns-in-Ran c = let a = c.args in
-    ended a.n a.outcome.amounts a.outcome.finish _ c.end_of_lem.result
-    c.in-Ran.is c.end_of_lem.ensures
+    ended a.n a.outcome.amounts a.outcome.finish _ c.end_of.result
+    c.in-Ran.is c.end_of.ensures

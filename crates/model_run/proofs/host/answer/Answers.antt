@@ -1,15 +1,13 @@
 -- `answer` meets its contract: it is the answer by a plan, and where there is none nothing is asked of it.
 use mathlib.Core.Path.{refl}
 use native.Mathlib.Omega.{arith}
-use borrow.Author.Rules.{rules}
 use Rattle.model_run.proofs.host.answer.Goals as goal
 
 pub answer_by_plan-requires : goal.answer_by_plan-requires
 answer_by_plan-requires c = (refl, λ p. absurd (omega arith))
 
 pub returns : goal.returns
-returns c = let e = (c.answer_by_plan.ensures.value, c.answer_by_plan.ensures.f_origin_after, c.answer_by_plan.ensures.changes_len) in
-    record {
-      value = e.0;
-      f_origin_after = e.1.0;
-    }
+returns c = record {
+  value = c.answer_by_plan.ensures.value;
+  f_origin_after = c.answer_by_plan.ensures.f_origin_after;
+}

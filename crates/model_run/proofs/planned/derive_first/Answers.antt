@@ -2,7 +2,6 @@
 use mathlib.Core.Path.{ap, sym, ◌∙◌}
 use mathlib.Core.List.{List}
 use native.Mathlib.Omega.{arith}
-use borrow.Author.Rules.{rules}
 use lib.ListN.{length-take}
 use lib.Seq.{take_all}
 use lib.Ieee.{Float}
@@ -13,15 +12,16 @@ pub slice_bounds-derivative_by_plan-end : goal.slice_bounds-derivative_by_plan-e
 slice_bounds-derivative_by_plan-end c = simp length-take (omega arith)
 
 pub returns-then-n-cont : goal.returns-then-n-cont
-returns-then-n-cont c = let p = c.derivative_by_plan.ensures in record {
-  part_after = p.1;
-  changes_len = p.0;
+returns-then-n-cont c = record {
+  part_after = c.derivative_by_plan.ensures.1;
+  changes_len = c.derivative_by_plan.ensures.0;
 }
 
 pub returns-else-n-cont : goal.returns-else-n-cont
 returns-else-n-cont c = let a = c.args in
-    let p = c.derivative_by_plan-else-n-cont.ensures in record {
-      part_after = p.1 ∙ ap (λ (l : List Float). (derived_of a.reactions l a.rates.now a.species.now a.part.now).dy)
+    record {
+      part_after = c.derivative_by_plan-else-n-cont.ensures.1 ∙ ap
+          (λ (l : List Float). (derived_of a.reactions l a.rates.now a.species.now a.part.now).dy)
           (sym (take_all a.n a.cont.now c.if-n-cont.false));
-      changes_len = p.0;
+      changes_len = c.derivative_by_plan-else-n-cont.ensures.0;
     }

@@ -1,40 +1,33 @@
 -- `fill` meets its contract: what was matched names the part, and what was called filled it.
-use mathlib.Core.Path.{◌≡◌, refl}
-use mathlib.Core.List.{List}
-use borrow.Author.Rules.{rules}
-use lib.Ieee.{Float}
-use Rattle.state.specs.declared.talk.Place.{Place}
+use mathlib.Core.Path.{refl}
 use Rattle.state.specs.declared.talk.Place.TheVariants as place
-use Rattle.state.specs.Memory.{Memory, Given, Factors}
 use Rattle.history.specs.Host.{part_at, filled}
-use Rattle.model_run.specs.Host.{source_at, derived_at}
+use Rattle.model_run.specs.Host.{source_at}
 use Rattle.model_run.proofs.HostLaws.{hosted, filled_at}
 use Rattle.model_run.proofs.planned.fill.Goals as goal
-
-filled_in : (start : goal.Start) (q : Place) (m : Memory) {v : List Float} → start.args.place ≡ q
-    → v ≡ derived start q m → filled q v m ≡ filled start.args.place (derived start start.args.place m) m
-filled_in start q m =
-    let a = start.args in filled_at a.reactions a.rates.now a.species.now a.place q m
 
 pub returns-in-Nowhere : goal.returns-in-Nowhere
 unfolding filled part_at source_at
 returns-in-Nowhere c =
-    let lent : List Float → List Float → List Float → Given → Factors → Memory = let a = c.args in
-    hosted a.y.now a.f0.now a.cont.now a.z1.now a.z2.now a.z3.now a.f1.now
-    a.y-perturbed.now a.f-perturbed.now a.f-origin.now in
-    let start = c.before.before.before.before.before.before.before.before.before.before.before.before.before.before in record {
-      f_origin_after = λ scal f2 f3 g f. filled_in start place.Nowhere (lent scal f2 f3 g f) c.in-Nowhere.is refl;
-      changes_len = start.pre.0;
+    let a = c.args in
+    let lent = hosted a.y.now a.f0.now a.cont.now a.z1.now a.z2.now a.z3.now a.f1.now
+    a.y_perturbed.now a.f_perturbed.now a.f_origin.now in
+    record {
+      f_origin_after = λ scal f2 f3 g f.
+          filled_at a.reactions a.rates.now a.species.now a.place place.Nowhere (lent scal f2 f3 g f) c.in-Nowhere.is
+          refl;
+      changes_len = c.requires.0;
     }
 
 pub returns-in-YToF0 : goal.returns-in-YToF0
 unfolding filled part_at source_at
 returns-in-YToF0 c =
-    let lent : List Float → List Float → List Float → Given → Factors → Memory = let a = c.args in
-    hosted a.y.now a.f0.now a.cont.now a.z1.now a.z2.now a.z3.now a.f1.now
-    a.y-perturbed.now a.f-perturbed.now a.f-origin.now in
-    let start = c.before.before.before.before.before.before.before.before.before.before.before.before.before.before.before.before.before.before.before in record {
-      f_origin_after = λ scal f2 f3 g f. filled_in start place.YToF0 (lent scal f2 f3 g f) c.in-YToF0.is
+    let a = c.args in
+    let lent = hosted a.y.now a.f0.now a.cont.now a.z1.now a.z2.now a.z3.now a.f1.now
+    a.y_perturbed.now a.f_perturbed.now a.f_origin.now in
+    record {
+      f_origin_after = λ scal f2 f3 g f.
+          filled_at a.reactions a.rates.now a.species.now a.place place.YToF0 (lent scal f2 f3 g f) c.in-YToF0.is
           c.derivative_by_plan.ensures.1;
       changes_len = c.derivative_by_plan.ensures.0;
     }
@@ -42,11 +35,12 @@ returns-in-YToF0 c =
 pub returns-in-ContToZ1 : goal.returns-in-ContToZ1
 unfolding filled part_at source_at
 returns-in-ContToZ1 c =
-    let lent : List Float → List Float → List Float → Given → Factors → Memory = let a = c.args in
-    hosted a.y.now a.f0.now a.cont.now a.z1.now a.z2.now a.z3.now a.f1.now
-    a.y-perturbed.now a.f-perturbed.now a.f-origin.now in
-    let start = c.before.before.before.before.before.before.before.before.before.before.before.before.before.before.before.before.before.before.before in record {
-      f_origin_after = λ scal f2 f3 g f. filled_in start place.ContToZ1 (lent scal f2 f3 g f) c.in-ContToZ1.is
+    let a = c.args in
+    let lent = hosted a.y.now a.f0.now a.cont.now a.z1.now a.z2.now a.z3.now a.f1.now
+    a.y_perturbed.now a.f_perturbed.now a.f_origin.now in
+    record {
+      f_origin_after = λ scal f2 f3 g f.
+          filled_at a.reactions a.rates.now a.species.now a.place place.ContToZ1 (lent scal f2 f3 g f) c.in-ContToZ1.is
           c.derive_first.ensures.part_after;
       changes_len = c.derive_first.ensures.changes_len;
     }
@@ -54,11 +48,12 @@ returns-in-ContToZ1 c =
 pub returns-in-ContToZ2 : goal.returns-in-ContToZ2
 unfolding filled part_at source_at
 returns-in-ContToZ2 c =
-    let lent : List Float → List Float → List Float → Given → Factors → Memory = let a = c.args in
-    hosted a.y.now a.f0.now a.cont.now a.z1.now a.z2.now a.z3.now a.f1.now
-    a.y-perturbed.now a.f-perturbed.now a.f-origin.now in
-    let start = c.before.before.before.before.before.before.before.before.before.before.before.before.before.before.before.before.before.before.before in record {
-      f_origin_after = λ scal f2 f3 g f. filled_in start place.ContToZ2 (lent scal f2 f3 g f) c.in-ContToZ2.is
+    let a = c.args in
+    let lent = hosted a.y.now a.f0.now a.cont.now a.z1.now a.z2.now a.z3.now a.f1.now
+    a.y_perturbed.now a.f_perturbed.now a.f_origin.now in
+    record {
+      f_origin_after = λ scal f2 f3 g f.
+          filled_at a.reactions a.rates.now a.species.now a.place place.ContToZ2 (lent scal f2 f3 g f) c.in-ContToZ2.is
           c.derive_first-in-ContToZ2.ensures.part_after;
       changes_len = c.derive_first-in-ContToZ2.ensures.changes_len;
     }
@@ -66,11 +61,12 @@ returns-in-ContToZ2 c =
 pub returns-in-ContToZ3 : goal.returns-in-ContToZ3
 unfolding filled part_at source_at
 returns-in-ContToZ3 c =
-    let lent : List Float → List Float → List Float → Given → Factors → Memory = let a = c.args in
-    hosted a.y.now a.f0.now a.cont.now a.z1.now a.z2.now a.z3.now a.f1.now
-    a.y-perturbed.now a.f-perturbed.now a.f-origin.now in
-    let start = c.before.before.before.before.before.before.before.before.before.before.before.before.before.before.before.before.before.before.before in record {
-      f_origin_after = λ scal f2 f3 g f. filled_in start place.ContToZ3 (lent scal f2 f3 g f) c.in-ContToZ3.is
+    let a = c.args in
+    let lent = hosted a.y.now a.f0.now a.cont.now a.z1.now a.z2.now a.z3.now a.f1.now
+    a.y_perturbed.now a.f_perturbed.now a.f_origin.now in
+    record {
+      f_origin_after = λ scal f2 f3 g f.
+          filled_at a.reactions a.rates.now a.species.now a.place place.ContToZ3 (lent scal f2 f3 g f) c.in-ContToZ3.is
           c.derive_first-in-ContToZ3.ensures.part_after;
       changes_len = c.derive_first-in-ContToZ3.ensures.changes_len;
     }
@@ -78,11 +74,12 @@ returns-in-ContToZ3 c =
 pub returns-in-ContToF1 : goal.returns-in-ContToF1
 unfolding filled part_at source_at
 returns-in-ContToF1 c =
-    let lent : List Float → List Float → List Float → Given → Factors → Memory = let a = c.args in
-    hosted a.y.now a.f0.now a.cont.now a.z1.now a.z2.now a.z3.now a.f1.now
-    a.y-perturbed.now a.f-perturbed.now a.f-origin.now in
-    let start = c.before.before.before.before.before.before.before.before.before.before.before.before.before.before.before.before.before.before.before in record {
-      f_origin_after = λ scal f2 f3 g f. filled_in start place.ContToF1 (lent scal f2 f3 g f) c.in-ContToF1.is
+    let a = c.args in
+    let lent = hosted a.y.now a.f0.now a.cont.now a.z1.now a.z2.now a.z3.now a.f1.now
+    a.y_perturbed.now a.f_perturbed.now a.f_origin.now in
+    record {
+      f_origin_after = λ scal f2 f3 g f.
+          filled_at a.reactions a.rates.now a.species.now a.place place.ContToF1 (lent scal f2 f3 g f) c.in-ContToF1.is
           c.derive_first-in-ContToF1.ensures.part_after;
       changes_len = c.derive_first-in-ContToF1.ensures.changes_len;
     }
@@ -90,11 +87,13 @@ returns-in-ContToF1 c =
 pub returns-in-YToFOrigin : goal.returns-in-YToFOrigin
 unfolding filled part_at source_at
 returns-in-YToFOrigin c =
-    let lent : List Float → List Float → List Float → Given → Factors → Memory = let a = c.args in
-    hosted a.y.now a.f0.now a.cont.now a.z1.now a.z2.now a.z3.now a.f1.now
-    a.y-perturbed.now a.f-perturbed.now a.f-origin.now in
-    let start = c.before.before.before.before.before.before.before.before.before.before.before.before.before.before.before.before.before.before.before in record {
-      f_origin_after = λ scal f2 f3 g f. filled_in start place.YToFOrigin (lent scal f2 f3 g f) c.in-YToFOrigin.is
+    let a = c.args in
+    let lent = hosted a.y.now a.f0.now a.cont.now a.z1.now a.z2.now a.z3.now a.f1.now
+    a.y_perturbed.now a.f_perturbed.now a.f_origin.now in
+    record {
+      f_origin_after = λ scal f2 f3 g f.
+          filled_at a.reactions a.rates.now a.species.now a.place place.YToFOrigin (lent scal f2 f3 g f)
+          c.in-YToFOrigin.is
           c.derivative_by_plan-in-YToFOrigin.ensures.1;
       changes_len = c.derivative_by_plan-in-YToFOrigin.ensures.0;
     }
@@ -102,11 +101,12 @@ returns-in-YToFOrigin c =
 pub returns-in-YPerturbedToFPerturbed : goal.returns-in-YPerturbedToFPerturbed
 unfolding filled part_at source_at
 returns-in-YPerturbedToFPerturbed c =
-    let lent : List Float → List Float → List Float → Given → Factors → Memory = let a = c.args in
-    hosted a.y.now a.f0.now a.cont.now a.z1.now a.z2.now a.z3.now a.f1.now
-    a.y-perturbed.now a.f-perturbed.now a.f-origin.now in
-    let start = c.before.before.before.before.before.before.before.before.before.before.before.before.before.before.before.before.before.before.before in record {
-      f_origin_after = λ scal f2 f3 g f. filled_in start place.YPerturbedToFPerturbed (lent scal f2 f3 g f)
+    let a = c.args in
+    let lent = hosted a.y.now a.f0.now a.cont.now a.z1.now a.z2.now a.z3.now a.f1.now
+    a.y_perturbed.now a.f_perturbed.now a.f_origin.now in
+    record {
+      f_origin_after = λ scal f2 f3 g f.
+          filled_at a.reactions a.rates.now a.species.now a.place place.YPerturbedToFPerturbed (lent scal f2 f3 g f)
           c.in-YPerturbedToFPerturbed.is c.derivative_by_plan-in-YPerturbedToFPerturbed.ensures.1;
       changes_len = c.derivative_by_plan-in-YPerturbedToFPerturbed.ensures.0;
     }

@@ -1,13 +1,11 @@
 -- `run` meets its contract: the answer to the opening settles which side is taken, and a task has
+-- room for at most 32 amounts.
 use mathlib.Core.Path.{◌∙◌}
 use borrow.Author.Rules.{rules}
 use Rattle.model_run.proofs.Room.{square-fits}
 use Rattle.model_run.proofs.NoneRefused.{none-refused-proof}
 use Rattle.model_run.proofs.TaskLaws.{run-refused, run_ran}
 use Rattle.model_run.proofs.run.run.Goals as goal
-
-abbrev start : (c : goal.After-opened) → goal.Start
-start c = c.before.before.before.before.before
 
 pub overflow_mul-n-2 : goal.overflow_mul-n-2
 overflow_mul-n-2 c = square-fits c.room-n.result c.room-n.ensures.0
@@ -16,17 +14,17 @@ pub overflow_mul-n-in-Asked-2 : goal.overflow_mul-n-in-Asked-2
 overflow_mul-n-in-Asked-2 c = square-fits c.room-n.result c.room-n.ensures.0
 
 pub ran-requires : goal.ran-requires
-ran-requires c = let o = c.before.before.before in let a = (start o).args in record {
+ran-requires c = let a = c.args in record {
   n_bound = search rules;
-  none_refused = none-refused-proof a.task a.rates.now a.species.now _ _ _ o.opened.ensures
+  none_refused = none-refused-proof a.task a.rates.now a.species.now _ _ _ c.opened.ensures
       c.in-Asked.is;
 }
 
 pub returns-in-Refused : goal.returns-in-Refused
-returns-in-Refused c = let o = c.before.before.before in let a = (start o).args in
-    run-refused a.task a.rates.now a.species.now _ o.opened.ensures c.in-Refused.is
+returns-in-Refused c = let a = c.args in
+    run-refused a.task a.rates.now a.species.now _ c.opened.ensures c.in-Refused.is
 
 pub returns-in-Asked : goal.returns-in-Asked
-returns-in-Asked c = let o = c.before.before.before.before in let a = (start o).args in
+returns-in-Asked c = let a = c.args in
     c.ran.ensures
-    ∙ run_ran a.task a.rates.now a.species.now _ _ _ o.opened.ensures c.in-Asked.is
+    ∙ run_ran a.task a.rates.now a.species.now _ _ _ c.opened.ensures c.in-Asked.is

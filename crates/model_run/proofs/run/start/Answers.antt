@@ -1,5 +1,4 @@
 -- `start` meets its contract: a task has room for at most 32 amounts.
-use borrow.Author.Rules.{rules}
 use Rattle.model_run.proofs.Room.{square-fits}
 use Rattle.model_run.proofs.run.start.Goals as goal
 

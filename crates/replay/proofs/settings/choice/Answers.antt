@@ -1,5 +1,5 @@
 -- `choice` meets its contract.
-use Rattle.std.proofs.Common.{refl, rules, eq-eqb, ne_eqb}
+use Rattle.std.proofs.Common.{refl, eq-eqb, ne_eqb}
 use Rattle.words.proofs.Branch.{yes, no}
 use Rattle.replay.specs.Settings.{choice_of}
 use Rattle.replay.proofs.settings.choice.Goals as goal

@@ -1,5 +1,5 @@
 -- `mass` meets its contract.
-use Rattle.std.proofs.Common.{sym, refl, ◌∙◌, rules}
+use Rattle.std.proofs.Common.{sym, refl, ◌∙◌}
 use Rattle.words.proofs.Branch.{yes, no}
 use Rattle.replay.specs.Settings.{mass_of}
 use Rattle.replay.proofs.settings.mass.Goals as goal

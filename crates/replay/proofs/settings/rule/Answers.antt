@@ -1,5 +1,5 @@
 -- `rule` meets its contract.
-use Rattle.std.proofs.Common.{sym, refl, ◌∙◌, rules}
+use Rattle.std.proofs.Common.{sym, refl, ◌∙◌}
 use Rattle.words.proofs.Branch.{yes, no}
 use Rattle.replay.specs.Settings.{rule_of}
 use Rattle.replay.proofs.settings.rule.Goals as goal

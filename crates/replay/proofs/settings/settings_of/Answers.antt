@@ -1,5 +1,5 @@
 -- `settings_of` meets its contract: field by field.
-use Rattle.std.proofs.Common.{ap, ◌∙◌, rules}
+use Rattle.std.proofs.Common.{ap, ◌∙◌}
 use lib.Ieee.{of_bits, binary64}
 use Rattle.replay.proofs.SettingsLaws.{settings-by}
 use Rattle.replay.proofs.settings.settings_of.Goals as goal

@@ -1,5 +1,5 @@
 -- `source` meets its contract.
-use Rattle.std.proofs.Common.{sym, refl, ◌∙◌, rules}
+use Rattle.std.proofs.Common.{sym, refl, ◌∙◌}
 use Rattle.words.proofs.Branch.{yes, no}
 use Rattle.replay.specs.Settings.{source_of}
 use Rattle.replay.proofs.settings.source.Goals as goal

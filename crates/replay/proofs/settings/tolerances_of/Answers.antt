@@ -1,5 +1,5 @@
 -- `tolerances_of` meets its contract.
-use Rattle.std.proofs.Common.{sym, refl, ◌∙◌, rules}
+use Rattle.std.proofs.Common.{sym, refl, ◌∙◌}
 use Rattle.words.proofs.Branch.{yes, no}
 use Rattle.replay.specs.Settings.{tolerances_of}
 use Rattle.replay.proofs.settings.tolerances_of.Goals as goal

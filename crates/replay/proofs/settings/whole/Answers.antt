@@ -1,5 +1,5 @@
 -- `whole` meets its contract.
-use Rattle.std.proofs.Common.{sym, refl, ◌∙◌, rules}
+use Rattle.std.proofs.Common.{sym, refl, ◌∙◌}
 use Rattle.words.proofs.Branch.{yes, no}
 use Rattle.replay.specs.Settings.{whole_of}
 use Rattle.replay.proofs.settings.whole.Goals as goal

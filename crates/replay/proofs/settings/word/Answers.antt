@@ -1,5 +1,5 @@
 -- `word` meets its contract.
-use Rattle.std.proofs.Common.{sym, rules}
+use Rattle.std.proofs.Common.{sym}
 use lib.ListN.{get_or-eq_default}
 use Rattle.replay.proofs.settings.word.Goals as goal
 

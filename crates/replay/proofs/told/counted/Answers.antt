@@ -1,5 +1,5 @@
 -- `counted` meets its contract.
-use Rattle.std.proofs.Common.{rules, eq-eqb, ne_eqb}
+use Rattle.std.proofs.Common.{eq-eqb, ne_eqb}
 use Rattle.words.proofs.Branch.{yes, no}
 use Rattle.replay.specs.Count.{counted_of}
 use Rattle.replay.proofs.told.counted.Goals as goal

@@ -1,10 +1,10 @@
 -- What each loop of `read_words` keeps.
-use Rattle.std.proofs.Common.{◌≡◌, ◌+◌, ◌-◌, ◌<◌, ◌≤◌, ◌⊎◌, length, refl, inl, inr, arith, rules}
+use Rattle.std.proofs.Common.{◌≡◌, ◌≤◌, ◌⊎◌, length}
 use Rattle.replay.specs.Word.{within_of}
 use Rattle.replay.specs.Read.{Filled}
-use Rattle.replay.proofs.ReadLaws.{read-value, filled_none, filled_more, read_all, read_some}
 use Rattle.replay.proofs.word.read_words.Given as goal
 
 abbrev pub invariant-loop-i : goal.invariant-loop-i
-invariant-loop-i l = (l.i-end ≡ within_of l.end (length l.initial.block)) × (l.i-end ≤ length l.initial.block) × (l.from ≤ l.i)
+invariant-loop-i g l = (l.i-end ≡ within_of l.end (length l.initial.block))
+    × (l.i-end ≤ length l.initial.block) × (l.from ≤ l.i)
     × ((l.i ≡ l.from) ⊎ (l.i ≤ l.i-end)) × Filled l.from l.i l.initial.block l.block

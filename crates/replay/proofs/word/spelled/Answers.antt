@@ -1,8 +1,8 @@
 -- `spelled` meets its contract: the digits so far are what the loop's turns made of none.
-use Rattle.std.proofs.Common.{◌-◌, true, refl, arith, rules, le-ltb, lt-ltb}
+use Rattle.std.proofs.Common.{refl, le-ltb, lt-ltb}
 use Rattle.words.proofs.Branch.{yes, no}
-use Rattle.words.proofs.Loops.{Ran, Any, begun, turned, ended}
-use Rattle.replay.specs.Word.{spelling, spelled_at, spelled_of}
+use Rattle.words.proofs.Loops.{begun, turned, ended}
+use Rattle.replay.specs.Word.{spelled_at, spelled_of}
 use Rattle.replay.proofs.word.spelled.Goals as goal
 
 pub returns-then-text-end : goal.returns-then-text-end

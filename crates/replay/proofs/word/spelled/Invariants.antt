@@ -1,8 +1,7 @@
 -- What each loop of `spelled` keeps.
-use Rattle.std.proofs.Common.{◌-◌, true, refl, arith, rules, le-ltb, lt-ltb}
-use Rattle.words.proofs.Branch.{yes, no}
-use Rattle.words.proofs.Loops.{Ran, Any, begun, turned, ended}
-use Rattle.replay.specs.Word.{spelling, spelled_at, spelled_of}
+use Rattle.std.proofs.Common.{true}
+use Rattle.words.proofs.Loops.{Ran, Any}
+use Rattle.replay.specs.Word.{spelling, spelled_at}
 use Rattle.replay.proofs.word.spelled.Given as goal
 
 abbrev pub invariant-loop-i : goal.invariant-loop-i

@@ -1,10 +1,7 @@
 -- What each loop of `fill_pivots` keeps.
-use mathlib.Core.Logic.{⊎_elim}
 use mathlib.Core.Path.{◌≡◌}
-use Prim.Native.Nat.{◌-◌}
-use lib.ListN.{length, length-set}
-use borrow.Author.Rules.{rules}
+use lib.ListN.{length}
 use Rattle.replay_matrix.proofs.memory.fill_pivots.Given as goal
 
 abbrev pub invariant-loop-i : goal.invariant-loop-i
-invariant-loop-i l = (length l.part ≡ length l.initial.part) × (l.i-end ≡ length l.initial.part)
+invariant-loop-i g l = (length l.part ≡ length l.initial.part) × (l.i-end ≡ length l.initial.part)

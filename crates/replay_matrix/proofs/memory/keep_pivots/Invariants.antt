@@ -1,6 +1,4 @@
 -- What each loop of `keep_pivots` keeps.
-use Prim.Native.Nat.{◌-◌}
-use borrow.Author.Rules.{rules}
 use Rattle.replay_matrix.proofs.memory.keep_pivots.Given as goal
 
 abbrev pub invariant-loop-i : goal.invariant-loop-i

@@ -1,9 +1,7 @@
 -- What each loop of `meet` keeps.
 use mathlib.Core.Path.{◌≡◌}
-use Prim.Native.Nat.{◌-◌}
 use lib.ListN.{length}
-use borrow.Author.Rules.{rules}
 use Rattle.replay_matrix.proofs.memory.meet.Given as goal
 
 abbrev pub invariant-loop-i : goal.invariant-loop-i
-invariant-loop-i l = l.i-end ≡ length l.part
+invariant-loop-i g l = l.i-end ≡ length l.part

@@ -1,5 +1,4 @@
 -- What each loop of `met_list` keeps.
-use Rattle.std.proofs.Common.{◌-◌, rules}
 use Rattle.replay_opening.proofs.part.met_list.Given as goal
 
 abbrev pub invariant-loop-i : goal.invariant-loop-i

@@ -1,5 +1,4 @@
 -- `opened` meets its contract: the answer to the opening settles which side is taken.
-use borrow.Author.Rules.{rules}
 use Rattle.reports.proofs.BeginLaws.{opened-refused, opened-asked}
 use Rattle.reports.proofs.beginning.opened.Goals as goal
 

@@ -1,18 +1,14 @@
 -- What each loop of `next_report` keeps.
-use Prim.Native.Nat.{ℕ, ◌+◌, ◌-◌, ◌<◌}
-use mathlib.Core.Bool.{true, false}
-use mathlib.Core.Path.{◌≡◌, sym, ◌∙◌}
-use native.Mathlib.Omega.{arith}
-use borrow.Author.Rules.{rules}
-use Rattle.state.specs.Memory.{Memory, memory, amounts, newton, given, factors, differences}
+use Prim.Native.Nat.{ℕ, ◌-◌}
+use Rattle.state.specs.Memory.{memory, amounts, newton, given, factors, differences}
 use Rattle.history.specs.History.{Point, point}
 use Rattle.model_run.specs.Host.{answered_by}
-use Rattle.model_run.specs.Budget.{Answering, turn_of, budget}
-use Rattle.model_run.proofs.Lengths.{Lengths, same, after}
-use Rattle.reports.specs.Step.{is_told}
-use Rattle.reports.proofs.StepLaws.{Seeking, seeking, passed, told, spent}
+use Rattle.model_run.specs.Budget.{Answering, budget}
+use Rattle.model_run.proofs.Lengths.{Lengths}
+use Rattle.reports.proofs.StepLaws.{Seeking}
 use Rattle.reports.proofs.step.next_report.Given as goal
 
+-- so many turns led here, none of them told, and no part is longer or shorter than it was
 pub record Sought (host : Answering) (i : ℕ) (here₀ here : Point) : Type 0 where
   pub turns : Seeking host budget i here₀ here
   pub long : Lengths here₀.memory here.memory
@@ -20,10 +16,13 @@ pub record Sought (host : Answering) (i : ℕ) (here₀ here : Point) : Type 0 w
 abbrev pub invariant-loop : goal.invariant-loop
 invariant-loop l = Sought (answered_by l.reactions l.rates l.species) l.counter
     (point l.initial.here.run l.initial.here.request l.initial.here.place
-    (memory (amounts l.initial.y l.initial.f0 l.initial.scal l.initial.cont) (newton l.initial.z1 l.initial.z2 l.initial.z3 l.initial.f1 l.initial.f2 l.initial.f3)
-    (given l.rtol l.atol l.mass l.initial.jac) (factors l.initial.e1 l.initial.e2r l.initial.e2i l.initial.ip1 l.initial.ip2)
+    (memory (amounts l.initial.y l.initial.f0 l.initial.scal l.initial.cont)
+    (newton l.initial.z1 l.initial.z2 l.initial.z3 l.initial.f1 l.initial.f2 l.initial.f3)
+    (given l.rtol l.atol l.mass l.initial.jac)
+    (factors l.initial.e1 l.initial.e2r l.initial.e2i l.initial.ip1 l.initial.ip2)
     (differences l.initial.y_perturbed l.initial.f_perturbed l.initial.f_origin)))
-    (point l.here.run l.here.request l.here.place (memory (amounts l.y l.f0 l.scal l.cont) (newton l.z1 l.z2 l.z3 l.f1 l.f2 l.f3)
+    (point l.here.run l.here.request l.here.place
+    (memory (amounts l.y l.f0 l.scal l.cont) (newton l.z1 l.z2 l.z3 l.f1 l.f2 l.f3)
     (given l.rtol l.atol l.mass l.jac) (factors l.e1 l.e2r l.e2i l.ip1 l.ip2)
     (differences l.y_perturbed l.f_perturbed l.f_origin)))
 

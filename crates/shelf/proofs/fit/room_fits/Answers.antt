@@ -1,4 +1,4 @@
--- `room-fits` meets its contract.
+-- `room_fits` meets its contract.
 use Rattle.shelf.proofs.TestLaws.{room-fits}
 use Rattle.shelf.proofs.fit.room_fits.Goals as goal
 

@@ -1,5 +1,5 @@
 -- `differed` meets its contract.
-use Rattle.std.proofs.Common.{rules, le-leb}
+use Rattle.std.proofs.Common.{le-leb}
 use borrow.Author.Tests.{lt-leb}
 use Rattle.words.proofs.Branch.{yes, no}
 use Rattle.replay.specs.Count.{differed_of}
@@ -13,7 +13,7 @@ pub returns : goal.returns
 unfolding differed_of
 returns c = no _ _ _ (lt-leb _ _ c.if-row-ge-ROWS.false)
     (rw (
-      c.wrapping_add_u64-3.ensures,
-      c.wrapping_add_u64-2.ensures,
-      c.wrapping_add_u64.ensures,
+      c.wrapping_add_u64-3.ensures.value,
+      c.wrapping_add_u64-2.ensures.value,
+      c.wrapping_add_u64.ensures.value,
     ))

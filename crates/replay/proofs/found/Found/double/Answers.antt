@@ -1,5 +1,4 @@
 -- `double` meets its contract.
-use Rattle.std.proofs.Common.{rules}
 use Rattle.replay.proofs.found.Found.double.Goals as goal
 
 pub returns : goal.returns

@@ -1,5 +1,4 @@
 -- `held_against` meets its contract.
-use Rattle.std.proofs.Common.{rules}
 use Rattle.replay.specs.Found.{held_against_of}
 use Rattle.replay.proofs.found.Found.held_against.Goals as goal
 

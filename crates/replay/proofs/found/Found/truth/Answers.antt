@@ -1,6 +1,5 @@
 -- `truth` meets its contract.
-use Rattle.std.proofs.Common.{rules}
 use Rattle.replay.proofs.found.Found.truth.Goals as goal
 
 pub returns : goal.returns
-returns c = rw (c.compared.ensures, c.number_of-2.ensures, c.before.before.number_of_lem.ensures)
+returns c = rw (c.compared.ensures, c.number_of-2.ensures, c.number_of.ensures)
