@@ -7,7 +7,7 @@ use csv_table::answers::Exported;
 use csv_table::table::{put_header, put_record};
 use replay::out::Out;
 use replay::word::{Reading, read_block, within};
-use std::io::{self, BufReader};
+use std::io;
 
 // The words of a line: x and its amounts.
 const WORDS: usize = 4;
@@ -51,7 +51,7 @@ fn write_point(to: &Out, words: &[u64; WORDS]) {
 
 fn main(rt: HostRuntime) -> io::Result<()> {
     let to = Out::new(rt.stdout());
-    let mut input = BufReader::new(rt.alloc(), rt.stdin())?;
+    let mut input = rt.stdin();
     write_header(&to);
     for _ in 0..MOST_POINTS {
         let mut words = [0u64; WORDS];

@@ -16,7 +16,7 @@ use replay::told::{counted, malformed, write_summary};
 use replay::word::{Word, quarter, read_word, within};
 use state::run::Status;
 use state::talk::IntegrationResult;
-use std::io::{self, BufReader, Read};
+use std::io::{self, Read};
 
 // More pairs than there are.
 const MOST_PAIRS: u64 = 1_000;
@@ -229,7 +229,7 @@ fn main(rt: HostRuntime) -> io::Result<()> {
     let names =
         b"status 0, the same:\nstatus 3, the same:\nstatus 5, the same:\nstatus 2, then 2:\nstatus 2, then another:\n";
     let to = Out::new(rt.stdout());
-    let mut input = BufReader::new(rt.alloc(), rt.stdin())?;
+    let mut input = rt.stdin();
     write_summary(&to, replayed(&mut input, &to, names), names);
     to.end()
 }

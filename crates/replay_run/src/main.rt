@@ -15,7 +15,7 @@ use replay::found::Found;
 use replay::out::Out;
 use replay::told::{counted, malformed, write_summary};
 use replay::word::Reading;
-use std::io::{self, BufReader, Read};
+use std::io::{self, Read};
 use stored::{HEAD, Opening, read_asked, read_opening};
 use turn::{met, next};
 
@@ -143,7 +143,7 @@ fn main(rt: HostRuntime) -> io::Result<()> {
         ended, status 0:\nended, status 1:\nended, status 2:\nended, status 3:\nended, status 5:\n\
         reply filled:\nreply continue:\nreply interrupt:\nreply modified:\nreply mark:\nruns:\n";
     let out = Out::new(rt.stdout());
-    let mut input = BufReader::new(rt.alloc(), rt.stdin())?;
+    let mut input = rt.stdin();
     write_summary(&out, replayed(&mut input, &out, names), names);
     out.end()
 }

@@ -19,7 +19,7 @@ use replay::word::within;
 use sheet_write::rewrite;
 use state::run::Status;
 use state::talk::{IntegrationResult, Refusal};
-use std::io::{self, BufReader, Read};
+use std::io::{self, Read};
 
 // More records than there are.
 const MOST_RECORDS: u64 = 2_000;
@@ -186,7 +186,7 @@ fn main(rt: HostRuntime) -> io::Result<()> {
     let names =
         b"status 0:\nstatus 2:\nstatus 3:\nstatus 5:\nrefused 3:\nrefused 4:\nrefused 9:\nrefused 20:\nrefused 21:\n";
     let out = Out::new(rt.stdout());
-    let mut input = BufReader::new(rt.alloc(), rt.stdin())?;
+    let mut input = rt.stdin();
     write_summary(&out, replayed(&mut input, &out, names), names);
     out.end()
 }

@@ -1,5 +1,4 @@
 -- `square` forms no product that is too large: there are at most 32 rows.
-use borrow.Author.Rules.{rules}
 use Rattle.model_run.proofs.Room.{square-fits}
 use Rattle.points.proofs.square.Goals as goal
 

@@ -1,100 +1,46 @@
 -- `write_reports` keeps the length of each part that it is lent: `next_report` does.
-use Prim.Native.Nat.{ℕ, ◌-◌, ◌<◌}
-use native.Mathlib.Omega.{arith}
-use borrow.Author.Rules.{rules}
-use Rattle.state.specs.Memory.{Memory, memory, amounts, newton, given, factors, differences}
-use Rattle.model_run.proofs.Lengths.{Lengths, same, after}
-use Rattle.points.proofs.write_reports.Invariants.{most}
+use Rattle.std.proofs.Common.{◌∙◌, arith}
+use Rattle.state.specs.Memory.{memory, amounts, newton, given, factors, differences}
+use Rattle.model_run.proofs.Lengths.{same}
 use Rattle.points.proofs.write_reports.Goals as goal
-
-abbrev start : (c : goal.At-loop) → goal.Start
-start c =
-    c.before.before.before.before.before.before.before.before.before.before.before.before.before.before.before.before.before.before.before.before.before.before.before.before.before.before
-
-abbrev looped : (c : goal.After-next_report-pending) → goal.At-loop
-looped c =
-    c.before.before.before.before.before.before.before.before.before.before.before.before.before.before.before.before.before.before.before.before.before
-
-abbrev over-at : (c : goal.Then-is_over) → goal.After-next_report-pending
-over-at c =
-    c.before.before.before.before.before.before.before.before.before.before.before.before.before.before.before.before.before.before.before.before.before.before.before.before.before.before.before.before.before.before.before.before.before.before.before.before.before.before.before.before.before
-
-abbrev on-at : (c : goal.Else-is_over) → goal.After-next_report-pending
-on-at c =
-    c.before.before.before.before.before.before.before.before.before.before.before.before.before.before.before.before.before.before.before.before.before.before.before.before.before.before.before.before.before.before.before.before.before.before.before.before.before.before.before.before.before
 
 pub loop-init : goal.loop-init
 loop-init c =
-    let memory-at : Memory = let a = c.args in
-    memory (amounts a.y.now a.f0.now a.scal.now a.cont.now)
+    let a = c.args in
+    same (memory (amounts a.y.now a.f0.now a.scal.now a.cont.now)
     (newton a.z1.now a.z2.now a.z3.now a.f1.now a.f2.now a.f3.now)
     (given a.rtol.now a.atol.now a.mass.now a.jac.now)
     (factors a.e1.now a.e2r.now a.e2i.now a.ip1.now a.ip2.now)
-    (differences a.y-perturbed.now a.f-perturbed.now a.f-origin.now) in
-    same (memory-at
-    c.before.before.before.before.before.before.before.before.before.before.before.before.before.before.before.before.before.before.before.before.before.before.before.before.before)
+    (differences a.y_perturbed.now a.f_perturbed.now a.f_origin.now))
 
 pub overflow_step : goal.overflow_step
-overflow_step c =
-    let more : (looped c).loop.counter < most = c.loop-test.true in
-    omega (arith, more (on-at c))
+overflow_step c = omega (arith, c.loop-test.true)
 
 pub loop-smaller : goal.loop-smaller
-loop-smaller c =
-    let more : (looped c).loop.counter < most = c.loop-test.true in
-    omega (arith, more (on-at c))
+loop-smaller c = omega (arith, c.loop-test.true)
 
 pub loop-preserved : goal.loop-preserved
 loop-preserved c =
-    let memory-at : Memory = let a = c.args in
-    memory (amounts a.y.now a.f0.now a.scal.now a.cont.now)
-    (newton a.z1.now a.z2.now a.z3.now a.f1.now a.f2.now a.f3.now)
-    (given a.rtol.now a.atol.now a.mass.now a.jac.now)
-    (factors a.e1.now a.e2r.now a.e2i.now a.ip1.now a.ip2.now)
-    (differences a.y-perturbed.now a.f-perturbed.now a.f-origin.now) in
-    let memory-in : Memory = let a = (start c).args in
-    let l = c.loop in
-    memory (amounts l.y l.f0 l.scal l.cont)
-    (newton l.z1 l.z2 l.z3 l.f1 l.f2 l.f3)
-    (given a.rtol.now a.atol.now a.mass.now l.jac)
-    (factors l.e1 l.e2r l.e2i l.ip1 l.ip2)
-    (differences l.y-perturbed l.f-perturbed l.f-origin) in
-    let memory-past : Memory = let a = (start (looped c)).args in
-    let l = c.next_report-pending.new in
-    memory (amounts l.1.1.1.1.0 l.1.1.1.1.1.0 l.1.1.1.1.1.1.0 l.1.1.1.1.1.1.1.0)
-    (newton l.1.1.1.1.1.1.1.1.0 l.1.1.1.1.1.1.1.1.1.0 l.1.1.1.1.1.1.1.1.1.1.0
-    l.1.1.1.1.1.1.1.1.1.1.1.0 l.1.1.1.1.1.1.1.1.1.1.1.1.0
-    l.1.1.1.1.1.1.1.1.1.1.1.1.1.0)
-    (given a.rtol.now a.atol.now a.mass.now l.1.1.1.1.1.1.1.1.1.1.1.1.1.1.1.1.1.0)
-    (factors l.1.1.1.1.1.1.1.1.1.1.1.1.1.1.1.1.1.1.0
-    l.1.1.1.1.1.1.1.1.1.1.1.1.1.1.1.1.1.1.1.0
-    l.1.1.1.1.1.1.1.1.1.1.1.1.1.1.1.1.1.1.1.1.0
-    l.1.1.1.1.1.1.1.1.1.1.1.1.1.1.1.1.1.1.1.1.1.0
-    l.1.1.1.1.1.1.1.1.1.1.1.1.1.1.1.1.1.1.1.1.1.1.0)
-    (differences l.1.1.1.1.1.1.1.1.1.1.1.1.1.1.1.1.1.1.1.1.1.1.1.0
-    l.1.1.1.1.1.1.1.1.1.1.1.1.1.1.1.1.1.1.1.1.1.1.1.1.0
-    l.1.1.1.1.1.1.1.1.1.1.1.1.1.1.1.1.1.1.1.1.1.1.1.1.1.0) in
-    let kept : Lengths (memory-in (looped c)) memory-past = let k = c.next_report-pending.auto in
+    let k = c.next_report-pending.auto in
+    let l = c.loop.invariant in
     record {
-      y = k.1.1.1.1.0;
-      f0 = k.1.1.1.1.1.0;
-      scal = k.1.1.1.1.1.1.0;
-      cont = k.1.1.1.1.1.1.1.0;
-      z1 = k.1.1.1.1.1.1.1.1.0;
-      z2 = k.1.1.1.1.1.1.1.1.1.0;
-      z3 = k.1.1.1.1.1.1.1.1.1.1.0;
-      f1 = k.1.1.1.1.1.1.1.1.1.1.1.0;
-      f2 = k.1.1.1.1.1.1.1.1.1.1.1.1.0;
-      f3 = k.1.1.1.1.1.1.1.1.1.1.1.1.1.0;
-      jac = k.1.1.1.1.1.1.1.1.1.1.1.1.1.1.1.1.1.0;
-      e1 = k.1.1.1.1.1.1.1.1.1.1.1.1.1.1.1.1.1.1.0;
-      e2r = k.1.1.1.1.1.1.1.1.1.1.1.1.1.1.1.1.1.1.1.0;
-      e2i = k.1.1.1.1.1.1.1.1.1.1.1.1.1.1.1.1.1.1.1.1.0;
-      ip1 = k.1.1.1.1.1.1.1.1.1.1.1.1.1.1.1.1.1.1.1.1.1.0;
-      ip2 = k.1.1.1.1.1.1.1.1.1.1.1.1.1.1.1.1.1.1.1.1.1.1.0;
-      y_perturbed = k.1.1.1.1.1.1.1.1.1.1.1.1.1.1.1.1.1.1.1.1.1.1.1.0;
-      f_perturbed = k.1.1.1.1.1.1.1.1.1.1.1.1.1.1.1.1.1.1.1.1.1.1.1.1.0;
-      f_origin = k.1.1.1.1.1.1.1.1.1.1.1.1.1.1.1.1.1.1.1.1.1.1.1.1.1.0;
-    } in
-    let long : Lengths (memory-at (start (looped c))) memory-past = after kept (looped c).loop.invariant in
-    long (on-at c)
+      y = k.y ∙ l.y;
+      f0 = k.f0 ∙ l.f0;
+      scal = k.scal ∙ l.scal;
+      cont = k.cont ∙ l.cont;
+      z1 = k.z1 ∙ l.z1;
+      z2 = k.z2 ∙ l.z2;
+      z3 = k.z3 ∙ l.z3;
+      f1 = k.f1 ∙ l.f1;
+      f2 = k.f2 ∙ l.f2;
+      f3 = k.f3 ∙ l.f3;
+      jac = k.jac ∙ l.jac;
+      e1 = k.e1 ∙ l.e1;
+      e2r = k.e2r ∙ l.e2r;
+      e2i = k.e2i ∙ l.e2i;
+      ip1 = k.ip1 ∙ l.ip1;
+      ip2 = k.ip2 ∙ l.ip2;
+      y_perturbed = k.y_perturbed ∙ l.y_perturbed;
+      f_perturbed = k.f_perturbed ∙ l.f_perturbed;
+      f_origin = k.f_origin ∙ l.f_origin;
+    }

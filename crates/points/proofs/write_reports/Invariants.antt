@@ -1,11 +1,10 @@
 -- What each loop of `write_reports` keeps.
-use Prim.Native.Nat.{ℕ, ◌-◌, ◌<◌}
-use native.Mathlib.Omega.{arith}
-use borrow.Author.Rules.{rules}
-use Rattle.state.specs.Memory.{Memory, memory, amounts, newton, given, factors, differences}
-use Rattle.model_run.proofs.Lengths.{Lengths, same, after}
+use Rattle.std.proofs.Common.{ℕ, ◌-◌}
+use Rattle.state.specs.Memory.{memory, amounts, newton, given, factors, differences}
+use Rattle.model_run.proofs.Lengths.{Lengths}
 use Rattle.points.proofs.write_reports.Given as goal
 
+-- as many reports as there may be at most
 abbrev pub most : ℕ
 most = 268_435_456
 

@@ -1,6 +1,5 @@
 -- What each loop of `met` keeps.
-use borrow.Author.Rules.{rules}
-use Prim.Native.Nat.{◌-◌, ◌≤◌}
+use Prim.Native.Nat.{◌≤◌}
 use lib.ListN.{length}
 use Rattle.replay_limit.proofs.met.Given as goal
 

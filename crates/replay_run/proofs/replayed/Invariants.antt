@@ -1,5 +1,5 @@
 -- What each loop of `replayed` keeps.
-use Rattle.std.proofs.Common.{◌-◌, rules}
+use Rattle.std.proofs.Common.{◌-◌}
 use Rattle.replay_run.proofs.replayed.Given as goal
 
 abbrev pub invariant-loop : goal.invariant-loop

@@ -1,5 +1,5 @@
 -- What each loop of `with_requests` keeps.
-use Rattle.std.proofs.Common.{◌-◌, arith, rules}
+use Rattle.std.proofs.Common.{◌-◌}
 use Rattle.replay_run.proofs.with_requests.Given as goal
 
 abbrev pub invariant-loop : goal.invariant-loop

@@ -1,5 +1,4 @@
 -- What each loop of `replayed` keeps.
-use borrow.Author.Rules.{rules}
 use Prim.Native.Nat.{◌-◌}
 use Rattle.replay_sheet.proofs.replayed.Given as goal
 

@@ -1,5 +1,5 @@
 -- What each loop of `taken_pivots` keeps.
-use Rattle.std.proofs.Common.{◌-◌, ◌≤◌, length, rules}
+use Rattle.std.proofs.Common.{◌≤◌, length}
 use Rattle.replay_run.proofs.memory.taken_pivots.Given as goal
 
 abbrev pub invariant-loop-i : goal.invariant-loop-i

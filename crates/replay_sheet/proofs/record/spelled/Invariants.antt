@@ -1,6 +1,4 @@
 -- What each loop of `spelled` keeps.
-use borrow.Author.Rules.{rules}
-use Prim.Native.Nat.{◌-◌}
 use Rattle.replay_sheet.proofs.record.spelled.Given as goal
 
 abbrev pub invariant-loop-i : goal.invariant-loop-i
