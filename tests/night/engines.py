@@ -10,7 +10,8 @@ import subprocess
 import time
 
 import shelf
-from shards import KILLED, SHARDS, TARGET, Held, bare, check_merged, home, insist, ran, shown, summed, wait_for
+from shards import KILLED, SHARDS, TARGET, Held, bare, check_merged, home, insist, ran, shown, summed, unlinked
+from shards import wait_for
 
 CLUSTER = shelf.ROOT / "tests" / "night" / "cluster"
 # How many shards the page has.
@@ -99,6 +100,7 @@ def check_parallel(program, made, wanted, count):
     held.tear(rows)
     check_ended(folder, begun_in(folder))
     check_merged(folder, wanted)
+    unlinked(folder)
     print(f"GNU parallel with {SHARDS} jobs, one killed half-way and done again, has its rows and totals")
     return folder
 
@@ -134,6 +136,7 @@ def check_lost(program, made, wanted, count):
     check_merged(folder, wanted)
     left = [name for name in MACHINES if name != machine.name and os.listdir(folder / name) != ["shelf"]]
     insist(not left, f"something is left behind on {left}")
+    unlinked(folder)
     print("GNU parallel over two machines, one lost half-way and its shards done again, has its rows and totals")
     return folder
 
@@ -174,6 +177,7 @@ def check_slurm(program, made, wanted, count):
     finally:
         ran([CLUSTER, "stop", cluster], statuses=(0,))
     check_merged(folder, wanted)
+    unlinked(folder)
     print(f"a Slurm array of {SHARDS}, one task put into the queue again half-way, has its rows and totals")
     return folder
 

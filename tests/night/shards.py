@@ -125,6 +125,13 @@ def home(name, program, made):
     return folder
 
 
+def unlinked(folder):
+    """Takes the links to a shelf away: `rt ci` refuses a link anywhere in the checkout."""
+    for link in list(folder.rglob("shelf")):
+        if link.is_symlink():
+            link.unlink()
+
+
 def check_merged(folder, wanted):
     """Merged rows are those of one process, and so are their totals, for which nothing is done again."""
     rows, totals = wanted
@@ -151,4 +158,5 @@ def check(program, made, wanted, count):
     for number in range(1, SHARDS + 1):
         ran(words_of(number), cwd=folder)
     check_merged(folder, wanted)
+    unlinked(folder)
     print(f"{SHARDS} shards, one killed half-way and done again, have its rows and totals")
