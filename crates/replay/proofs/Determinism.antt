@@ -24,6 +24,9 @@ use Rattle.replay.proofs.word.spelled as spelled
 use Rattle.replay.proofs.word.read_well as read-well
 use Rattle.replay.proofs.word.within as within
 use Rattle.replay.proofs.word.quarter as quarter
+use Rattle.replay.proofs.out.Out.write as write
+use Rattle.replay.proofs.out.Out.decimal as decimal
+use Rattle.replay.proofs.out.Out.hex as hex
 
 pub none-once : Settles none.Kinds.ps none.Kinds.r none.Reads.Asked none.Reads.Post
 none-once κs a = (tt, λ o p. one-result o.1)
@@ -93,3 +96,12 @@ within-once κs a = (tt, λ o p. λ e f. one-result o.1 e.1 f.1)
 
 pub quarter-once : Settles quarter.Kinds.ps quarter.Kinds.r quarter.Reads.Asked quarter.Reads.Post
 quarter-once κs a = (tt, λ o p. λ e f. one-result o.1 e.1 f.1)
+
+pub write-once : Settles write.Kinds.ps write.Kinds.r write.Reads.Asked write.Reads.Post
+write-once κs a = (tt, λ o p. one-result o.1)
+
+pub decimal-once : Settles decimal.Kinds.ps decimal.Kinds.r decimal.Reads.Asked decimal.Reads.Post
+decimal-once κs a = (tt, λ o p. one-result o.1)
+
+pub hex-once : Settles hex.Kinds.ps hex.Kinds.r hex.Reads.Asked hex.Reads.Post
+hex-once κs a = (tt, λ o p. one-result o.1)

@@ -1,4 +1,6 @@
 // Standard output. A write that fails stops nothing: the first error is kept, for the end of the program.
+ghost use Rattle.std.specs.Prelude.{◌≡◌};
+
 use std::cell::Cell;
 use std::io::{self, Print, Stdout};
 
@@ -23,16 +25,22 @@ impl Out {
         }
     }
 
-    pub fn write(&self, bytes: &[u8]) {
+    pub fn write(&self, bytes: &[u8])
+        ensures { result ≡ tt }
+    {
         self.keep(self.to.write_all(bytes));
     }
 
-    pub fn decimal(&self, number: u64) {
+    pub fn decimal(&self, number: u64)
+        ensures { result ≡ tt }
+    {
         self.keep(self.to.print(number));
     }
 
     // In sixteen digits, with zeros in front.
-    pub fn hex(&self, number: u64) {
+    pub fn hex(&self, number: u64)
+        ensures { result ≡ tt }
+    {
         self.keep(self.to.print(format_args!("{number:016x}")));
     }
 
