@@ -24,8 +24,8 @@ ROOT = pathlib.Path(__file__).resolve().parents[2]
 SETTLES = "use Rattle.words.specs.Contract.{Settles}"
 FILE = "crates/{}/proofs/Determinism.antt"
 # What the first answer depends on standard input, which is no argument: their contracts are relations, or say as much
-# as is known of any reader. Those of `Out` hand on to standard output, of which no contract speaks. The last three ask
-# that the run is fit, or what a plan is, and are for crates here, which prove it; what users call refuses
+# as is known of any reader. `new` and `end` of `Out` hand on to standard output, of which no contract speaks. The last
+# three ask that the run is fit, or what a plan is, and are for crates here, which prove it; what users call refuses
 # (docs/DECISIONS.md).
 UNSETTLED = {
     "replay::word::read_word": "reads standard input",
