@@ -1,9 +1,12 @@
--- `read_full` ends, since each turn leaves less to fill.
-use Rattle.std.proofs.Common.{◌≡◌, ◌-◌, ◌≤◌, length}
+-- `read_full` ends, since each turn leaves less to fill, and what it filled is what the reader gave up.
+use Rattle.std.proofs.Common.{◌≡◌, ◌-◌, ◌≤◌, length, take}
+use Rattle.std.specs.Io.KnownBytes.{Consumes}
 use Rattle.replay.proofs.input.read_full.Given as goal
 
 abbrev pub invariant-loop-done : goal.invariant-loop-done
-invariant-loop-done g l = (length l.block ≡ length l.initial.block) × (l.done ≤ length l.block)
+invariant-loop-done g l =
+    (length l.block ≡ length l.initial.block) × (l.done ≤ length l.block)
+    × Consumes (g.R.Read.remaining l.initial.input) (g.R.Read.remaining l.input) (take l.done l.block)
 
 abbrev pub decreases-loop-done : goal.decreases-loop-done
 decreases-loop-done g l = length l.block - l.done
