@@ -1,6 +1,6 @@
 -- `check_given` meets its contract.
 use Rattle.opening.specs.Rows.{mass_given}
-use Rattle.opening.proofs.opening.check_given.Goals as goal
+use Rattle.opening.proofs.groups.check_given.Goals as goal
 
 pub returns-in-Identity : goal.returns-in-Identity
 unfolding mass_given

@@ -1,6 +1,6 @@
 -- `check_tolerated` meets its contract.
 use Rattle.opening.specs.Rows.{rtol_given, atol_given}
-use Rattle.opening.proofs.opening.check_tolerated.Goals as goal
+use Rattle.opening.proofs.groups.check_tolerated.Goals as goal
 
 pub returns-in-Scalars : goal.returns-in-Scalars
 unfolding rtol_given atol_given
