@@ -33,19 +33,11 @@ impl Mem {
         p
     }
 }
-fn num(o: &Opening, bit: u32, place: usize) -> Number {
-    if o.chosen(bit) {
-        Number::Given(o.float(place))
-    } else {
-        Number::Absent
-    }
+fn num(o: &Opening, bit: u32, place: usize) -> Option<f64> {
+    o.chosen(bit).then(|| o.float(place))
 }
-fn whole(o: &Opening, bit: u32, place: usize) -> Whole {
-    if o.chosen(bit) {
-        Whole::Given(o.words[place] as usize)
-    } else {
-        Whole::Absent
-    }
+fn whole(o: &Opening, bit: u32, place: usize) -> Option<usize> {
+    o.chosen(bit).then(|| o.words[place] as usize)
 }
 fn settings(o: &Opening) -> Settings {
     Settings {
@@ -133,7 +125,7 @@ fn differ(mem: &Mem, asked: &Asked) -> Option<String> {
     assert_eq!(hash(&mine), asked.words[1]);
     None
 }
-fn advance(run: Run, reply: Reply, m: &mut Mem) -> Answer {
+fn advance(run: Run, reply: Reply, m: &mut Mem) -> Result<Call, Refused> {
     let [y, f0, scal, cont, z1, z2, z3, f1, f2, f3, rtol, atol, mass, jac, e1, e2r, e2i, yp, fp, fo] =
         &mut m.f[..] else { unreachable!() };
     radau::advance::Resumed { run, reply }.advance(
@@ -146,6 +138,7 @@ fn advance(run: Run, reply: Reply, m: &mut Mem) -> Answer {
 fn unfit(run: Run) -> Vec<Run> {
     let m = run.settings.max_steps;
     let k = run.settings.newton_maxiter;
+    let between = |smallest, largest| Some(Strides { smallest, largest });
     let mut all = vec![run; 21];
     all[0].shape.n = 0;
     all[1].shape.n = 33;
@@ -164,8 +157,8 @@ fn unfit(run: Run) -> Vec<Run> {
     all[14].counts.lu = 13 + 13 * m;
     all[15].counts.accepted = m + 1;
     all[16].counts.rejected = 2 * m + 1;
-    all[17].notes.strides = Strides::Between(-f64::MIN_POSITIVE, 1.0);
-    all[18].notes.strides = Strides::Between(f64::NAN, f64::NEG_INFINITY);
+    all[17].notes.strides = between(-f64::MIN_POSITIVE, 1.0);
+    all[18].notes.strides = between(f64::NAN, f64::NEG_INFINITY);
     // these two only while the run has not ended
     all[19].counts.total = m + 1;
     all[20].control.singular_count = 6;
@@ -174,7 +167,7 @@ fn unfit(run: Run) -> Vec<Run> {
 
 // Refused: 13 for a state that is unfit, 15 for a reply of another kind, and past the end 14 for any; the run and the
 // memory stay as they were.
-fn tried(run: Run, kind: u64, m: &mut Mem, asked: &Asked) -> std::result::Result<(), String> {
+fn tried(run: Run, kind: u64, m: &mut Mem, asked: &Asked) -> Result<(), String> {
     let right = if kind == 3 {
         Reply::Continue
     } else {
@@ -202,7 +195,7 @@ fn tried(run: Run, kind: u64, m: &mut Mem, asked: &Asked) -> std::result::Result
     calls.extend(bad[..count].iter().map(|&r| (r, right, Refusal::Unfit)));
     for (state, reply, refusal) in calls {
         let answer = advance(state, reply, m);
-        let wanted = Answer::Refused(state, refusal);
+        let wanted = Err(Refused { run: state, refusal });
         // a NaN is no equal of itself, but is shown like itself
         if answer != wanted && format!("{answer:?}") != format!("{wanted:?}") {
             return Err(format!("not refused as {refusal:?}: {answer:?}"));
@@ -214,7 +207,7 @@ fn tried(run: Run, kind: u64, m: &mut Mem, asked: &Asked) -> std::result::Result
     }
 }
 
-fn replay(o: &Opening, asked: &[Asked]) -> std::result::Result<usize, String> {
+fn replay(o: &Opening, asked: &[Asked]) -> Result<usize, String> {
     let n = o.n();
     let s = n * n;
     let len = [
@@ -291,8 +284,8 @@ fn replay(o: &Opening, asked: &[Asked]) -> std::result::Result<usize, String> {
         )
     };
     let (mut run, mut req, mut pl) = match opened {
-        Opened::Asked(r, q, p) => (r, q, p),
-        Opened::Refused(r) => return Err(format!("refused {r:?}")),
+        Ok(call) => (call.run, call.request, call.place),
+        Err(r) => return Err(format!("refused {r:?}")),
     };
     for (k, a) in asked.iter().enumerate() {
         let (head, floats) = request(req, pl);
@@ -326,8 +319,8 @@ fn replay(o: &Opening, asked: &[Asked]) -> std::result::Result<usize, String> {
             (3, 5) => Reply::Mark(floats[0]),
             (4, 0) => {
                 let r = match run.result() {
-                    state::talk::Result::Ended(r) => r,
-                    _ => return Err(format!("request {k}: not ended")),
+                    Some(r) => r,
+                    None => return Err(format!("request {k}: not ended")),
                 };
                 let c = r.counts;
                 let mine = vec![
@@ -355,12 +348,12 @@ fn replay(o: &Opening, asked: &[Asked]) -> std::result::Result<usize, String> {
             other => panic!("{other:?}"),
         };
         match advance(run, reply, &mut m) {
-            Answer::Asked(r, q, p) => {
-                run = r;
-                req = q;
-                pl = p;
+            Ok(call) => {
+                run = call.run;
+                req = call.request;
+                pl = call.place;
             }
-            Answer::Refused(_, r) => return Err(format!("request {k}: refused {r:?}")),
+            Err(refused) => return Err(format!("request {k}: refused {:?}", refused.refusal)),
         }
     }
     Err("the Rust ended earlier".into())

@@ -24,26 +24,41 @@ ROOT = pathlib.Path(__file__).resolve().parents[2]
 SETTLES = "use Rattle.words.specs.Contract.{Settles}"
 FILE = "crates/{}/proofs/Determinism.antt"
 # What the first answer depends on standard input, which is no argument: their contracts are relations, or say as much
-# as is known of any reader. `new` and `end` of `Out` hand on to standard output, of which no contract speaks. The last
-# three ask that the run is fit, or what a plan is, and are for crates here, which prove it; what users call refuses
-# (docs/DECISIONS.md).
+# as is known of any reader. That of `lend` says what is lent, and not where it lies. `new` and `end` of `Out` hand on
+# to standard output, of which no contract speaks. Those of `lent` and `optional` are equations too, but a type's
+# parameter, or the lifetime in it, stands in what a call asks. The last four ask that the run is fit, what a plan is,
+# or how a number is spelt, and are for crates here, which prove it; what users call refuses (docs/DECISIONS.md).
 UNSETTLED = {
     "replay::word::read_word": "reads standard input",
     "replay::word::read_words": "reads standard input",
     "replay::word::read_block": "reads standard input",
     "replay::input::read_full": "reads standard input",
+    "replay::input::read_text": "reads standard input",
+    "replay::memory::Memory::lend": "lends parts of what it is lent",
     "replay::out::Out::new": "writes to standard output",
     "replay::out::Out::end": "writes to standard output",
     "sheet_input::reading::read_all": "reads standard input",
     "piece_input::reading::read_piece": "reads standard input",
+    "piece_input::answering::answer": "reads standard input",
+    "state::lent::Newton::fits": "speaks of slices that a struct borrows",
+    "state::lent::Newton::clear": "speaks of slices that a struct borrows",
+    "state::lent::Factors::fits": "speaks of slices that a struct borrows",
+    "state::lent::Factors::clear": "speaks of slices that a struct borrows",
+    "state::lent::Differences::fits": "speaks of slices that a struct borrows",
+    "state::lent::Differences::clear": "speaks of slices that a struct borrows",
+    "radau_core::optional::option_tag": "is an equation at every type",
+    "radau_core::optional::option_at": "is an equation at every type",
     "radau_core::advance::advanced": "asks that the run is fit",
-    "model::planned::plan": "makes a plan, which says what it is for and not what stands in it",
+    "forecast_text::numerals::digits_of": "asks that the digits spell the number",
+    "model::planned::Plan::new": "makes a plan, which says what it is for and not what stands in it",
     "model::planned::derivative_by_plan": "asks that the plan is the model's",
 }
 
 FUNCTION = re.compile(r'^( *)pub (?:extern "C" )?fn (\w+)\b', re.M)
 MENTIONED = re.compile(r"\bpub\b[^\n]*\bfn (\w+)")
-OWNER = re.compile(r"^impl (\w+) \{", re.M)
+OWNER = re.compile(r"^impl(?:<[^>]*>)? (\w+(?:<\w+>)?)(?:<'[^>]*>)? \{", re.M)
+# A method of a type with a const parameter settles its call at each number that memory has room for.
+AT_EACH = "\nmodule _ (n : ℕ) (fits : Fits w64 n) (few : n < 2 ^ 62) where\n"
 
 
 class Complaint(Exception):
@@ -77,7 +92,8 @@ def joined(text):
 
 def modules(folder, path=()):
     """The modules that another crate can name, each with its path and text."""
-    text = joined(re.sub(r"//[^\n]*", "", (module_file(folder, path) if path else folder / "lib.rt").read_text()))
+    file = module_file(folder, path) if path else folder / "lib.rt"
+    text = joined(re.sub(r"//[^\n]*|pub\(crate\) ", "", file.read_text()))
     yield path, text
     public, private = (re.findall(rf"^{word}mod (\w+);", text, re.M) for word in ("pub ", ""))
     for passed in re.findall(r"^pub use (?:crate::)?(\w+)::", text, re.M):
@@ -105,25 +121,33 @@ def offered():
 
 # ---- theorems
 
+def name_of(crate, path):
+    return "::".join((crate, *(part.split("<")[0] for part in path)))
+
+
 def text_in(file):
     return (ROOT / file).read_text() if (ROOT / file).is_file() else ""
 
 
 def theorem(crate, path, text_of=text_in):
     """The theorem that the contract settles its call, and its file; or that there is none, and why."""
-    name = "::".join((crate, *path))
+    each, name = any("<" in part for part in path), name_of(crate, path)
     if name in UNSETTLED:
         return "none", UNSETTLED[name]
+    path = tuple(part.split("<")[0] for part in path)
     by, file = path[-1].replace("_", "-") + "-once", FILE.format(crate)
     text = text_of(file)
     module = re.escape(f"use Rattle.{crate}.proofs.{'.'.join(path)} as ")
     alias = re.findall(rf"^{module}(\S+)$", text, re.M)
     insist(len(alias) == 1, f"is not named once in {file}")
-    stated = re.findall(rf"^pub {re.escape(by)}\s*:((?:.|\n(?!{re.escape(by)}\b))*)\n{re.escape(by)}\b", text, re.M)
+    insist(not each or (AT_EACH in text and text.count("\nmodule ") == 1), f"has no theorem at each number in {file}")
+    head, ends = ("  ", " n fits)") if each else ("", "")
+    begun = f"{head}{re.escape(by)}"
+    stated = re.findall(rf"^{head}pub {re.escape(by)}\s*:((?:.|\n(?!{begun}\b))*)\n{begun}\b", text, re.M)
     insist(len(stated) == 1, f"has no theorem {by}")
     parts = ("Kinds.ps", "Kinds.r", "Reads.Asked", "Reads.Post")
-    wanted = ["Settles", *(f"{alias[0]}.{part}" for part in parts)]
-    insist(stated[0].split() == wanted, f"has a theorem {by} of something else")
+    wanted = " ".join(["Settles", *(f"{'(' * each}{alias[0]}.{part}{ends}" for part in parts)])
+    insist(stated[0].split() == wanted.split(), f"has a theorem {by} of something else")
     brought = re.findall(r"^use \S+ as (\S+)$|^(?:abbrev |unfoldable |pub )*(\S+) :", text, re.M)
     insist([each for pair in brought for each in pair].count(alias[0]) == 1, f"shares the name {alias[0]} in {file}")
     named = re.findall(r"\bSettles\b *[,}:]", text)
@@ -182,8 +206,17 @@ def tried():
         insist(wrong != HELD and complained(lambda: sample(wrong)), f"{what} passes")
     insist(complained(lambda: sample(HELD, "pub mod Wrong\n")), "a file that is not listed passes")
     insist(complained(lambda: list(functions("pub const fn held() {}\n"))), "a function in another form passes")
-    method = "impl Held {\n    pub fn of() {}\n}\npub fn by() {}\n"
-    insist(list(functions(method)) == [("Held", "of"), ("by",)], "a method is misread")
+    method = "impl Held {\n    pub fn of() {}\n}\nimpl Lent<'_> {\n    pub fn by() {}\n}\npub fn by() {}\n"
+    insist(list(functions(method)) == [("Held", "of"), ("Lent", "by"), ("by",)], "a method is misread")
+    method = "impl<const N: usize> Held<N> {\n    pub fn of() {}\n}\n"
+    insist(list(functions(method)) == [("Held<N>", "of")], "a method of a type with a parameter is misread")
+    parts = "".join(f" (held.{part} n fits)" for part in ("Kinds.ps", "Kinds.r", "Reads.Asked", "Reads.Post"))
+    right = HELD[:HELD.index("\npub held")].replace("part.held as", "part.Held.held as") + AT_EACH \
+        + f"  pub held-once :\n      Settles{parts}\n  held-once κs a = (tt, one)\n"
+    tell = lambda text: theorem("samples", ("part", "Held<N>", "held"), lambda file: LIBRARY if "Lib" in file else text)
+    tell(right)
+    for wrong in (right.replace("2 ^ 62", "2"), right.replace(" n fits)", " 3 fits)"), right.replace("held.", "kept.")):
+        insist(complained(lambda: tell(wrong)), "a theorem about some numbers only passes")
 
 
 def main():
@@ -191,7 +224,7 @@ def main():
     tried()
     rows, complaints = [], []
     for crate, path in offered():
-        name = "::".join((crate, *path))
+        name = name_of(crate, path)
         try:
             rows.append((name, *theorem(crate, path)))
         except Complaint as complaint:

@@ -52,15 +52,21 @@ def stripped(text):
     without the form for C, in which rustc passes slices otherwise than Rattle; types get what the tests here ask of
     them, and sums that wrap the name that they have in Rust."""
     text = re.sub(r"use std::num::wrapping_add_\w+;\n", "", text)
+    # how a proof sees a type
+    text = re.sub(r"use std::marker::Model;\n|^impl(?:<[^>]*>)? Model for .*?^}\n", "", text, flags=re.S | re.M)
     text = re.sub(r"(?:std::num::)?wrapping_add_(\w+)\(", r"\1::wrapping_add(", text)
-    lines, depth = [], 0
+    lines, depth, clause = [], 0, False
     for line in text.replace('#[unsafe(no_mangle)]\npub extern "C" fn', "pub fn").split("\n"):
         word = re.match(r"\s*(?:(ghost|requires|ensures)\b|#!?\[(tactic|derive)\b)?", line)
         if depth or word.group(1) or word.group(2):
+            clause = clause if depth else word.group(1) in ("requires", "ensures")
             depth += sum(line.count(opens) for opens in "{[(") - sum(line.count(closes) for closes in "}])")
+            # a trait's method ends with its last clause
+            lines += [";"] if clause and not depth and line.endswith(";") else []
             continue
         kind = re.match(r"(\s*)(pub )?(struct|enum) ", line)
-        if kind:
+        # what borrows is not copied
+        if kind and "<'" not in line:
             lines.append(kind.group(1) + "#[derive(Clone, Copy, Debug, PartialEq)]")
         lines.append(line)
     return "\n".join(lines)
@@ -95,7 +101,7 @@ def counting(text, file, names):
         indent = len(line) - len(line.lstrip())
         test = re.fullmatch(r"(.*\bif )(.*)( \{)", line)
         held = re.fullmatch(r"\s*if let (.*) = (\w+) \{", line)
-        arm = re.fullmatch(r"(\s*(?:[A-Z]\w*::.*|\d+|_) => )(.*)", line)
+        arm = re.fullmatch(r"(\s*(?:[A-Z]\w*(?:(?:::|\().*)?|\d+|_) => )(.*)", line)
         if held:
             line = f"crate::taken::test({len(names)}, matches!({held.group(2)}, {held.group(1)}));\n{line}"
             names += [unlike(names, f"{file}: if let {held.group(1)}: {outcome}") for outcome in ("yes", "no")]
@@ -109,7 +115,7 @@ def counting(text, file, names):
             names.append(unlike(names, f"{file}: {arm.group(1).strip()[:-3]}"))
             if not whole:
                 arms.append(indent)
-        elif arms and indent == arms[-1] and line.strip() in ("}", "},", "),"):
+        elif arms and indent == arms[-1] and line.strip() in ("}", "},", "),", "}),"):
             line = line.rstrip(",") + " }"
             arms.pop()
         lines.append(line)

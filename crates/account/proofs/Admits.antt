@@ -10,7 +10,6 @@ use Rattle.words.proofs.Branch.{pick_yes, pick_no}
 use Rattle.state.specs.declared.run.Run.{Run}
 use Rattle.state.specs.declared.talk.Refusal.TheVariants.{HasEnded}
 use Rattle.state.specs.declared.talk.Reply.{Reply}
-use Rattle.state.specs.declared.talk.Verdict.TheVariants.{Passed, Refused}
 use Rattle.state.specs.Memory.{Memory, lengths_fit, amounts_fit, newton_fit, given_fit, factors_fit, differences_fit}
 use Rattle.state.specs.Pivots.{stray}
 use Rattle.opening.specs.Rows.{Test, verdict_of, range_rows, outside}
@@ -19,13 +18,15 @@ use Rattle.opening.specs.Admission.{state_rows, count_rows, reply_rows, admissio
 use Rattle.opening.proofs.RowLaws.{verdict-append}
 use Rattle.opening.proofs.AdmissionLaws.{unfit-all}
 use Rattle.solve_blocks.specs.Needs.{MemoryLong}
+use Rattle.std.specs.Prelude.{Err}
+use Rattle.state.specs.Talk.{passed_all}
 
 -- every clause of 'Unfit means one of', denied
 pub record Bounded (r : Run) (m : Memory) : Type 0 where
   pub low : 1 ≤ r.shape.n
   pub high : r.shape.n ≤ 32
   pub long : MemoryLong r.shape.n m
-  pub range : verdict_of (range_rows r.settings) ≡ Passed
+  pub range : verdict_of (range_rows r.settings) ≡ passed_all
   pub partition : r.shape.nind1 + r.shape.nind2 + r.shape.nind3 ≡ r.shape.n
   pub total : (asking_at r.stage).ended ≡ false → r.counts.total ≤ r.settings.max_steps
   pub rounds : r.control.newt_iter ≤ r.settings.newton_maxiter
@@ -42,11 +43,11 @@ pub record Bounded (r : Run) (m : Memory) : Type 0 where
 
 -- ---- rows that don't hold
 
-pub over : (t : Test) (ts : List Test) → t.holds ≡ false → verdict_of ts ≡ Passed → verdict_of (t ∷ ts) ≡ Passed
+pub over : (t : Test) (ts : List Test) → t.holds ≡ false → verdict_of ts ≡ passed_all → verdict_of (t ∷ ts) ≡ passed_all
 unfolding verdict_of
-over t ts e f = pick_no (Refused t.refusal) (verdict_of ts) e ∙ f
+over t ts e f = pick_no (Err t.refusal) (verdict_of ts) e ∙ f
 
-pub no_row : verdict_of [] ≡ Passed
+pub no_row : verdict_of [] ≡ passed_all
 unfolding verdict_of
 no_row = refl
 
@@ -90,16 +91,16 @@ lengths-are n m l =
 -- ---- the table
 
 module _ (r : Run) (m : Memory) (h : Bounded r m) where
-  range-passes : verdict_of (all_unfit (range_rows r.settings)) ≡ Passed
+  range-passes : verdict_of (all_unfit (range_rows r.settings)) ≡ passed_all
   unfolding unfit_of
   range-passes = sym (unfit-all (range_rows r.settings)) ∙ ap unfit_of h.range
 
-  shape-passes : verdict_of (shape_rows r (lengths_fit r.shape.n m)) ≡ Passed
+  shape-passes : verdict_of (shape_rows r (lengths_fit r.shape.n m)) ≡ passed_all
   shape-passes =
       over _ _ (not-outside 1 32 r.shape.n h.low h.high)
       (over _ _ (ap not (lengths-are r.shape.n m h.long)) range-passes)
 
-  state-passes : verdict_of (state_rows r m.factors.ip1 m.factors.ip2) ≡ Passed
+  state-passes : verdict_of (state_rows r m.factors.ip1 m.factors.ip2) ≡ passed_all
   state-passes =
       over _ _ (ap not (eq-eqb _ _ h.partition))
       (over _ _ (unless-ended _ _ (λ e. le-ltb _ _ (h.total e)))
@@ -109,7 +110,7 @@ module _ (r : Run) (m : Memory) (h : Bounded r m) where
       (over _ _ h.ip1
       (over _ _ h.ip2 no_row))))))
 
-  count-passes : verdict_of (count_rows r) ≡ Passed
+  count-passes : verdict_of (count_rows r) ≡ passed_all
   count-passes =
       over _ _ (le-ltb _ _ h.ode) (over _ _ (le-ltb _ _ h.jac)
       (over _ _ (le-ltb _ _ h.lu)
@@ -132,13 +133,13 @@ module _ (r : Run) (m : Memory) (h : Bounded r m) where
 
   -- an advance that replies in kind is admitted
   pub admits : (p : Reply) → (asking_at r.stage).ended ≡ false → answers_report p ≡ (asking_at r.stage).report
-      → verdict_of (admission_rows r p m) ≡ Passed
+      → verdict_of (admission_rows r p m) ≡ passed_all
   admits p running kind =
       reply-decides p
       ∙ over _ _ running (over _ _ (same_kind (asking_at r.stage).report (answers_report p) kind) no_row)
 
   -- and every advance of a run that has ended is 14, never 13
   pub ended-refuses : (p : Reply) → (asking_at r.stage).ended ≡ true
-      → verdict_of (admission_rows r p m) ≡ Refused HasEnded
+      → verdict_of (admission_rows r p m) ≡ Err HasEnded
   unfolding verdict_of
   ended-refuses p e = reply-decides p ∙ pick_yes _ _ e

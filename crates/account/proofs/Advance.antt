@@ -11,7 +11,6 @@ use Rattle.state.specs.declared.talk.Reply.{Reply}
 use Rattle.state.specs.declared.talk.Reply.TheVariants as reply
 use Rattle.state.specs.declared.talk.Request.{Request}
 use Rattle.state.specs.declared.talk.Request.TheVariants as request
-use Rattle.state.specs.declared.talk.Verdict.TheVariants.{Passed}
 use Rattle.state.specs.Memory.{Memory}
 use Rattle.opening.specs.Rows.{verdict_of}
 use Rattle.opening.specs.Admission.{admission_rows}
@@ -21,6 +20,7 @@ use Rattle.history.specs.Host.{part_at, Action, filled, modified, wrote}
 use Rattle.history.specs.History.{point, next_point}
 use Rattle.account.specs.Journal.{SameLength, turn, Journal, journal, next}
 use Rattle.solve_blocks.proofs.AdvanceWhole.{whole_of}
+use Rattle.state.specs.Talk.{passed_all}
 
 -- ---- what the host writes
 
@@ -94,6 +94,6 @@ advanced j a =
     (turn here a l.log ∷ j.turns)
 
 pub next-is : (j : Journal) (a : Action)
-    → verdict_of (admission_rows j.point.run a.reply (handed j a)) ≡ Passed → next j a ≡ advanced j a
+    → verdict_of (admission_rows j.point.run a.reply (handed j a)) ≡ passed_all → next j a ≡ advanced j a
 unfolding next next_point advance_by
 next-is j a e = rw e

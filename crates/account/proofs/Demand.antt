@@ -8,7 +8,6 @@ use Rattle.state.specs.declared.run.Status.{Status}
 use Rattle.state.specs.declared.run.Status.TheVariants.{Success}
 use Rattle.state.specs.declared.talk.Request.{Request}
 use Rattle.state.specs.declared.talk.Request.TheVariants as request
-use Rattle.state.specs.declared.talk.Result.TheVariants as result
 use Rattle.state.specs.Result.{result_at}
 use Rattle.opening.specs.Rows.{Opening}
 use Rattle.opening.specs.Opening.{open_of}
@@ -22,6 +21,7 @@ use Rattle.account.proofs.Journals.{sound, ends-proof, counts-told-proof, limits
 use Rattle.account.proofs.Journals.{events-true-proof, notes-kept-proof, ledger-proof}
 use Rattle.account.proofs.Fresh.{fresh-proof}
 use Rattle.account.proofs.Played.{played-of}
+use Rattle.std.specs.Prelude.{Some}
 
 record Status-of (q : Request) : Type 0 where
   status : Status
@@ -58,8 +58,8 @@ demand-3-proof o start starts h fair =
       result =
           ap (result_at j.point.run) at
           ∙ ap
-          (λ (c : Counts). result.Ended (tells j.point.run s.status c j.point.run.notes)) told
-          ∙ ap (λ (notes : Notes). result.Ended (tells j.point.run s.status (counts_of j) notes))
+          (λ (c : Counts). Some (tells j.point.run s.status c j.point.run.notes)) told
+          ∙ ap (λ (notes : Notes). Some (tells j.point.run s.status (counts_of j) notes))
           (notes-kept-proof o j w);
       events = events-true-proof o j w;
       ledger = ledger-proof o j w;

@@ -31,7 +31,7 @@ use Rattle.state.specs.declared.talk.Request.TheVariants as request
 use Rattle.state.specs.Memory.{Memory, Factors, zeros, noughts}
 use Rattle.opening.specs.Rows.{Opening}
 use Rattle.opening.specs.Admission.{asking_at}
-use Rattle.solve_blocks.specs.declared.step.Call.{Call}
+use Rattle.state.specs.declared.talk.Call.{Call}
 use Rattle.solve_blocks.specs.Entries.{Three, three}
 use Rattle.solve_blocks.specs.Matrices.{built_of}
 use Rattle.solve_blocks.specs.Needs.{FactorsLong}

@@ -29,7 +29,6 @@ use Rattle.matrix.specs.LuComplex.{updated_complex, multiplier_complex, is_zero_
 use Rattle.matrix.specs.Substitution.{exchanged, forward_at, substituted, solved}
 use Rattle.state.specs.Memory.{amounts_fit, newton_fit, given_fit, factors_fit, differences_fit, zeros, noughts}
 use Rattle.state.specs.Pivots.{stray_at, stray}
-use Rattle.state.specs.Settings.{or_else, or_none}
 use Rattle.opening.specs.Admission.{asking_at, answers_report, unfit_of}
 use Rattle.opening.specs.Opening.{nind1_of, shape_of, wished_step, first_step_of, fixed_of}
 use Rattle.opening.specs.Opening.{first_run, mass_kept, cleared_of, by_verdict, open_of}
@@ -57,7 +56,6 @@ use Rattle.history.specs.Host.{is_end, part_at, filled, modified, wrote}
 use Rattle.scalar.specs.SquareRoot.{square_of}
 use Rattle.words.specs.Constants.{«0·0», «1·0», «0·5», «0·001»}
 use Rattle.state.specs.declared.settings.Settings.{Settings}
-use Rattle.state.specs.declared.settings.Number.TheVariants as number
 use Rattle.state.specs.declared.settings.Mass.TheVariants.{Identity}
 use Rattle.state.specs.declared.settings.Source.TheVariants.{Host}
 use Rattle.state.specs.declared.settings.Rule.TheVariants.{Book}
@@ -75,6 +73,7 @@ use Rattle.history.specs.History.{point}
 use Rattle.account.specs.Journal.{of_kind, Journal, journal, next, after, Starts, JournalOf}
 use Rattle.account.specs.Account.{Strategy}
 use Rattle.account.proofs.Computed.{same_length, actions, plays, computed}
+use Rattle.std.specs.Prelude.{Some}
 
 abbrev none : List Float
 none = «0·0» ∷ []
@@ -105,7 +104,7 @@ chosen =
       nind3 = d.nind3;
       mass = Identity;
       source = Host;
-      first_step = number.Given «0·5»;
+      first_step = Some «0·5»;
       dense_output = d.dense_output;
       rule = Book;
     }
@@ -150,7 +149,7 @@ unfolding Starts plays same_length of_kind actions after next at put loop pick h
     lin_solve_complex_of update_at updated reciprocal multiplier is_zero lu_decomp_of updated_complex multiplier_complex
     is_zero_complex lu_decomp_complex_of exchanged forward_at blocks_newton.back_at substituted solved amounts_fit
     newton_fit
-    given_fit factors_fit differences_fit zeros noughts stray_at stray or_else or_none asking_at answers_report
+    given_fit factors_fit differences_fit zeros noughts stray_at stray asking_at answers_report
     unfit_of nind1_of
     shape_of wished_step first_step_of fixed_of first_run mass_kept cleared_of opening_opening.accepted_of
     blocks_judge.accepted_of

@@ -13,19 +13,14 @@ use Rattle.scalar.specs.Order.{signum_of}
 use Rattle.state.specs.declared.settings.Mass.{Mass}
 use Rattle.state.specs.declared.settings.Mass.TheVariants as mass
 use Rattle.state.specs.declared.settings.Rule.{Rule}
-use Rattle.state.specs.declared.settings.Whole.{Whole}
-use Rattle.state.specs.declared.settings.Whole.TheVariants as whole
 use Rattle.state.specs.declared.run.Run.{Run}
 use Rattle.state.specs.declared.run.Tolerances.{Tolerances}
 use Rattle.state.specs.declared.run.Tolerances.TheVariants.{Scalars, Lists}
 use Rattle.state.specs.declared.run.Stage.TheVariants as stage
-use Rattle.state.specs.declared.talk.Opened.TheVariants as opened
 use Rattle.state.specs.declared.talk.Place.{Place}
 use Rattle.state.specs.declared.talk.Place.TheVariants.{YToF0}
 use Rattle.state.specs.declared.talk.Request.{Request}
 use Rattle.state.specs.declared.talk.Request.TheVariants as request
-use Rattle.state.specs.declared.talk.Verdict.{Verdict}
-use Rattle.state.specs.declared.talk.Verdict.TheVariants.{Passed, Refused}
 use Rattle.state.specs.Settings.{or_none}
 use Rattle.state.specs.Memory.{Memory, zeros, noughts}
 use Rattle.state.specs.Pivots.{stray}
@@ -44,6 +39,9 @@ use Rattle.account.specs.Journal.{Journal, Starts}
 use Rattle.solve_blocks.proofs.Decompositions.{Long, loop-keeps, set_long}
 use Rattle.account.proofs.Lengths.{zeros-long}
 use Rattle.account.proofs.Admits.{over, no_row}
+use Rattle.std.specs.Prelude.{None, Some, Option, Ok, Err}
+use Rattle.state.specs.declared.talk.Call.{Call}
+use Rattle.state.specs.Talk.{Verdict, call, passed_all}
 
 -- ---- the memory
 
@@ -99,19 +97,19 @@ cleared-long s n c m small rtols atols l =
 
 -- ---- the partition
 
-partition-whole : (n : ℕ) (one two three : Whole) → partition_fails n one two three ≡ false
+partition-whole : (n : ℕ) (one two three : Option ℕ) → partition_fails n one two three ≡ false
     → nind1_of n one (or_none two) (or_none three) + or_none two + or_none three ≡ n
 unfolding partition_fails nind1_of
-partition-whole n whole.Absent two three e = omega (arith, ltb-false n (or_none two + or_none three) e)
-partition-whole n (whole.Given one) two three e = eqb-true _ _ (not-false _ e)
+partition-whole n None two three e = omega (arith, ltb-false n (or_none two + or_none three) e)
+partition-whole n (Some one) two three e = eqb-true _ _ (not-false _ e)
 
 -- ---- accepted
 
 accepted-only : (v : Verdict) (o : Opening) (r : Run) (q : Request) (p : Place)
-    → (by_verdict v o).answer ≡ opened.Asked r q p → v ≡ Passed
+    → (by_verdict v o).answer ≡ Ok (call r q p) → v ≡ passed_all
 unfolding by_verdict
-accepted-only Passed o r q p e = refl
-accepted-only (Refused x) o r q p e = let z : ◌≡◌ {A = ℕ} 0 1 = cc in absurd (omega arith)
+accepted-only (Ok tt) o r q p e = refl
+accepted-only (Err x) o r q p e = let z : ◌≡◌ {A = ℕ} 0 1 = cc in absurd (omega arith)
 
 -- the point at which an accepted opening leaves the talk
 pub record Opens (o : Opening) (here : Point) : Type 0 where
@@ -144,7 +142,7 @@ module _ (o : Opening) (none : NoneHolds (opening_rows o)) where
   pub rounds-within : (1 ≤ o.settings.newton_maxiter) × (o.settings.newton_maxiter ≤ 16)
   rounds-within = within 1 16 o.settings.newton_maxiter (none 20 (omega arith))
 
-  pub range-passes : verdict_of (range_rows o.settings) ≡ Passed
+  pub range-passes : verdict_of (range_rows o.settings) ≡ passed_all
   range-passes =
       over _ _ (none 16 (omega arith)) (over _ _ (none 17 (omega arith))
       (over _ _ (none 18 (omega arith)) (over _ _ (none 19 (omega arith)) (over _ _ (none 20 (omega arith)) no_row))))
@@ -158,12 +156,14 @@ abbrev converted_by : Opening → Converted
 converted_by o = converted_of o.settings.rule o.n o.tolerances o.memory.given.rtol o.memory.given.atol
 
 module _ (o : Opening) (j : Journal) (none : NoneHolds (opening_rows o)) where
-  opens_by : Starts (by_verdict Passed o) j → Opens o j.point
+  opens_by : Starts (by_verdict passed_all o) j → Opens o j.point
   unfolding Starts by_verdict accepted_of first_run fixed_of shape_of cleared_of
   opens_by s =
-      let run : j.point.run ≡ first_run o.settings o.n o.x0 o.xend (converted_by o).conversion = cc in
-      let asks : j.point.request ≡ request.Derivative o.x0 = cc in
-      let into : j.point.place ≡ YToF0 = cc in
+      let first = first_run o.settings o.n o.x0 o.xend (converted_by o).conversion in
+      let same : call j.point.run j.point.request j.point.place ≡ call first (request.Derivative o.x0) YToF0 = cc in
+      let run : j.point.run ≡ first = ap (λ (c : Call). c.run) same in
+      let asks : j.point.request ≡ request.Derivative o.x0 = ap (λ (c : Call). c.request) same in
+      let into : j.point.place ≡ YToF0 = ap (λ (c : Call). c.place) same in
       let t = tolerances-long o.settings.rule o.n o.tolerances o.memory.given.rtol
       o.memory.given.atol (given-long o none).rtol (given-long o none).atol in
       let l = cleared-long o.settings.mass o.n (converted_by o) o.memory

@@ -25,7 +25,7 @@ use Rattle.state.specs.declared.talk.Reply.{Reply}
 use Rattle.state.specs.declared.talk.Request.{Request}
 use Rattle.state.specs.declared.talk.Request.TheVariants as request
 use Rattle.opening.specs.Admission.{asking_at}
-use Rattle.solve_blocks.specs.declared.step.Call.{Call}
+use Rattle.state.specs.declared.talk.Call.{Call}
 use Rattle.solve_blocks.specs.Events.{Event, begun, over-limit, too_small, error-solve, accepted}
 use Rattle.solve_blocks.specs.Report.{is_interrupt}
 use Rattle.account.specs.Reading.{one, many, is_report, asks_at, is_jac, Means, means_of, same_status, width}

@@ -21,7 +21,7 @@ use Rattle.state.specs.declared.talk.Reply.{Reply}
 use Rattle.state.specs.declared.talk.Reply.TheVariants as reply
 use Rattle.state.specs.declared.talk.Request.{Request}
 use Rattle.opening.specs.Admission.{asking_at, answers_report}
-use Rattle.solve_blocks.specs.declared.step.Call.{Call}
+use Rattle.state.specs.declared.talk.Call.{Call}
 use Rattle.solve_blocks.specs.Events.{Event}
 use Rattle.solve_blocks.specs.Matrices.{wished_of}
 use Rattle.solve_blocks.proofs.Rules.{Position, replied, reporting, arrived, main, matrices}

@@ -31,7 +31,7 @@ use Rattle.opening.specs.Opening.{open_of}
 use Rattle.opening.specs.Admission.{asking_at}
 use Rattle.opening.proofs.RowLaws.{NoneHolds}
 use Rattle.solve_blocks.specs.Setters.{counts}
-use Rattle.solve_blocks.specs.Matrices.{call}
+use Rattle.state.specs.Talk.{call}
 use Rattle.solve_blocks.specs.Advance.{advance_by}
 use Rattle.history.specs.Host.{is_end, Action}
 use Rattle.history.specs.History.{next_point}

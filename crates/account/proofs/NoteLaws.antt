@@ -18,8 +18,6 @@ use Rattle.words.proofs.Branch.{pick_all}
 use Rattle.scalar.specs.Order.{abs_of, max_of, min_of}
 use Rattle.scalar.proofs.Tests.{negative, below-zero}
 use Rattle.state.specs.declared.run.Notes.{Notes}
-use Rattle.state.specs.declared.run.Singular.TheVariants as singular
-use Rattle.state.specs.declared.run.Strides.{Strides}
 use Rattle.state.specs.declared.talk.Reply.{Reply}
 use Rattle.state.specs.Memory.{Memory}
 use Rattle.state.specs.Numbers.{smallest_stride, largest_stride}
@@ -38,6 +36,9 @@ use Rattle.account.specs.Latest.{kept_of, OfItsPass}
 use Rattle.account.specs.Strides.{step_event, step_events, strides_of, best_with, best_of, kept_strides, kept_notes}
 use Rattle.account.proofs.EventsTrue.{run_at}
 use Rattle.solve_blocks.proofs.Rules.{Position, Closed}
+use Rattle.std.specs.Prelude.{Some, Option}
+use Rattle.state.specs.declared.run.Strides.{Strides}
+use Rattle.state.specs.declared.run.Singular.TheVariants.{Real, Complex}
 
 -- ---- the run keeps them
 
@@ -87,7 +88,7 @@ strode-is : {n : Notes} (l : Latest) (h : Float) (hs : List Float) → n ≡ kep
     → set_strides (with_stride (abs_of h) n.strides) n ≡ kept_notes l (h ∷ hs)
 strode-is l h hs w =
     ap (λ (k : Notes). set_strides (with_stride (abs_of h) k.strides) k) w
-    ∙ ap (λ (s : Strides). record { singular = kept_of l; strides = s }) (one-more h hs)
+    ∙ ap (λ (s : Option Strides). record { singular = kept_of l; strides = s }) (one-more h hs)
 
 module _ (m : Memory) (l : Latest) (hs : List Float) where
   -- the notes past the events es of an advance that was begun with the latest l and the steps hs
@@ -130,9 +131,9 @@ module _ (m : Memory) (l : Latest) (hs : List Float) where
         columns-filled = λ c _ w. w;
         matrices-kept = λ _ w. w;
         real-stopped =
-            λ {es} {r} f k _ _ w. notes es (real-singular r.numbers.h k) (ap (set_latest (singular.Real k)) w);
+            λ {es} {r} f k _ _ w. notes es (real-singular r.numbers.h k) (ap (set_latest (Some (Real k))) w);
         complex-stopped = λ {es} {r} f k _ _ _ w.
-            notes es (complex-singular r.numbers.h k) (ap (set_latest (singular.Complex k)) w);
+            notes es (complex-singular r.numbers.h k) (ap (set_latest (Some (Complex k))) w);
         decomposed = λ {es} {r} f _ _ _ w. notes es (factored r.numbers.h) w;
         sixth = λ _ w. w;
         another = λ h hhfac _ w. w;

@@ -4,8 +4,6 @@ use mathlib.Core.Path.{◌≡◌, refl, sym, ◌∙◌}
 use mathlib.Core.List.{◌∷◌}
 use Rattle.state.specs.declared.run.Counts.{Counts}
 use Rattle.state.specs.declared.run.Run.{Run}
-use Rattle.state.specs.declared.talk.Answer.{Answer}
-use Rattle.state.specs.declared.talk.Answer.TheVariants as answer
 use Rattle.state.specs.declared.talk.Reply.{Reply}
 use Rattle.state.specs.Memory.{Memory}
 use Rattle.opening.specs.Rows.{Opening}
@@ -19,6 +17,8 @@ use Rattle.account.specs.Journal.{Fair, turn, Journal, journal, next, Starts}
 use Rattle.account.specs.Reading.{counts_of}
 use Rattle.account.proofs.Sound.{passes}
 use Rattle.account.proofs.Journals.{Sound, sound-first, sound-next, sound-counts}
+use Rattle.std.specs.Prelude.{Ok, Err}
+use Rattle.state.specs.Talk.{Answer, call, refused}
 
 -- what a solver does at an advance, and the journal that it leads to
 abbrev pub Solver : Type 0
@@ -36,8 +36,8 @@ next-by j a = refl
 
 -- the right answer, but for its counts
 unfoldable pub changed : (Counts → Counts) → Answer → Answer
-changed f (answer.Asked r q p) = answer.Asked (in_counts f r) q p
-changed f (answer.Refused r x) = answer.Refused r x
+changed f (Ok c) = Ok (call (in_counts f c.run) c.request c.place)
+changed f (Err e) = Err e
 
 abbrev pub invents_by : (Counts → Counts) → Solver
 invents_by f r p m =

@@ -10,7 +10,6 @@ use Rattle.state.specs.declared.run.Run.{Run}
 use Rattle.state.specs.declared.run.Fixed.{Fixed}
 use Rattle.state.specs.declared.run.Notes.{Notes}
 use Rattle.state.specs.declared.run.Shape.{Shape}
-use Rattle.state.specs.declared.talk.Verdict.TheVariants.{Passed}
 use Rattle.state.specs.Memory.{Memory, Given, Factors}
 use Rattle.state.specs.Pivots.{stray}
 use Rattle.opening.specs.Rows.{Opening, opening_rows, range_rows, verdict_of}
@@ -38,6 +37,7 @@ use Rattle.account.proofs.NoteLaws.{notes-closed, none_below}
 use Rattle.account.proofs.Admits.{Bounded, admits}
 use Rattle.account.proofs.FirstPoint.{Opens, range-passes, partition-sums, order-within, rounds-within}
 use Rattle.account.proofs.Advance.{wrote-long, wrote-factors, handed, advanced}
+use Rattle.state.specs.Talk.{passed_all}
 
 -- ---- what is carried
 
@@ -125,7 +125,7 @@ module _ (o : Opening) (none : NoneHolds (opening_rows o)) where
     handed-factors = wrote-factors j.point.request j.point.place a j.point.memory
 
     -- it is admitted, whatever the floats
-    pub passes : verdict_of (admission_rows r a.reply (handed j a)) ≡ Passed
+    pub passes : verdict_of (admission_rows r a.reply (handed j a)) ≡ passed_all
     passes =
         admits r (handed j a) (running-bounded j.point (handed j a) h in-kind.0 handed-long handed-factors)
         a.reply in-kind.0 in-kind.1

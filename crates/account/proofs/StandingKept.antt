@@ -21,7 +21,7 @@ use Rattle.state.specs.declared.run.Status.{Status}
 use Rattle.state.specs.declared.run.Status.TheVariants as status
 use Rattle.state.specs.declared.talk.Reply.{Reply}
 use Rattle.opening.specs.Admission.{asking_at}
-use Rattle.solve_blocks.specs.declared.step.Call.{Call}
+use Rattle.state.specs.declared.talk.Call.{Call}
 use Rattle.solve_blocks.specs.Events.{Event}
 use Rattle.solve_blocks.specs.Report.{is_interrupt}
 use Rattle.account.specs.Reading.{Standing, standing, failure, aiming, past_event, past_events}

@@ -18,7 +18,7 @@ use Rattle.state.specs.declared.talk.Reply.{Reply}
 use Rattle.state.specs.declared.talk.Request.{Request}
 use Rattle.state.specs.declared.talk.Request.TheVariants as request
 use Rattle.opening.specs.Opening.{first_control}
-use Rattle.solve_blocks.specs.declared.step.Call.{Call}
+use Rattle.state.specs.declared.talk.Call.{Call}
 use Rattle.solve_blocks.specs.Report.{ask_modified}
 use Rattle.solve_blocks.specs.Events.{Event}
 use Rattle.solve_blocks.proofs.Rules.{Position, replied, reporting, arrived, main, matrices}

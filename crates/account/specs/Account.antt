@@ -1,6 +1,6 @@
 -- What an account of a run promises (00, demand 3), for every accepted opening o and every host that alters only what a
 -- reply may alter. M is max_steps, K newton_maxiter. Demand.antt has demand 3 in one record.
-use Rattle.std.specs.Prelude.{ℕ, zero, suc, ◌+◌, ◌*◌, ◌≤◌, ◌<◌, ◌≡◌, Bool, true, false, ◌↔◌, Float}
+use Rattle.std.specs.Prelude.{ℕ, zero, suc, ◌+◌, ◌*◌, ◌≤◌, ◌<◌, ◌≡◌, Bool, true, false, ◌↔◌, Float, Ok, Err}
 use Rattle.words.specs.Words.{◌⊕◌, ◌⊖◌}
 use Rattle.state.specs.declared.settings.Rule.{Rule}
 use Rattle.state.specs.declared.settings.Rule.TheVariants as rule
@@ -8,7 +8,6 @@ use Rattle.state.specs.declared.settings.Settings.{Settings}
 use Rattle.state.specs.declared.run.Counts.{Counts}
 use Rattle.state.specs.declared.run.Status.{Status}
 use Rattle.state.specs.declared.run.Status.TheVariants.{NeedLargerNMax}
-use Rattle.state.specs.declared.talk.Answer.TheVariants as answer
 use Rattle.state.specs.declared.talk.Refusal.TheVariants.{HasEnded}
 use Rattle.state.specs.declared.talk.Reply.{Reply}
 use Rattle.state.specs.declared.talk.Request.{Request}
@@ -18,6 +17,7 @@ use Rattle.solve_blocks.specs.Advance.{advance_outcome, advance_of}
 use Rattle.history.specs.Host.{is_end, Action, wrote}
 use Rattle.account.specs.Journal.{Fair, Journal, next}
 use Rattle.account.specs.Reading.{one, Means, happened, asks_at, says, same_status, standing_at}
+use Rattle.state.specs.Talk.{call, refused}
 
 -- ---- 1. it ends
 
@@ -40,7 +40,7 @@ abbrev pub Answered : Journal → Action → Type 0
 Answered j a =
     (advance_of j.point.run a.reply (wrote j.point.request j.point.place a j.point.memory)
     ).core.answer
-    ≡ answer.Asked (next j a).point.run (next j a).point.request (next j a).point.place
+    ≡ Ok (call (next j a).point.run (next j a).point.request (next j a).point.place)
 
 -- fewer than `most` advances lead to the end, and none of them is refused
 pub record EndsWithin (most : ℕ) (h : Strategy) (j : Journal) : Type 0 where
@@ -55,7 +55,7 @@ abbrev pub Over : Journal → Type 0
 Over j =
     (p : Reply)
     → (advance_of j.point.run p j.point.memory).core
-    ≡ advance_outcome (answer.Refused j.point.run HasEnded) j.point.memory
+    ≡ advance_outcome (Err (refused j.point.run HasEnded)) j.point.memory
 
 -- ---- 3. the counts are bounded
 

@@ -4,7 +4,7 @@
 -- end point is accepted and its report isn't interrupted.' Of 01: 'A run under demand 3's premises never meets
 -- 13.' And of 02, [1]: 'Demand 3's bounds are proved again for the book rule, where accepted plus rejected must
 -- now come out at no more than M.'
-use Rattle.std.specs.Prelude.{ℕ, ◌+◌, ◌*◌, ◌≤◌, ◌<◌, ◌≡◌, true, ◌↔◌}
+use Rattle.std.specs.Prelude.{ℕ, ◌+◌, ◌*◌, ◌≤◌, ◌<◌, ◌≡◌, true, ◌↔◌, Some}
 use Rattle.state.specs.declared.settings.Rule.TheVariants as rule
 use Rattle.state.specs.declared.run.Counts.{Counts}
 use Rattle.state.specs.declared.run.Run.{Run}
@@ -12,7 +12,6 @@ use Rattle.state.specs.declared.run.Notes.{Notes}
 use Rattle.state.specs.declared.run.Status.{Status}
 use Rattle.state.specs.declared.run.Status.TheVariants.{Success}
 use Rattle.state.specs.declared.talk.IntegrationResult.{IntegrationResult}
-use Rattle.state.specs.declared.talk.Result.TheVariants as result
 use Rattle.state.specs.Numbers.{smallest_stride, largest_stride}
 use Rattle.state.specs.Result.{blame_of, result_of}
 use Rattle.opening.specs.Rows.{Opening}
@@ -50,7 +49,7 @@ pub record Demand3 (o : Opening) (start : Journal) (h : Strategy) : Type 0 where
   pub at : end ≡ played h start advances
   pub status : Status
   pub result : result_of end.point.run
-      ≡ result.Ended (tells end.point.run status (counts_of end) (notes_of end))
+      ≡ Some (tells end.point.run status (counts_of end) (notes_of end))
   -- of that history every event is true, and every attempt and every error solve is accounted for
   pub events : EventsTrue o end
   pub ledger : Ledger o.settings.rule end

@@ -1,6 +1,6 @@
 -- The journal of a run: from an accepted opening on, where the talk stood at each request, all that the host did there,
 -- and what happened up to the next request.
-use Rattle.std.specs.Prelude.{◌≡◌, Bool, true, false, List, [], ◌∷◌, length}
+use Rattle.std.specs.Prelude.{◌≡◌, Bool, true, false, List, [], ◌∷◌, length, Ok}
 use Rattle.state.specs.declared.talk.Place.{Place}
 use Rattle.state.specs.declared.talk.Reply.{Reply}
 use Rattle.state.specs.declared.talk.Reply.TheVariants as reply
@@ -12,9 +12,9 @@ use Rattle.opening.specs.Opening as opening
 use Rattle.opening.specs.Opening.{open_of}
 use Rattle.solve_blocks.specs.Events.{Event}
 use Rattle.solve_blocks.specs.Advance.{advance_of}
-use Rattle.state.specs.declared.talk.Opened.TheVariants as opened
 use Rattle.history.specs.Host.{part_at, Action, wrote}
 use Rattle.history.specs.History.{Point, next_point}
+use Rattle.state.specs.Talk.{call}
 
 -- ---- what a host may do
 
@@ -91,7 +91,7 @@ after j (a ∷ acts) = after (next j a) acts
 -- the journal of an opening that was accepted: its first request is open
 unfoldable pub Starts : opening.OpeningOutcome → Journal → Type 0
 Starts x j =
-    x.answer ≡ opened.Asked j.point.run j.point.request j.point.place
+    x.answer ≡ Ok (call j.point.run j.point.request j.point.place)
     × x.memory ≡ j.point.memory × j.turns ≡ []
 
 -- j is a journal of the opening o, by some fair actions of a host

@@ -1,15 +1,15 @@
 -- The latest singular decomposition of a run, read off its history (02, [3]): a fold over all that happened, whatever
 -- was accepted in between. The run keeps of it, in its notes, which matrix it was and the column.
-use Rattle.std.specs.Prelude.{ℕ, ◌≡◌, List, [], ◌∷◌, Float}
+use Rattle.std.specs.Prelude.{ℕ, ◌≡◌, List, [], ◌∷◌, Float, None, Some, Option}
 use Rattle.matrix.specs.Answers.{nowhere, column}
-use Rattle.state.specs.declared.run.Singular.{Singular}
-use Rattle.state.specs.declared.run.Singular.TheVariants as singular
 use Rattle.state.specs.Memory.{Memory}
 use Rattle.opening.specs.Rows.{Opening}
 use Rattle.solve_blocks.specs.Events.{Event, real-singular, complex-singular, factored, over-limit, too_small, begun}
 use Rattle.solve_blocks.specs.Events.{rounds-used, diverged, slow, error-solve, failed, accepted, aimed, not-aimed}
 use Rattle.account.specs.Journal.{Turn, Journal}
 use Rattle.account.specs.Truth.{e1_at, e2_at}
+use Rattle.state.specs.declared.run.Singular.{Singular}
+use Rattle.state.specs.declared.run.Singular.TheVariants.{Real, Complex}
 
 -- the memory in which the advance of its pass worked, the step h of that pass, and the column
 pub data Latest : Type 0 where
@@ -46,10 +46,10 @@ latest_of j = latest_in j.point.memory j.turns
 
 -- ---- what is kept of it, and what makes it true
 
-unfoldable pub kept_of : Latest → Singular
-kept_of never = singular.None
-kept_of (real-at m h k) = singular.Real k
-kept_of (complex-at m h k) = singular.Complex k
+unfoldable pub kept_of : Latest → Option Singular
+kept_of never = None
+kept_of (real-at m h k) = Some (Real k)
+kept_of (complex-at m h k) = Some (Complex k)
 
 -- the elimination of the very matrix of its pass stops at that column; E2 is not tried where E1 stops
 unfoldable pub OfItsPass : Opening → Latest → Type 0

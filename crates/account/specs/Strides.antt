@@ -1,18 +1,18 @@
 -- The strides of a run, read off its history (02, [7]): |h| of every attempt that was accepted, with the h held then, a
 -- NaN passed over. The smallest and the largest are folds over all of them, and +0 where there are none.
-use Rattle.std.specs.Prelude.{◌≡◌, List, [], ◌∷◌, Float}
+use Rattle.std.specs.Prelude.{◌≡◌, List, [], ◌∷◌, Float, None, Some, Option}
 use Rattle.std.specs.Float.Ieee.{is_nan}
 use Rattle.words.specs.Constants.{«0·0»}
 use Rattle.words.specs.Loop.{pick}
 use Rattle.scalar.specs.Order.{abs_of, max_of, min_of}
 use Rattle.state.specs.declared.run.Notes.{Notes}
-use Rattle.state.specs.declared.run.Strides.{Strides}
-use Rattle.state.specs.declared.run.Strides.TheVariants as strides
 use Rattle.state.specs.Numbers.{smallest_stride, largest_stride}
 use Rattle.solve_blocks.specs.Events.{Event, real-singular, complex-singular, factored, over-limit, too_small, begun}
 use Rattle.solve_blocks.specs.Events.{rounds-used, diverged, slow, error-solve, failed, accepted, aimed, not-aimed}
 use Rattle.account.specs.Journal.{Turn, Journal}
 use Rattle.account.specs.Latest.{Latest, latest_of, kept_of}
+use Rattle.state.specs.declared.run.Strides.{Strides}
+use Rattle.state.specs.Talk.{stride_pair}
 
 -- ---- the steps that were accepted, the latest first
 
@@ -66,9 +66,9 @@ largest_of hs = best_of max_of (strides_of hs)
 
 -- ---- what the run keeps
 
-unfoldable pub kept_strides : List Float → Strides
-kept_strides [] = strides.None
-kept_strides (a ∷ rest) = strides.Between (best_with min_of a rest) (best_with max_of a rest)
+unfoldable pub kept_strides : List Float → Option Strides
+kept_strides [] = None
+kept_strides (a ∷ rest) = Some (stride_pair (best_with min_of a rest) (best_with max_of a rest))
 
 -- the notes of a history with this latest singular decomposition and these accepted steps
 abbrev pub kept_notes : Latest → List Float → Notes

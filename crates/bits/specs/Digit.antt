@@ -1,5 +1,5 @@
 -- The digits that bits are written with, in a word of a case as in a sheet.
-use Rattle.std.specs.Prelude.{ℕ, ◌-◌, leb, ltb}
+use Rattle.std.specs.Prelude.{ℕ, ◌-◌, Option, None, Some, leb, ltb}
 use Rattle.words.specs.Loop.{pick}
 
 -- the bytes of 0 and 9, of a and f, and ten below that of a
@@ -18,9 +18,9 @@ byte_f = 102
 abbrev pub ten_below_a : ℕ
 ten_below_a = 87
 
--- the value of a hexadecimal digit in lower case; 16 for any other byte
-unfoldable pub digit_of : ℕ → ℕ
+-- the value of a hexadecimal digit in lower case; no other byte has one
+unfoldable pub digit_of : ℕ → Option ℕ
 digit_of byte =
-    pick (ltb byte byte0) 16
-    (pick (leb byte byte9) (byte - byte0)
-    (pick (ltb byte byte_a) 16 (pick (leb byte byte_f) (byte - ten_below_a) 16)))
+    pick (ltb byte byte0) None
+    (pick (leb byte byte9) (Some (byte - byte0))
+    (pick (ltb byte byte_a) None (pick (leb byte byte_f) (Some (byte - ten_below_a)) None)))

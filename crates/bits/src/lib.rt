@@ -31,21 +31,14 @@ pub fn pattern(x: f64) -> u64
     f64::to_bits(x)
 }
 
-// The value of a hexadecimal digit in lower case; 16 for any other byte.
-pub fn digit(byte: u8) -> u64
+// The value of a hexadecimal digit in lower case; no other byte has one.
+#[tactic(auto, unfolding(crate::specs::Digit::digit_of, words::specs::Loop::pick))]
+pub fn digit(byte: u8) -> Option<u64>
     ensures { result ≡ digit_of byte }
 {
-    if byte < b'0' {
-        return 16;
+    match byte {
+        b'0'..=b'9' => Some(u64::from(byte) - BYTE_0),
+        b'a'..=b'f' => Some(u64::from(byte) - TEN_BELOW_A),
+        _ => None,
     }
-    if byte <= b'9' {
-        return byte as u64 - BYTE_0;
-    }
-    if byte < b'a' {
-        return 16;
-    }
-    if byte <= b'f' {
-        return byte as u64 - TEN_BELOW_A;
-    }
-    16
 }

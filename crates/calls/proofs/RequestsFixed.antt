@@ -3,8 +3,6 @@
 use mathlib.Core.Path.{◌≡◌, refl, ap, ◌∙◌, subst}
 use mathlib.Core.List.{List, [], ◌∷◌}
 use Rattle.words.proofs.OneOutcome.{one-outcome}
-use Rattle.state.specs.declared.talk.Opened.{Opened}
-use Rattle.state.specs.declared.talk.Opened.TheVariants as opened
 use Rattle.state.specs.Memory.{Memory}
 use Rattle.opening.specs.Rows.{Opening}
 use Rattle.opening.specs.Opening as opening
@@ -13,6 +11,8 @@ use Rattle.history.specs.Host.{Action, wrote}
 use Rattle.history.specs.History.{Point, point, next_point}
 use Rattle.calls.specs.History.{Allowed, Follows, History}
 use Rattle.calls.proofs.Defined.{open-defined, advance-defined}
+use Rattle.std.specs.Prelude.{Ok, Err}
+use Rattle.state.specs.Talk.{Opened, call}
 
 allowed-fixed : (here : Point) (a : Action) (x y : AdvanceOutcome) → Allowed here a x → Allowed here a y → x ≡ y
 unfolding Allowed
@@ -37,8 +37,8 @@ follows-fixed here (a ∷ acts) (x ∷ xs) (y ∷ ys) f g =
 
 -- where an opening leaves the talk, if it was accepted
 abbrev start_of : Opened → Memory → Point → Point
-start_of (opened.Asked run request place) m otherwise = point run request place m
-start_of (opened.Refused x) m otherwise = otherwise
+start_of (Ok c) m otherwise = point c.run c.request c.place m
+start_of (Err x) m otherwise = otherwise
 
 pub history-fixed-proof : (o : Opening) (acts : List Action) (first second : Point) (xs ys : List AdvanceOutcome)
     → History o first acts xs → History o second acts ys → (first ≡ second) × (xs ≡ ys)

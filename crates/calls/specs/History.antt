@@ -1,7 +1,6 @@
 -- A history of calls: an opening that was accepted, and then outcomes of advances, each of them any that the contract
 -- allows for what the host did at the request before.
-use Rattle.std.specs.Prelude.{List, [], ◌∷◌}
-use Rattle.state.specs.declared.talk.Opened.TheVariants.{Asked}
+use Rattle.std.specs.Prelude.{List, [], ◌∷◌, Ok}
 use Rattle.opening.specs.Rows.{Opening}
 use Rattle.opening.specs.Opening as opened
 use Rattle.solve_blocks.specs.Advance.{AdvanceOutcome}
@@ -9,6 +8,7 @@ use Rattle.history.specs.Host.{Action, wrote}
 use Rattle.history.specs.History.{Point, next_point}
 use Rattle.account.specs.Journal.{Fair}
 use Rattle.calls.specs.Calls.{Opens, Advances}
+use Rattle.state.specs.Talk.{call}
 
 -- what an advance may give at a point, for what the host did there
 unfoldable pub Allowed : Point → Action → AdvanceOutcome → Type 0
@@ -23,7 +23,7 @@ Follows here (a ∷ acts) (x ∷ xs) = Allowed here a x × Follows (next_point h
 
 -- and from an opening whose first request stands at a point
 pub record History (o : Opening) (first : Point) (acts : List Action) (xs : List AdvanceOutcome) : Type 0 where
-  pub opens : Opens o (opened.opening_outcome (Asked first.run first.request first.place) first.memory)
+  pub opens : Opens o (opened.opening_outcome (Ok (call first.run first.request first.place)) first.memory)
   pub follows : Follows first acts xs
 
 -- where the talk stands behind the outcomes

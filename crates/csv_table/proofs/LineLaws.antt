@@ -1,26 +1,25 @@
 -- Columns and amounts, one behind the other; digits behind their point; and a line cut from the room that it was made
 -- in.
-use Prim.Native.Nat.{ℕ, zero, suc, ◌+◌, ◌-◌, ◌≤◌, ◌<◌}
-use mathlib.Core.Path.{◌≡◌, refl, sym, ap, subst, ◌∙◌}
+use Prim.Native.Nat.{ℕ, zero, suc, ◌+◌, ◌≤◌, ◌<◌}
+use mathlib.Core.Path.{◌≡◌, refl, sym, ap, ◌∙◌}
 use mathlib.Core.List.{List, [], ◌∷◌, ◌++◌, append_assoc, append-nil}
 use native.Mathlib.Numerals.{add-one}
 use native.Mathlib.Omega.{arith}
 use lib.Ieee.{Float, nan}
-use lib.ListN.{length, get_or, take, drop}
-use lib.Seq.{sets-eq, take-append_seam}
+use lib.ListN.{length, get_or, take}
 use mathlib.Core.Bool.{Bool, true, false, ◌&&◌}
-use borrow.Author.Tests.{le-leb, lt-leb}
-use lib.Dec.{T, leb}
+use lib.Dec.{leb}
+use borrow.Author.Tests.{le-leb}
 use Rattle.words.specs.Loop.{pick}
 use Rattle.words.proofs.Branch.{pick_yes, pick_no}
 use Rattle.sheet.specs.Digits.{digits, decimal_of}
-use Rattle.sheet.specs.Reader.{over}
 use Rattle.forecast_text.specs.Printed.{text}
-use Rattle.forecast_text.specs.Put.{Put}
-use Rattle.forecast_text.proofs.PutLaws.{put-over}
+use Rattle.forecast_text.specs.Put.{put}
+use Rattle.forecast_text.proofs.PutLaws.{put-whole}
 use Rattle.csv_table.specs.NumberText.{trimmed, pointed, fraction_text, number_text}
 use Rattle.csv_table.specs.Table.{names_text, amounts_text, export, ordered_of, line_of}
-use Rattle.csv_table.specs.declared.answers.Exported.TheVariants.{Written, RefusedOrder}
+use Rattle.std.specs.Prelude.{Err}
+use Rattle.csv_table.specs.declared.answers.ExportError.TheVariants.{Order}
 
 -- ---- a fraction
 
@@ -57,19 +56,12 @@ amounts-more ys i h = rw (add-one) (amounts-one ys i h)
 
 -- ---- the line
 
-pub line-put : {line m₀ m₁ : List ℕ} {count : ℕ} → Put 0 line m₀ m₁ count
-    → export (Written count) m₁ ≡ export (Written (length line)) (over line m₀)
-line-put {line} {m₀} {m₁} {count} p =
-    let n : count ≡ length line = omega (arith, p.ends) in
-    ap (λ k. export (Written k) m₁) n ∙ ap (λ m. export (Written (length line)) m) (put-over p)
-
-pub line-cut : {line m₀ m₁ : List ℕ} {count : ℕ} → Put 0 line m₀ m₁ count → count ≤ length m₀
-    → take (count - 0) m₁ ≡ line
-line-cut {line} {m₀} {m₁} {count} p h =
-    let n : count - 0 ≡ length line = omega (arith, p.ends) in
-    let fits : 0 + length line ≤ length m₀ = omega arith in
-    ap (λ k. take k m₁) n ∙ ap (λ m. take (length line) m) (p.is ∙ sets-eq line m₀ 0 fits)
-    ∙ take-append_seam line (drop (0 + length line) m₀)
+-- what was put into fresh room is there whole
+pub line-whole : {before after : List ℕ} (line : List ℕ) → before ≡ [] → length line ≤ 826
+    → after ≡ put 1024 before line → after ≡ line
+line-whole line fresh few p =
+    let fits : length line ≤ 1024 = omega arith in
+    p ∙ ap (λ m. put 1024 m line) fresh ∙ put-whole 1024 line fits
 
 -- ---- how many amounts
 
@@ -77,23 +69,15 @@ both : (a b : Bool) → a ≡ true → b ≡ true → (a && b) ≡ true
 both true b p q = q
 both false b p q = p
 
-none_left : (a b : Bool) → a ≡ false → (a && b) ≡ false
-none_left true b p = absurd (subst T p tt)
-none_left false b p = refl
+pub ordered : (n : ℕ) (line buffer : List ℕ) → 1 ≤ n → n ≤ 32 → ordered_of n line buffer ≡ line_of line buffer
+unfolding ordered_of
+ordered n line buffer h k = pick_yes _ _ (both (leb 1 n) (leb n 32) (le-leb 1 n h) (le-leb n 32 k))
 
-none_right : (a b : Bool) → b ≡ false → (a && b) ≡ false
-none_right true b p = p
-none_right false b p = refl
-
-module _ (n : ℕ) (line buffer : List ℕ) where
-  pub ordered : 1 ≤ n → n ≤ 32 → ordered_of n line buffer ≡ line_of line buffer
+module _ (n : ℕ) (line buffer : List ℕ) {b : Bool} (is : b ≡ (leb 1 n && leb n 32)) where
+  pub ordered-by : b ≡ true → ordered_of n line buffer ≡ line_of line buffer
   unfolding ordered_of
-  ordered h k = pick_yes _ _ (both (leb 1 n) (leb n 32) (le-leb 1 n h) (le-leb n 32 k))
+  ordered-by e = pick_yes _ _ (sym is ∙ e)
 
-  pub too_few : n < 1 → export RefusedOrder buffer ≡ ordered_of n line buffer
+  pub not-ordered : b ≡ false → export (Err Order) buffer ≡ ordered_of n line buffer
   unfolding ordered_of
-  too_few h = sym (pick_no _ _ (none_left (leb 1 n) (leb n 32) (lt-leb 1 n h)))
-
-  pub too-many : 32 < n → export RefusedOrder buffer ≡ ordered_of n line buffer
-  unfolding ordered_of
-  too-many h = sym (pick_no _ _ (none_right (leb 1 n) (leb n 32) (lt-leb n 32 h)))
+  not-ordered e = sym (pick_no _ _ (sym is ∙ e))

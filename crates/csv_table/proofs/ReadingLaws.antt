@@ -15,9 +15,9 @@ use lib.Seq.{take-append_seam, drop-append-add}
 use Rattle.words.specs.Loop.{pick}
 use Rattle.words.proofs.Branch.{pick_yes, pick_no, pick_all}
 use Rattle.bits.specs.Digit.{digit_of}
-use Rattle.sheet.specs.Digits.{byte_of, power, digits, decimal_of, width_of, spelled_of, found_of}
+use Rattle.sheet.specs.Digits.{byte_of, power, digits, decimal_of, width_of, after_digit, spelled_of, found_of}
 use Rattle.sheet.specs.Sheet.{Every}
-use Rattle.sheet.specs.declared.digits.Spelt.TheVariants.{Value}
+use Rattle.std.proofs.Common.{Some}
 use Rattle.sheet.proofs.Inverse.{power-some, length_digits, spelled-digits, width-bound}
 use Rattle.forecast_text.specs.Printed.{text}
 use Rattle.csv_table.specs.NumberText.{trimmed, pointed, fraction_text, exponent_text, magnitude_text}
@@ -77,10 +77,10 @@ headed-no-mark d k v h l =
 -- what they spell, and how many stand behind the point
 pub record Spelled (ds : List ℕ) (places value : ℕ) : Type 0 where
   pub counted : length (drop (found_of 46 ds + 1) ds) ≡ places
-  pub spells : spelled_of 16 0 (take (found_of 46 ds) ds ++ drop (found_of 46 ds + 1) ds) ≡ Value value
+  pub spells : spelled_of 16 0 (take (found_of 46 ds) ds ++ drop (found_of 46 ds + 1) ds) ≡ Some value
 
 first-digit : (d : ℕ) (rest : List ℕ) → d ≤ 1 → spelled_of 16 0 ((48 + d) ∷ rest) ≡ spelled_of 16 d rest
-unfolding spelled_of digit_of pick
+unfolding spelled_of after_digit digit_of pick
 first-digit zero rest h = refl
 first-digit (suc zero) rest h = refl
 first-digit (suc (suc d)) rest h = absurd (let z : ⊥ = omega arith in z)
@@ -88,9 +88,9 @@ first-digit (suc (suc d)) rest h = absurd (let z : ⊥ = omega arith in z)
 not-point : (d : ℕ) → 48 + d ≡ 46 → ⊥
 not-point d e = let z : ⊥ = omega arith in z
 
-no_more : {w : ℕ} (d : ℕ) → d ≡ w → spelled_of 16 d [] ≡ Value w
+no_more : {w : ℕ} (d : ℕ) → d ≡ w → spelled_of 16 d [] ≡ Some w
 unfolding spelled_of
-no_more d e = ap Value e
+no_more d e = ap Some e
 
 headed-spelled : (d k v : ℕ) → d ≤ 1 → v < power 16 k → Spelled (headed d k v) k (d * power 16 k + v)
 unfolding pointed digits found_of text power
@@ -111,10 +111,10 @@ headed-spelled d (suc k) v h l =
 
 -- the exponent's text behind the `p`, with the sign that it begins with
 module _ (s : Bool) (d k v power2 : ℕ) (one : d ≤ 1) (low : v < power 16 k) (few : power2 ≤ 9999999999) where
-  decimal-spelled : spelled_of 10 0 (decimal_of power2) ≡ Value power2
+  decimal-spelled : spelled_of 10 0 (decimal_of power2) ≡ Some power2
   decimal-spelled =
       spelled-digits 10 (omega arith) (omega arith) (width_of power2) power2 0 (width-bound power2 few)
-      ∙ ap Value (let z : 0 * power 10 (width_of power2) + power2 ≡ power2 = omega arith in z)
+      ∙ ap Some (let z : 0 * power 10 (width_of power2) + power2 ≡ power2 = omega arith in z)
 
   raised : parts_of s (headed d k v) (43 ∷ decimal_of power2)
       ≡ shifted_of s (d * power 16 k + v) (1074 + power2) (4 * k)
@@ -291,7 +291,7 @@ some-exponent e f h =
     ∙ pick_no _ _ (ne_eqb (suc e) 0 (λ q. let z : ⊥ = omega arith in z))
 
 zero-read : (s : Bool) → unsigned_of s (text "0x0p+0") ≡ number s 0
-unfolding text unsigned_of parts_of scaled_of shifted_of spelled_of found_of digit_of pick
+unfolding text unsigned_of parts_of scaled_of shifted_of spelled_of after_digit found_of digit_of pick
 zero-read s = refl
 
 module _ (s : Bool) (f : ℕ) (low : f < hidden) where

@@ -2,13 +2,11 @@
 -- in base 16, of which one stands behind the point, times 2 to the power 1. Each finite double is a whole number of
 -- 2^-1074, of which it is told how many the text stands for. And a line of CSV, cut into its fields.
 use Rattle.std.specs.Prelude.{ℕ, ◌+◌, ◌-◌, ◌*◌, ◌^◌, ◌≡◌, Bool, true, false, ◌&&◌, List, [], ◌∷◌, ◌++◌, eqb, leb}
-use Rattle.std.specs.Prelude.{Float, length, get_or, take, drop}
+use Rattle.std.specs.Prelude.{Option, None, Some, Float, length, get_or, take, drop}
 use Rattle.std.specs.Float.Ieee.Exact.{HasValue}
 use Rattle.words.specs.Loop.{pick}
 use Rattle.bits.specs.Digit.{byte0}
 use Rattle.sheet.specs.Digits.{spelled_of, found_of}
-use Rattle.sheet.specs.declared.digits.Spelt.{Spelt}
-use Rattle.sheet.specs.declared.digits.Spelt.TheVariants.{Value, Wrong}
 use Rattle.csv_table.specs.NumberText.{number_text}
 use Rattle.csv_table.specs.Table.{comma_byte}
 
@@ -43,11 +41,11 @@ shifted_of s m up down = pick (leb down up) (number s (m * 2 ^ (up - down))) unr
 
 -- digits that spell m, of which so many stand behind the point, times 2 to the power of what other digits spell,
 -- which is above 0 or below
-unfoldable pub scaled_of : Bool → Bool → ℕ → Spelt → Spelt → Read
-scaled_of s below places (Value m) (Value d) =
+unfoldable pub scaled_of : Bool → Bool → ℕ → Option ℕ → Option ℕ → Read
+scaled_of s below places (Some m) (Some d) =
     pick below (shifted_of s m smallest (d + 4 * places)) (shifted_of s m (smallest + d) (4 * places))
-scaled_of s below places (Value m) Wrong = unread
-scaled_of s below places Wrong d = unread
+scaled_of s below places (Some m) None = unread
+scaled_of s below places None d = unread
 
 -- the digits before the `p`, cut at the point, and the exponent behind it, with its sign
 unfoldable pub parts_of : Bool → List ℕ → List ℕ → Read

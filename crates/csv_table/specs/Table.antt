@@ -1,15 +1,15 @@
 -- A table of points as CSV by RFC 4180 (02, [9]): 'a header x and y1 to yn, then a record a point, CRLF after each, no
 -- quotes'. Into a lent buffer goes one line at a time: 'refusals: 1, then 24, header or record doesn't fit the buffer;
 -- nothing written'.
-use Rattle.std.specs.Prelude.{ℕ, zero, suc, ◌&&◌, ◌≡◌, List, [], ◌∷◌, ◌++◌, leb, Float, length}
+use Rattle.std.specs.Prelude.{ℕ, zero, suc, ◌&&◌, ◌≡◌, List, [], ◌∷◌, ◌++◌, leb, Float, length, Result, Ok, Err}
 use Rattle.words.specs.Loop.{pick}
 use Rattle.sheet.specs.Digits.{decimal_of}
 use Rattle.sheet.specs.Sheet.{line_feed}
 use Rattle.sheet.specs.Reader.{over}
 use Rattle.forecast_text.specs.Printed.{text}
 use Rattle.csv_table.specs.NumberText.{number_text}
-use Rattle.csv_table.specs.declared.answers.Exported.{Exported}
-use Rattle.csv_table.specs.declared.answers.Exported.TheVariants.{Written, RefusedOrder, RefusedRoom}
+use Rattle.csv_table.specs.declared.answers.ExportError.{ExportError}
+use Rattle.csv_table.specs.declared.answers.ExportError.TheVariants.{Order, Room}
 
 -- ---- lines
 
@@ -51,27 +51,28 @@ pub record Plain (byte : ℕ) : Type 0 where
 -- ---- what is answered, and how the buffer is left
 
 -- 02's number, and 0 where nothing is refused
-abbrev pub exported_number : Exported → ℕ
-exported_number (Written n) = 0
-exported_number RefusedOrder = 1
-exported_number RefusedRoom = 24
+abbrev pub exported_number : Result ℕ ExportError → ℕ
+exported_number (Ok n) = 0
+exported_number (Err Order) = 1
+exported_number (Err Room) = 24
 
+-- how many bytes were written, or why none
 pub record Export : Type 0 where
-  pub answer : Exported
+  pub answer : Result ℕ ExportError
   pub buffer : List ℕ
 
-abbrev pub export : Exported → List ℕ → Export
+abbrev pub export : Result ℕ ExportError → List ℕ → Export
 export r buffer = record { answer = r; buffer = buffer }
 
 -- a line over the first bytes of a buffer that it fits; what stands behind it stays
 unfoldable pub line_of : List ℕ → List ℕ → Export
 line_of line buffer =
-    pick (leb (length line) (length buffer)) (export (Written (length line)) (over line buffer))
-    (export RefusedRoom buffer)
+    pick (leb (length line) (length buffer)) (export (Ok (length line)) (over line buffer))
+    (export (Err Room) buffer)
 
 -- a line for n amounts
 unfoldable pub ordered_of : ℕ → List ℕ → List ℕ → Export
-ordered_of n line buffer = pick (leb 1 n && leb n 32) (line_of line buffer) (export RefusedOrder buffer)
+ordered_of n line buffer = pick (leb 1 n && leb n 32) (line_of line buffer) (export (Err Order) buffer)
 
 abbrev pub header_of : ℕ → List ℕ → Export
 header_of n buffer = ordered_of n (header_text n) buffer

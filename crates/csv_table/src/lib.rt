@@ -3,7 +3,6 @@
 #![tactic(auto)]
 
 pub mod answers;
-mod digits;
 mod lines;
 mod number;
 pub mod table;

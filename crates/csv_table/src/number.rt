@@ -1,17 +1,26 @@
-// A double put into a line in the C standard's hexadecimal form.
-ghost use Rattle.std.specs.Prelude.{◌+◌, ◌≤◌, ◌<◌, ◌≡◌, length};
+// A double put behind a line in the C standard's hexadecimal form.
+ghost use Rattle.std.specs.Prelude.{◌≤◌, ◌<◌, ◌≡◌};
 ghost use Rattle.sheet.specs.Digits.{power, digits};
-ghost use Rattle.forecast_text.specs.Put.{Put};
+ghost use Rattle.forecast_text.specs.Put.{put};
 ghost use Rattle.csv_table.specs.NumberText.{trimmed, fraction_text, exponent_text, magnitude_text, sign_text};
 ghost use Rattle.csv_table.specs.NumberText.{number_text};
 
-use crate::digits::{put_decimal, put_digits, put_text};
 use bits::pattern;
+use forecast_text::numerals::digits_of;
+use forecast_text::texts::Text;
+
+// More bytes than a line has: a record has no more than 826, a header no more than 122.
+pub const ROOM: usize = 1024;
 
 // The sign's bit, and the lowest bit of the exponent.
 const SIGN: u64 = 0x8000_0000_0000_0000;
 
 const EXPONENT: u64 = 0x0010_0000_0000_0000;
+
+// The exponent that stands for 0, and the one of infinities.
+const BIAS: u64 = 1023;
+
+const HIGHEST: u64 = 2047;
 
 // A number, and how many hexadecimal digits it is put with.
 #[derive(Clone, Copy)]
@@ -36,75 +45,67 @@ fn trim(fraction: u64) -> Digits
 }
 
 // Puts the fraction with its point, or nothing where it is 0.
-fn put_fraction(out: &mut [u8], at: usize, fraction: u64) -> usize
-    requires { (at + 14 ≤ length out.old) × (fraction < 0x0010_0000_0000_0000) }
-    ensures put { Put at (fraction_text fraction) out.old out.new result }
-    ensures upper_bound { result ≤ at + 14 }
+fn put_fraction(text: &mut Text<ROOM>, fraction: u64)
+    requires { fraction < 0x0010_0000_0000_0000 }
+    ensures { text.new ≡ put 1024 text.old (fraction_text fraction) }
 {
     if fraction == 0 {
-        return at;
+        return;
     }
     let kept = trim(fraction);
-    let behind = put_text(out, at, b".");
-    put_digits(out, behind, 16, kept.width, kept.value)
+    let digits = digits_of(16, kept.width, kept.value);
+    text.put(b".");
+    text.put(&digits[0..kept.width]);
 }
 
 // Puts the exponent with its sign.
-fn put_exponent(out: &mut [u8], at: usize, exponent: u64) -> usize
-    requires { (at + 6 ≤ length out.old) × (exponent < 2048) }
-    ensures put { Put at (exponent_text exponent) out.old out.new result }
-    ensures upper_bound { result ≤ at + 6 }
+fn put_exponent(text: &mut Text<ROOM>, exponent: u64)
+    requires { exponent < 2048 }
+    ensures { text.new ≡ put 1024 text.old (exponent_text exponent) }
 {
-    if exponent < 1023 {
-        let behind = put_text(out, at, b"p-");
-        return put_decimal(out, behind, 1023 - exponent);
+    if exponent < BIAS {
+        text.put_named(b"p-", BIAS - exponent);
+    } else {
+        text.put_named(b"p+", exponent - BIAS);
     }
-    let behind = put_text(out, at, b"p+");
-    put_decimal(out, behind, exponent - 1023)
 }
 
 // Puts a number without its sign.
-fn put_magnitude(out: &mut [u8], at: usize, exponent: u64, fraction: u64) -> usize
-    requires { (at + 23 ≤ length out.old) × (exponent < 2048) × (fraction < 0x0010_0000_0000_0000) }
-    ensures put { Put at (magnitude_text exponent fraction) out.old out.new result }
-    ensures upper_bound { result ≤ at + 23 }
+fn put_magnitude(text: &mut Text<ROOM>, exponent: u64, fraction: u64)
+    requires { (exponent < 2048) × (fraction < 0x0010_0000_0000_0000) }
+    ensures { text.new ≡ put 1024 text.old (magnitude_text exponent fraction) }
 {
-    if exponent == 2047 {
-        return put_text(out, at, b"inf");
-    }
-    if exponent == 0 {
-        if fraction == 0 {
-            return put_text(out, at, b"0x0p+0");
+    match (exponent, fraction) {
+        (HIGHEST, _) => text.put(b"inf"),
+        (0, 0) => text.put(b"0x0p+0"),
+        (0, _) => {
+            text.put(b"0x0");
+            put_fraction(text, fraction);
+            text.put(b"p-1022");
         }
-        let point = put_text(out, at, b"0x0");
-        let behind = put_fraction(out, point, fraction);
-        return put_text(out, behind, b"p-1022");
+        _ => {
+            text.put(b"0x1");
+            put_fraction(text, fraction);
+            put_exponent(text, exponent);
+        }
     }
-    let point = put_text(out, at, b"0x1");
-    let behind = put_fraction(out, point, fraction);
-    put_exponent(out, behind, exponent)
 }
 
-fn put_sign(out: &mut [u8], at: usize, bits: u64) -> usize
-    requires { at + 1 ≤ length out.old }
-    ensures put { Put at (sign_text bits) out.old out.new result }
-    ensures upper_bound { result ≤ at + 1 }
+fn put_sign(text: &mut Text<ROOM>, bits: u64)
+    ensures { text.new ≡ put 1024 text.old (sign_text bits) }
 {
     if SIGN <= bits {
-        return put_text(out, at, b"-");
+        text.put(b"-");
     }
-    at
 }
 
-pub fn put_number(out: &mut [u8], at: usize, x: f64) -> usize
-    requires { at + 24 ≤ length out.old }
-    ensures put { Put at (number_text x) out.old out.new result }
-    ensures upper_bound { result ≤ at + 24 }
+pub fn put_number(text: &mut Text<ROOM>, x: f64)
+    ensures { text.new ≡ put 1024 text.old (number_text x) }
 {
     if x != x {
-        return put_text(out, at, b"nan");
+        return text.put(b"nan");
     }
     let bits = pattern(x);
-    let behind = put_sign(out, at, bits);
-    put_magnitude(out, behind, bits % SIGN / EXPONENT, bits % EXPONENT)
+    put_sign(text, bits);
+    put_magnitude(text, bits % SIGN / EXPONENT, bits % EXPONENT);
 }

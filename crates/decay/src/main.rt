@@ -6,9 +6,8 @@
 use forecast::forecast;
 use forecast_text::print;
 use replay::out::Out;
-use replay::word::within;
 use sheet_input::read_all;
-use sheet_input::reading::{Input, KEPT};
+use sheet_input::reading::KEPT;
 use std::io;
 
 // Room for all that is printed of a sheet.
@@ -17,14 +16,14 @@ const OUT: usize = 1024;
 // What was put into an array that was lent to be written; of what lies behind a reference the length is known.
 fn write_first(to: &Out, out: &[u8; OUT], count: usize) {
     let bytes: &[u8] = out;
-    to.write(&bytes[0..within(count, bytes.len())]);
+    to.write(&bytes[0..count.min(bytes.len())]);
 }
 
 // Prints what becomes of the sheet, which is as long as was read.
 fn tell(to: &Out, kept: &[u8; KEPT], length: usize) {
     let bytes: &[u8] = kept;
     let mut out = [0u8; OUT];
-    let printed = print(forecast(&bytes[0..within(length, bytes.len())]), &mut out);
+    let printed = print(forecast(&bytes[0..length.min(bytes.len())]), &mut out);
     write_first(to, &out, printed);
 }
 
@@ -32,8 +31,8 @@ fn main(rt: HostRuntime) -> io::Result<()> {
     let to = Out::new(rt.stdout());
     let mut kept = [0u8; KEPT];
     match read_all(&mut rt.stdin(), &mut kept) {
-        Input::Bytes(length) => tell(&to, &kept, length),
-        Input::Unreadable => {
+        Ok(length) => tell(&to, &kept, length),
+        Err(_) => {
             to.write(b"unreadable\n");
         }
     }

@@ -5,7 +5,8 @@ use mathlib.Core.List.{[], ◌∷◌}
 use lib.Ieee.{Float, nan, sub, mul, div, le, of_bits}
 use Rattle.words.specs.Words.{◌⊕◌, double}
 use Rattle.words.specs.Loop.{loop, pick}
-use Rattle.dense.specs.declared.answers.Interpolated.TheVariants.{Done, RefusedTarget}
+use Rattle.std.specs.Prelude.{Ok, Err}
+use Rattle.dense.specs.declared.answers.InterpolationError.TheVariants.{ShortTarget}
 use Rattle.dense.specs.Answers.{interpolation}
 use Rattle.dense.specs.Interpolate.{place_of, polynomial_of, amount_of, interpolate_at, interpolate_of}
 use Rattle.dense.specs.Bounds.{ends, bounds_of}
@@ -30,16 +31,16 @@ two = double 0x4000_0000_0000_0000
 -- doubles are what the Rust, compiled, writes: about 0.122 and 1.670.
 pub two-amounts :
     interpolate_of one (one ∷ one ∷ two ∷ []) (one ∷ two ∷ two ∷ one ∷ one ∷ two ∷ two ∷ one ∷ two ∷ []) none two
-    ≡ interpolation Done (double 0x3fbf_5a7c_ecdb_6848 ∷ double 0x3ffa_b81c_6a68_39d6 ∷ two ∷ [])
+    ≡ interpolation (Ok tt) (double 0x3fbf_5a7c_ecdb_6848 ∷ double 0x3ffa_b81c_6a68_39d6 ∷ two ∷ [])
 unfolding interpolate_of interpolate_at amount_of polynomial_of place_of loop pick sub mul div of_bits
 two-amounts = refl
 
-pub short-target : interpolate_of one [] (one ∷ two ∷ none ∷ none ∷ []) none two ≡ interpolation RefusedTarget []
+pub short-target : interpolate_of one [] (one ∷ two ∷ none ∷ none ∷ []) none two ≡ interpolation (Err ShortTarget) []
 unfolding interpolate_of pick
 short-target = refl
 
 -- with no coefficients any target is long enough
-pub no-coefficients : interpolate_of one [] [] none two ≡ interpolation Done []
+pub no-coefficients : interpolate_of one [] [] none two ≡ interpolation (Ok tt) []
 unfolding interpolate_of loop pick
 no-coefficients = refl
 

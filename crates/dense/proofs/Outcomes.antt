@@ -13,7 +13,8 @@ use borrow.Author.Tests.{lt-ltb, le-ltb}
 use Rattle.words.specs.Words.{◌!◌}
 use Rattle.words.specs.Loop.{loop}
 use Rattle.words.proofs.Branch.{pick_yes, pick_no, pick_all}
-use Rattle.dense.specs.declared.answers.Interpolated.TheVariants.{Done, RefusedTarget}
+use Rattle.std.specs.Prelude.{Ok, Err}
+use Rattle.dense.specs.declared.answers.InterpolationError.TheVariants.{ShortTarget}
 use Rattle.dense.specs.Answers.{Interpolation, interpolation, interpolated_number}
 use Rattle.dense.specs.Interpolate.{place_of, amount_of, interpolate_at, interpolate_of}
 use Rattle.dense.proofs.Filling.{filled-length, filled-rest, filled-place}
@@ -32,16 +33,19 @@ module _ (xi : Float) (yi cont : List Float) (xold h : Float) where
 
   -- ---- the two ways out
 
-  refusal : length yi < count → outcome ≡ interpolation RefusedTarget yi
+  refusal : length yi < count → outcome ≡ interpolation (Err ShortTarget) yi
   unfolding interpolate_of
   refusal p = pick_yes _ _ (lt-ltb _ _ p)
 
   work : count ≤ length yi
-      → outcome ≡ interpolation Done (loop (interpolate_at (place_of xi xold h) count cont) 0 count yi)
+      → outcome ≡ interpolation (Ok tt) (loop (interpolate_at (place_of xi xold h) count cont) 0 count yi)
   unfolding interpolate_of
   work p = pick_no _ _ (le-ltb _ _ p)
 
   -- ---- what is promised
+
+  pub done-proof : count ≤ length yi → outcome.answer ≡ Ok tt
+  done-proof p = ap (λ (o : Interpolation). o.answer) (work p)
 
   pub refused-exactly-proof : (interpolated_number outcome.answer ≡ 19) ↔ (length yi < count)
   refused-exactly-proof =

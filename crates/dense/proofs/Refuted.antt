@@ -14,7 +14,8 @@ use Rattle.words.specs.Words.{◌⊕◌, ◌⊖◌, ◌⊗◌, ◌!◌, double}
 use Rattle.words.specs.Loop.{loop, pick}
 use Rattle.scalar.specs.Coefficients.{C1M1, C2M1}
 use Rattle.dense.specs.declared.answers.Bounds.{Bounds}
-use Rattle.dense.specs.declared.answers.Interpolated.TheVariants.{Done, RefusedTarget}
+use Rattle.std.specs.Prelude.{Ok, Err}
+use Rattle.dense.specs.declared.answers.InterpolationError.TheVariants.{ShortTarget}
 use Rattle.dense.specs.Answers.{Interpolation, interpolation, interpolated_number}
 use Rattle.dense.specs.Interpolate.{place_of, polynomial_of, amount_of, interpolate_at, interpolate_of}
 use Rattle.dense.specs.Bounds.{ends, bounds_of}
@@ -32,8 +33,8 @@ Meets f = (xi : Float) (yi cont : List Float) (xold h : Float) → f xi yi cont 
 abbrev pub equal_refused : Routine
 equal_refused xi yi cont xold h =
     let n = length cont / 4 in
-    pick (leb (length yi) n) (interpolation RefusedTarget yi)
-    (interpolation Done (loop (interpolate_at (place_of xi xold h) n cont) 0 n yi))
+    pick (leb (length yi) n) (interpolation (Err ShortTarget) yi)
+    (interpolation (Ok tt) (loop (interpolate_at (place_of xi xold h) n cont) 0 n yi))
 
 abbrev is_done : Interpolation → Bool
 is_done o = eqb (interpolated_number o.answer) 0
@@ -53,8 +54,8 @@ module _ (s : Float) (n : ℕ) (cont : List Float) where
 abbrev pub nodes_exchanged : Routine
 nodes_exchanged xi yi cont xold h =
     let n = length cont / 4 in
-    pick (ltb (length yi) n) (interpolation RefusedTarget yi)
-    (interpolation Done (loop (exchanged_at (place_of xi xold h) n cont) 0 n yi))
+    pick (ltb (length yi) n) (interpolation (Err ShortTarget) yi)
+    (interpolation (Ok tt) (loop (exchanged_at (place_of xi xold h) n cont) 0 n yi))
 
 -- the first of `two-amounts`
 abbrev first_right : Interpolation → Bool

@@ -6,16 +6,22 @@ use mathlib.Core.List.{List}
 use mathlib.Core.Logic.{◌↔◌}
 use lib.ListN.{length}
 use lib.Ieee.{Float}
+use Rattle.std.specs.Prelude.{Ok}
 use Rattle.words.specs.Words.{◌!◌}
 use Rattle.dense.specs.Answers.{interpolated_number}
 use Rattle.dense.specs.Interpolate.{place_of, amount_of, interpolate_of}
 use Rattle.dense.proofs.Outcomes.{refused-exactly-proof, refused-kept-proof, length-kept-proof, rest-kept-proof}
-use Rattle.dense.proofs.Outcomes.{amounts-written-proof}
+use Rattle.dense.proofs.Outcomes.{amounts-written-proof, done-proof}
 
 -- The number is 19 exactly when the target is shorter than the amounts are many.
 pub refused-exactly : (xi : Float) (yi cont : List Float) (xold h : Float)
     → (interpolated_number (interpolate_of xi yi cont xold h).answer ≡ 19) ↔ (length yi < length cont / 4)
 refused-exactly = refused-exactly-proof
+
+-- A target with room for the amounts isn't refused.
+pub done : (xi : Float) (yi cont : List Float) (xold h : Float) → length cont / 4 ≤ length yi
+    → (interpolate_of xi yi cont xold h).answer ≡ Ok tt
+done = done-proof
 
 -- A refused target is left as it was.
 pub refused-kept : (xi : Float) (yi cont : List Float) (xold h : Float) → length yi < length cont / 4

@@ -1,10 +1,10 @@
 -- `interpolate` (radau.rs:801-812): the amounts at a point, from the coefficients that a step left.
 -- Each of n amounts has four; they lie in one list, c0 from 0 on, c1 from n, c2 from 2n, c3 from 3n (radau.rs:805-808).
-use Rattle.std.specs.Prelude.{ℕ, ◌+◌, ◌*◌, ◌/◌, List, ltb, length, set, Float}
+use Rattle.std.specs.Prelude.{ℕ, ◌+◌, ◌*◌, ◌/◌, List, ltb, length, set, Ok, Err, Float}
 use Rattle.words.specs.Words.{◌⊕◌, ◌⊖◌, ◌⊗◌, ◌⊘◌, ◌!◌}
 use Rattle.words.specs.Loop.{loop, pick}
 use Rattle.scalar.specs.Coefficients.{C1M1, C2M1}
-use Rattle.dense.specs.declared.answers.Interpolated.TheVariants.{Done, RefusedTarget}
+use Rattle.dense.specs.declared.answers.InterpolationError.TheVariants.{ShortTarget}
 use Rattle.dense.specs.Answers.{Interpolation, interpolation}
 
 -- where xi lies, counted in steps from the end of the step [radau.rs:803-804]
@@ -29,5 +29,5 @@ interpolate_of xi yi cont xold h =
     let n = length cont / 4 in
     let s = place_of xi xold h in
     pick (ltb (length yi) n)
-    (interpolation RefusedTarget yi)
-    (interpolation Done (loop (interpolate_at s n cont) 0 n yi))
+    (interpolation (Err ShortTarget) yi)
+    (interpolation (Ok tt) (loop (interpolate_at s n cont) 0 n yi))

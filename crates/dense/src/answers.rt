@@ -1,12 +1,10 @@
-// What the two functions answer. specs/Answers.antt gives document 01's number for each case.
+// What the two functions answer. specs/Answers.antt gives document 01's number for a refusal.
 
-// The answer of an interpolation.
+// Why an interpolation is refused.
 #[derive(Clone, Copy)]
-pub enum Interpolated {
-    // The target's first n entries hold the interpolated amounts.
-    Done,
-    // The target is shorter than n; nothing was written.
-    RefusedTarget,
+pub enum InterpolationError {
+    // The target has less room than there are amounts; nothing was written.
+    ShortTarget,
 }
 
 // The two ends of a step.

@@ -6,6 +6,6 @@ pub mod answers;
 pub mod interpolation;
 pub mod step;
 
-pub use answers::{Bounds, Interpolated};
+pub use answers::{Bounds, InterpolationError};
 pub use interpolation::interpolate;
 pub use step::bounds;

@@ -6,16 +6,10 @@ use lib.Ieee.{Float}
 use Rattle.state.specs.declared.settings.Settings.{Settings}
 use Rattle.state.specs.declared.run.Run.{Run}
 use Rattle.state.specs.declared.run.Tolerances.{Tolerances}
-use Rattle.state.specs.declared.talk.Opened.{Opened}
-use Rattle.state.specs.declared.talk.Answer.{Answer}
-use Rattle.state.specs.declared.talk.Answer.TheVariants as answer
 use Rattle.state.specs.declared.talk.Place.{Place}
 use Rattle.state.specs.declared.talk.Refusal.{Refusal}
 use Rattle.state.specs.declared.talk.Reply.{Reply}
 use Rattle.state.specs.declared.talk.Request.{Request}
-use Rattle.state.specs.declared.talk.Result.{Result}
-use Rattle.state.specs.declared.talk.Verdict.{Verdict}
-use Rattle.state.specs.declared.talk.Verdict.TheVariants as verdict
 use Rattle.state.specs.Memory.{Memory}
 use Rattle.state.specs.Numbers.{refusal_number}
 use Rattle.state.specs.Result.{result_of}
@@ -29,6 +23,9 @@ use Rattle.radau_core.proofs.PackLaws.{held_at}
 use Rattle.export.specs.Talk.{reply_of, Crossed, crossed, asked_of, of_opened, of_answer, left}
 use Rattle.export.specs.Talk.{open_left, advance_left}
 use Rattle.export.specs.Talk.{Ended, of_result, result_left}
+use Rattle.std.specs.Prelude.{Option, Ok, Err}
+use Rattle.state.specs.declared.talk.IntegrationResult.{IntegrationResult}
+use Rattle.state.specs.Talk.{Verdict, Opened, Answer, call, refused, passed_all}
 
 module _ (words : List ℕ) (doubles : List Float) (told : List ℕ) (at : List Float) where
   pub open-left :
@@ -61,36 +58,37 @@ module _ (words : List ℕ) (doubles : List Float) (told : List ℕ) (at : List 
   -- the admission refuses, or the run is advanced where it was put
   module _ (k : ℕ) (value : Float) (m : Memory) (r : Run) (p : Reply) (hr : r ≡ run_at words doubles)
       (hp : p ≡ reply_of r.stage k value) where
-    pub refused-left : {n : ℕ} (x : Refusal) → verdict_of (admission_rows r p m) ≡ verdict.Refused x
+    pub refused-left : {n : ℕ} (x : Refusal) → verdict_of (admission_rows r p m) ≡ Err x
         → n ≡ refusal_number x
         → left (crossed n words doubles told at) m ≡ advance_left k value words doubles told at m
     unfolding of_answer
     refused-left x e hn =
-        advance-left {a = answer.Refused r x} k value m m hr hp (advance-refused r p m x e)
+        advance-left {a = Err (refused r x)} k value m m hr hp (advance-refused r p m x e)
         (ap (λ (n : ℕ). crossed n words doubles told at) hn)
 
     pub asked-left :
         (w v : List ℕ) (d e : List Float) (q : Request) (place : Place) (m' : Memory) {z : Crossed}
-        → verdict_of (admission_rows r p m) ≡ verdict.Passed
+        → verdict_of (admission_rows r p m) ≡ passed_all
         → w ≡ words_of r
         → d ≡ doubles_of r
-        → advanced.advance_outcome (answer.Asked (run_at v e) q place) m'
-        ≡ (advanced.advance_by verdict.Passed (run_at w d) p m).core
+        → advanced.advance_outcome (Ok (call (run_at v e) q place)) m'
+        ≡ (advanced.advance_by passed_all (run_at w d) p m).core
         → z ≡ asked_of (run_at v e) q place
         → left z m' ≡ advance_left k value words doubles told at m
     unfolding of_answer
     asked-left w v d e q place m' passed hw hd ho hz =
-        advance-left {a = answer.Asked (run_at v e) q place} k value m m' hr hp
-        (ho ∙ ap (λ (s : Run). (advanced.advance_by verdict.Passed s p m).core) (held_at r hw hd)
+        advance-left {a = Ok (call (run_at v e) q place)} k value m m' hr hp
+        (ho ∙ ap (λ (s : Run). (advanced.advance_by passed_all s p m).core) (held_at r hw hd)
         ∙ ap (λ (c : Verdict). (advanced.advance_by c r p m).core) (sym passed))
         hz
 
 pub result-left :
-    (words : List ℕ) (doubles : List Float) (numbers : List ℕ) (floats : List Float) {r : Run} {q : Result} {z : Ended}
+    (words : List ℕ) (doubles : List Float) (numbers : List ℕ) (floats : List Float) {r : Run}
+    {q : Option IntegrationResult} {z : Ended}
     → r ≡ run_at words doubles
     → q ≡ result_of r
     → z ≡ of_result q numbers floats
     → z ≡ result_left words doubles numbers floats
 result-left words doubles numbers floats hr hq hz =
-    hz ∙ ap (λ (v : Result). of_result v numbers floats) hq
+    hz ∙ ap (λ (v : Option IntegrationResult). of_result v numbers floats) hq
     ∙ ap (λ (v : Run). of_result (result_of v) numbers floats) hr

@@ -5,17 +5,16 @@ use Rattle.words.specs.Words.{double}
 use Rattle.words.specs.Loop.{pick}
 use Rattle.state.specs.Settings.{defaults_of, or_else}
 use Rattle.state.specs.declared.settings.Settings.{Settings}
-use Rattle.state.specs.declared.settings.Number.{Number}
-use Rattle.state.specs.declared.settings.Number.TheVariants as number
-use Rattle.radau_core.specs.Choices.{number_of, number_tag}
+use Rattle.radau_core.specs.Choices.{option_at, option_tag}
 use Rattle.export.specs.Talk.{settings_given}
 use Rattle.export.specs.Defaults.{numbers_of, floats_of}
 use Rattle.radau_core.proofs.PackLaws.{flag-held, whole_back, mass-back, source-back, rule-back}
+use Rattle.std.specs.Prelude.{None, Some, Option, Float}
 
-given_back : (n : Number) → number_of (number_tag n) (or_else n (double 0)) ≡ n
-unfolding pick number_of or_else
-given_back number.Absent = refl
-given_back (number.Given x) = refl
+given_back : (n : Option Float) → option_at (option_tag n) (or_else n (double 0)) ≡ n
+unfolding pick option_at
+given_back None = refl
+given_back (Some x) = refl
 
 pub settings-read-proof : (s : Settings) → settings_given (numbers_of s) (floats_of s) ≡ s
 settings-read-proof s =

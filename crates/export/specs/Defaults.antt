@@ -4,7 +4,7 @@ use Rattle.std.specs.Prelude.{ℕ, List, [], ◌∷◌, Float}
 use Rattle.words.specs.Constants.{«0·0»}
 use Rattle.state.specs.Settings.{or_else, or_none}
 use Rattle.state.specs.declared.settings.Settings.{Settings}
-use Rattle.radau_core.specs.Choices.{flag_word, number_tag, whole_tag, mass_word, source_word, rule_word}
+use Rattle.radau_core.specs.Choices.{flag_word, option_tag, mass_word, source_word, rule_word}
 
 abbrev pub numbers_of : Settings → List ℕ
 numbers_of s =
@@ -15,15 +15,15 @@ numbers_of s =
     ∷ mass_word s.mass
     ∷ source_word s.source
     ∷ rule_word s.rule
-    ∷ number_tag s.max_step
-    ∷ number_tag s.min_step
-    ∷ number_tag s.newton_tol
-    ∷ number_tag s.first_step
-    ∷ whole_tag s.nind1
+    ∷ option_tag s.max_step
+    ∷ option_tag s.min_step
+    ∷ option_tag s.newton_tol
+    ∷ option_tag s.first_step
+    ∷ option_tag s.nind1
     ∷ or_none s.nind1
-    ∷ whole_tag s.nind2
+    ∷ option_tag s.nind2
     ∷ or_none s.nind2
-    ∷ whole_tag s.nind3
+    ∷ option_tag s.nind3
     ∷ or_none s.nind3
     ∷ []
 

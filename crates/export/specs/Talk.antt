@@ -1,6 +1,6 @@
 -- What the exported calls of a run answer and leave: document 01's number, or 0, with the state, the request and its
 -- points, and the lent memory. A refusal leaves all of them as they were.
-use Rattle.std.specs.Prelude.{ℕ, Bool, List, [], ◌∷◌, eqb, Float}
+use Rattle.std.specs.Prelude.{ℕ, Bool, List, [], ◌∷◌, eqb, Float, None, Some, Option, Ok, Err}
 use Rattle.words.specs.Words.{◌!◌}
 use Rattle.words.specs.Constants.{«0·0»}
 use Rattle.words.specs.Loop.{pick}
@@ -13,13 +13,7 @@ use Rattle.state.specs.declared.talk.Place.{Place}
 use Rattle.state.specs.declared.talk.Place.TheVariants as place
 use Rattle.state.specs.declared.talk.Reply.{Reply}
 use Rattle.state.specs.declared.talk.Reply.TheVariants as reply
-use Rattle.state.specs.declared.talk.Opened.{Opened}
-use Rattle.state.specs.declared.talk.Opened.TheVariants as opened
-use Rattle.state.specs.declared.talk.Answer.{Answer}
-use Rattle.state.specs.declared.talk.Answer.TheVariants as answer
 use Rattle.state.specs.declared.talk.IntegrationResult.{IntegrationResult}
-use Rattle.state.specs.declared.talk.Result.{Result}
-use Rattle.state.specs.declared.talk.Result.TheVariants as result
 use Rattle.state.specs.Numbers.{refusal_number, status_number, blame_kind, blame_column}
 use Rattle.state.specs.Memory.{Memory}
 use Rattle.state.specs.Result.{result_of}
@@ -27,8 +21,9 @@ use Rattle.opening.specs.Rows.{Opening}
 use Rattle.opening.specs.Opening.{open_of}
 use Rattle.opening.specs.Admission.{asking_at}
 use Rattle.solve_blocks.specs.Advance.{advance_of}
-use Rattle.radau_core.specs.Choices.{flag_of, flag_word, number_of, whole_of, mass_of, source_of, rule_of}
+use Rattle.radau_core.specs.Choices.{flag_of, flag_word, option_at, mass_of, source_of, rule_of}
 use Rattle.radau_core.specs.Places.{◌#◌, run_at, words_of, doubles_of}
+use Rattle.state.specs.Talk.{Opened, Answer, call, refused}
 
 -- ---- the settings, as 17 numbers and 8 floats
 
@@ -40,17 +35,17 @@ settings_given w x =
       safety_factor = x ! 1;
       scale_min = x ! 2;
       scale_max = x ! 3;
-      max_step = number_of (w # 7) (x ! 4);
-      min_step = number_of (w # 8) (x ! 5);
+      max_step = option_at (w # 7) (x ! 4);
+      min_step = option_at (w # 8) (x ! 5);
       newton_maxiter = w # 1;
-      newton_tol = number_of (w # 9) (x ! 6);
+      newton_tol = option_at (w # 9) (x ! 6);
       predictive = flag_of (w # 2);
-      nind1 = whole_of (w # 11) (w # 12);
-      nind2 = whole_of (w # 13) (w # 14);
-      nind3 = whole_of (w # 15) (w # 16);
+      nind1 = option_at (w # 11) (w # 12);
+      nind2 = option_at (w # 13) (w # 14);
+      nind3 = option_at (w # 15) (w # 16);
       mass = mass_of (w # 4);
       source = source_of (w # 5);
-      first_step = number_of (w # 10) (x ! 7);
+      first_step = option_at (w # 10) (x ! 7);
       dense_output = flag_of (w # 3);
       rule = rule_of (w # 6);
     }
@@ -121,12 +116,12 @@ abbrev pub asked_of : Run → Request → Place → Crossed
 asked_of r q p = crossed 0 (words_of r) (doubles_of r) (told_of q p) (at_of q)
 
 unfoldable pub of_opened : Opened → List ℕ → List Float → List ℕ → List Float → Crossed
-of_opened (opened.Asked r q p) words doubles told at = asked_of r q p
-of_opened (opened.Refused x) words doubles told at = crossed (refusal_number x) words doubles told at
+of_opened (Ok c) words doubles told at = asked_of c.run c.request c.place
+of_opened (Err x) words doubles told at = crossed (refusal_number x) words doubles told at
 
 unfoldable pub of_answer : Answer → List ℕ → List Float → List ℕ → List Float → Crossed
-of_answer (answer.Asked r q p) words doubles told at = asked_of r q p
-of_answer (answer.Refused r x) words doubles told at = crossed (refusal_number x) words doubles told at
+of_answer (Ok c) words doubles told at = asked_of c.run c.request c.place
+of_answer (Err e) words doubles told at = crossed (refusal_number e.refusal) words doubles told at
 
 -- all that, with the lent memory
 pub record Left : Type 0 where
@@ -176,9 +171,9 @@ abbrev pub end_floats : IntegrationResult → List Float
 end_floats e = e.h ∷ e.x ∷ e.smallest ∷ e.largest ∷ []
 
 -- 29, which document 01 does not use, where the run has not ended
-unfoldable pub of_result : Result → List ℕ → List Float → Ended
-of_result (result.Ended e) numbers floats = ended 0 (end_numbers e) (end_floats e)
-of_result result.NotEnded numbers floats = ended 29 numbers floats
+unfoldable pub of_result : Option IntegrationResult → List ℕ → List Float → Ended
+of_result (Some e) numbers floats = ended 0 (end_numbers e) (end_floats e)
+of_result None numbers floats = ended 29 numbers floats
 
 abbrev pub result_left : List ℕ → List Float → List ℕ → List Float → Ended
 result_left words doubles numbers floats = of_result (result_of (run_at words doubles)) numbers floats

@@ -1,22 +1,11 @@
 // The default settings, in the two arrays that an opening takes.
 ghost use Rattle.std.specs.Prelude.{◌≡◌};
-ghost use Rattle.words.specs.Words.{double};
-ghost use Rattle.state.specs.Settings.{defaults_of, or_else};
+ghost use Rattle.state.specs.Settings.{defaults_of};
 ghost use Rattle.export.specs.Defaults.{numbers_of, floats_of};
 
-use crate::choices::{
-    flag_word, mass_word, number_tag, rule_word, source_word, whole_tag, whole_word,
-};
-use state::settings::{Number, Settings};
-
-fn or_zero(setting: Number) -> f64
-    ensures { result ≡ or_else setting (double 0) }
-{
-    match setting {
-        Number::Absent => 0.0,
-        Number::Given(x) => x,
-    }
-}
+use crate::choices::{flag_word, mass_word, rule_word, source_word};
+use radau_core::optional::option_tag;
+use state::settings::Settings;
 
 fn numbers_of(s: Settings) -> [u64; 17]
     ensures { result ≡ numbers_of s }
@@ -39,16 +28,16 @@ fn numbers_of(s: Settings) -> [u64; 17]
         mass_word(mass),
         source_word(source),
         rule_word(rule),
-        number_tag(max_step),
-        number_tag(min_step),
-        number_tag(newton_tol),
-        number_tag(first_step),
-        whole_tag(nind1),
-        whole_word(nind1),
-        whole_tag(nind2),
-        whole_word(nind2),
-        whole_tag(nind3),
-        whole_word(nind3),
+        option_tag(max_step) as u64,
+        option_tag(min_step) as u64,
+        option_tag(newton_tol) as u64,
+        option_tag(first_step) as u64,
+        option_tag(nind1) as u64,
+        nind1.unwrap_or(0) as u64,
+        option_tag(nind2) as u64,
+        nind2.unwrap_or(0) as u64,
+        option_tag(nind3) as u64,
+        nind3.unwrap_or(0) as u64,
     ]
 }
 
@@ -64,10 +53,10 @@ fn floats_of(s: Settings) -> [f64; 8]
         s.safety_factor,
         s.scale_min,
         s.scale_max,
-        or_zero(max_step),
-        or_zero(min_step),
-        or_zero(newton_tol),
-        or_zero(first_step),
+        max_step.unwrap_or(0.0),
+        min_step.unwrap_or(0.0),
+        newton_tol.unwrap_or(0.0),
+        first_step.unwrap_or(0.0),
     ]
 }
 

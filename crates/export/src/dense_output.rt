@@ -5,14 +5,14 @@ ghost use Rattle.dense.specs.Bounds.{bounds_of};
 ghost use Rattle.dense.specs.Interpolate.{interpolate_of};
 ghost use Rattle.export.specs.Ends.{ends_of};
 
-use dense::Interpolated;
+use dense::InterpolationError;
 
-fn interpolated(answer: Interpolated) -> u64
+fn interpolated(answer: Result<(), InterpolationError>) -> u64
     ensures { result ≡ interpolated_number answer }
 {
     match answer {
-        Interpolated::Done => 0,
-        Interpolated::RefusedTarget => 19,
+        Ok(()) => 0,
+        Err(InterpolationError::ShortTarget) => 19,
     }
 }
 

@@ -9,32 +9,32 @@ ghost use Rattle.matrix.specs.Lu.{lu_decomp_of};
 ghost use Rattle.matrix.specs.LuComplex.{lu_decomp_complex_of};
 ghost use Rattle.export.specs.Matrices.{column_left};
 
-use matrix::{Decomposed, Solved};
+use matrix::{DecompositionError, SolveError};
 
 // With 17, and then alone, the column is written.
-fn decomposed(answer: Decomposed, column: &mut usize) -> u64
+fn decomposed(answer: Result<(), DecompositionError>, column: &mut usize) -> u64
     ensures { (result ≡ decomposed_number answer)
         × (column.new ≡ column_left answer column.old) }
 {
     match answer {
-        Decomposed::Done => 0,
-        Decomposed::RefusedOrder => 1,
-        Decomposed::RefusedLength => 16,
-        Decomposed::Singular(k) => {
+        Ok(()) => 0,
+        Err(DecompositionError::Order) => 1,
+        Err(DecompositionError::Length) => 16,
+        Err(DecompositionError::Singular(k)) => {
             *column = k;
             17
         }
     }
 }
 
-fn solved(answer: Solved) -> u64
+fn solved(answer: Result<(), SolveError>) -> u64
     ensures { result ≡ solved_number answer }
 {
     match answer {
-        Solved::Done => 0,
-        Solved::RefusedOrder => 1,
-        Solved::RefusedLength => 16,
-        Solved::RefusedPivot => 18,
+        Ok(()) => 0,
+        Err(SolveError::Order) => 1,
+        Err(SolveError::Length) => 16,
+        Err(SolveError::Pivot) => 18,
     }
 }
 

@@ -2,6 +2,7 @@
 // `radau_core`, the request as three numbers and two points.
 ghost use Rattle.std.specs.Prelude.{◌≡◌};
 ghost use Rattle.state.specs.Memory.{memory, amounts, newton, given, factors, differences};
+ghost use Rattle.state.specs.Lent.{memory_of, SameWork};
 ghost use Rattle.opening.specs.Rows.{opening};
 ghost use Rattle.radau_core.specs.Choices.{tolerances_of};
 ghost use Rattle.export.specs.Talk.{settings_given, crossed, left, open_left, advance_left, ended, result_left};
@@ -14,8 +15,8 @@ use opening::open;
 use radau_core::advance::advanced;
 use radau_core::pack::{doubles_of, run_at, words_of};
 use radau_core::places::{DOUBLES, WORDS};
+use state::lent::Work;
 use state::refusal_number;
-use state::talk::Verdict;
 
 // Opens a run: 0, or document 01's number, and then nothing is written. Where `lists` is not 0 the tolerances are the
 // lists in `rtol` and `atol`.
@@ -106,6 +107,39 @@ pub extern "C" fn elchepur_open(
     tell_opened(opened, words, doubles, told, at)
 }
 
+// As `elchepur_advance`, the working parts as one.
+fn advance_lent(
+    words: &mut [usize; WORDS],
+    doubles: &mut [f64; DOUBLES],
+    reply: u64,
+    value: f64,
+    told: &mut [u64; 3],
+    at: &mut [f64; 2],
+    y: &mut [f64],
+    f0: &[f64],
+    rtol: &[f64],
+    atol: &[f64],
+    mass: &[f64],
+    work: &mut Work<'_>,
+) -> u64
+    ensures same { SameWork work.new work.old }
+    ensures outcome { left (crossed result words.new doubles.new told.new at.new)
+        (memory_of y.new f0.now rtol.now atol.now mass.now work.new)
+        ≡ advance_left reply value words.old doubles.old told.old at.old
+        (memory_of y.old f0.now rtol.now atol.now mass.now work.old) }
+{
+    let run = run_at(words, doubles);
+    let stage = run.stage;
+    let reply = reply_of(stage, reply, value);
+    if let Err(refusal) = admission(run, reply, y, f0, rtol, atol, mass, work) {
+        return refusal_number(refusal);
+    }
+    *words = words_of(run);
+    *doubles = doubles_of(run);
+    let call = advanced(words, doubles, reply, y, f0, rtol, atol, mass, work);
+    tell_call(call, words, doubles, told, at)
+}
+
 // Advances a run by a reply: 1 filled, 2 continue, 3 interrupt, 4 modified with the new x, 5 a mark. 0, or 13, 14 or
 // 15, and then nothing is written.
 #[unsafe(no_mangle)]
@@ -157,14 +191,7 @@ pub extern "C" fn elchepur_advance(
         (factors e1.old e2r.old e2i.old ip1.old ip2.old)
         (differences y_perturbed.old f_perturbed.old f_origin.old)) }
 {
-    let run = run_at(words, doubles);
-    let stage = run.stage;
-    let reply = reply_of(stage, reply, value);
-    match admission(
-        run,
-        reply,
-        y,
-        f0,
+    let mut work = Work {
         scal,
         cont,
         z1,
@@ -173,9 +200,6 @@ pub extern "C" fn elchepur_advance(
         f1,
         f2,
         f3,
-        rtol,
-        atol,
-        mass,
         jac,
         e1,
         e2r,
@@ -185,42 +209,10 @@ pub extern "C" fn elchepur_advance(
         y_perturbed,
         f_perturbed,
         f_origin,
-    ) {
-        Verdict::Refused(refusal) => {
-            return refusal_number(refusal);
-        }
-        Verdict::Passed => {}
-    }
-    *words = words_of(run);
-    *doubles = doubles_of(run);
-    let call = advanced(
-        words,
-        doubles,
-        reply,
-        y,
-        f0,
-        scal,
-        cont,
-        z1,
-        z2,
-        z3,
-        f1,
-        f2,
-        f3,
-        rtol,
-        atol,
-        mass,
-        jac,
-        e1,
-        e2r,
-        e2i,
-        ip1,
-        ip2,
-        y_perturbed,
-        f_perturbed,
-        f_origin,
-    );
-    tell_call(call, words, doubles, told, at)
+    };
+    advance_lent(
+        words, doubles, reply, value, told, at, y, f0, rtol, atol, mass, &mut work,
+    )
 }
 
 // Tells the result of a run that has ended: 0, with the status, the counts and what status 5 blames, h, x and the two

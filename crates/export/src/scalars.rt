@@ -9,8 +9,6 @@ ghost use Rattle.scalar.specs.SquareRootComputed.{sqrt_of};
 ghost use Rattle.scalar.specs.SquareRoot.{IsSquareRoot};
 ghost use Rattle.export.specs.Entries.{entry_number, entry_value};
 
-use scalar::Entry;
-
 #[unsafe(no_mangle)]
 pub extern "C" fn elchepur_sqrt(x: f64) -> f64
     ensures { (result ≡ sqrt_of x) × IsSquareRoot x result }
@@ -102,10 +100,10 @@ pub extern "C" fn elchepur_coefficient(k: usize, value: &mut f64) -> u64
         × (value.new ≡ entry_value (entry_of k) value.old) }
 {
     match scalar::coefficient(k) {
-        Entry::Value(entry) => {
+        Some(entry) => {
             *value = entry;
             0
         }
-        Entry::Outside => 30,
+        None => 30,
     }
 }

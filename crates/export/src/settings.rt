@@ -2,7 +2,8 @@
 ghost use Rattle.std.specs.Prelude.{◌≡◌};
 ghost use Rattle.export.specs.Talk.{settings_given};
 
-use crate::choices::{mass, number, rule, source, whole};
+use crate::choices::{mass, rule, source};
+use radau_core::optional::option_at;
 use state::settings::Settings;
 
 pub fn given_settings(w: &[u64; 17], x: &[f64; 8]) -> Settings
@@ -14,17 +15,17 @@ pub fn given_settings(w: &[u64; 17], x: &[f64; 8]) -> Settings
         safety_factor: x[1],
         scale_min: x[2],
         scale_max: x[3],
-        max_step: number(w[7], x[4]),
-        min_step: number(w[8], x[5]),
+        max_step: option_at(w[7] as usize, x[4]),
+        min_step: option_at(w[8] as usize, x[5]),
         newton_maxiter: w[1] as usize,
-        newton_tol: number(w[9], x[6]),
+        newton_tol: option_at(w[9] as usize, x[6]),
         predictive: w[2] != 0,
-        nind1: whole(w[11], w[12]),
-        nind2: whole(w[13], w[14]),
-        nind3: whole(w[15], w[16]),
+        nind1: option_at(w[11] as usize, w[12] as usize),
+        nind2: option_at(w[13] as usize, w[14] as usize),
+        nind3: option_at(w[15] as usize, w[16] as usize),
         mass: mass(w[4]),
         source: source(w[5]),
-        first_step: number(w[10], x[7]),
+        first_step: option_at(w[10] as usize, x[7]),
         dense_output: w[3] != 0,
         rule: rule(w[6]),
     }

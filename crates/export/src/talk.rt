@@ -11,7 +11,7 @@ use radau_core::pack::{doubles_of, run_at, words_of};
 use radau_core::places::{DOUBLES, WORDS};
 use radau_core::step::Call;
 use state::run::Stage;
-use state::talk::{IntegrationResult, Opened, Place, Reply, Request, Result};
+use state::talk::{self, IntegrationResult, Place, Refusal, Reply, Request};
 use state::{blame_column, blame_kind, refusal_number, status_number};
 
 fn kind_number(request: Request) -> u64
@@ -109,7 +109,7 @@ pub fn reply_of(stage: Stage, reply: u64, value: f64) -> Reply
 
 // Writes what an opening answers.
 pub fn tell_opened(
-    opened: Opened,
+    opened: Result<talk::Call, Refusal>,
     words: &mut [usize; WORDS],
     doubles: &mut [f64; DOUBLES],
     told: &mut [u64; 3],
@@ -119,12 +119,12 @@ pub fn tell_opened(
         ≡ of_opened opened words.old doubles.old told.old at.old }
 {
     match opened {
-        Opened::Refused(refusal) => refusal_number(refusal),
-        Opened::Asked(run, request, place) => {
-            *words = words_of(run);
-            *doubles = doubles_of(run);
-            tell(request, place, told);
-            tell_points(request, at);
+        Err(refusal) => refusal_number(refusal),
+        Ok(call) => {
+            *words = words_of(call.run);
+            *doubles = doubles_of(call.run);
+            tell(call.request, call.place, told);
+            tell_points(call.request, at);
             0
         }
     }
@@ -171,13 +171,17 @@ fn end_numbers(res: IntegrationResult) -> [u64; 9]
 }
 
 // Writes the result of a run that has ended.
-pub fn tell_result(res: Result, numbers: &mut [u64; 9], floats: &mut [f64; 4]) -> u64
+pub fn tell_result(
+    res: Option<IntegrationResult>,
+    numbers: &mut [u64; 9],
+    floats: &mut [f64; 4],
+) -> u64
     ensures { ended result numbers.new floats.new
         ≡ of_result res numbers.old floats.old }
 {
     match res {
-        Result::NotEnded => 29,
-        Result::Ended(end) => {
+        None => 29,
+        Some(end) => {
             let words = end_numbers(end);
             *numbers = words;
             *floats = [end.h, end.x, end.smallest, end.largest];

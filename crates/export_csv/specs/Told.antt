@@ -1,14 +1,12 @@
 -- What programs in C are told of a line: document 02's number, the buffer, and the line's length. A refusal leaves the
 -- last as it was too.
-use Rattle.std.specs.Prelude.{ℕ, List}
-use Rattle.csv_table.specs.declared.answers.Exported.{Exported}
-use Rattle.csv_table.specs.declared.answers.Exported.TheVariants.{Written, RefusedOrder, RefusedRoom}
+use Rattle.std.specs.Prelude.{ℕ, List, Result, Ok, Err}
+use Rattle.csv_table.specs.declared.answers.ExportError.{ExportError}
 use Rattle.csv_table.specs.Table.{Export, exported_number}
 
-abbrev pub exported_length : Exported → ℕ → ℕ
-exported_length (Written n) before = n
-exported_length RefusedOrder before = before
-exported_length RefusedRoom before = before
+abbrev pub exported_length : Result ℕ ExportError → ℕ → ℕ
+exported_length (Ok n) before = n
+exported_length (Err x) before = before
 
 pub record Told : Type 0 where
   pub answer : ℕ

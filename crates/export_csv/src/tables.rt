@@ -4,28 +4,19 @@ ghost use Rattle.csv_table.specs.Table.{header_of, record_of};
 ghost use Rattle.export_csv.specs.Told.{told, told_of, exported_length};
 ghost use Rattle.csv_table.specs.Table.{exported_number};
 
-use csv_table::answers::Exported;
+use csv_table::answers::ExportError;
 use csv_table::table::{put_header, put_record};
 
-// The number of an answer.
-fn number(answer: Exported) -> u64
-    ensures { result ≡ exported_number answer }
+// Answers document 02's number. A refusal leaves the length as it was.
+fn tell(answer: Result<usize, ExportError>, written: &mut usize) -> u64
+    ensures number { result ≡ exported_number answer }
+    ensures length { written.new ≡ exported_length answer written.old }
 {
+    *written = answer.unwrap_or(*written);
     match answer {
-        Exported::Written(_) => 0,
-        Exported::RefusedOrder => 1,
-        Exported::RefusedRoom => 24,
-    }
-}
-
-// The length of a line that was written; of a refusal what was there before.
-fn length(answer: Exported, before: usize) -> usize
-    ensures { result ≡ exported_length answer before }
-{
-    match answer {
-        Exported::Written(count) => count,
-        Exported::RefusedOrder => before,
-        Exported::RefusedRoom => before,
+        Ok(_) => 0,
+        Err(ExportError::Order) => 1,
+        Err(ExportError::Room) => 24,
     }
 }
 
@@ -35,9 +26,7 @@ pub extern "C" fn elchepur_csv_header(n: usize, out: &mut [u8], written: &mut us
     ensures { told result out.new written.new
         ≡ told_of (header_of n out.old) written.old }
 {
-    let answer = put_header(n, out);
-    *written = length(answer, *written);
-    number(answer)
+    tell(put_header(n, out), written)
 }
 
 // Writes the record of a point over the first bytes of `out`, and how many they are to `written`.
@@ -51,7 +40,5 @@ pub extern "C" fn elchepur_csv_record(
     ensures { told result out.new written.new
         ≡ told_of (record_of x amounts.now out.old) written.old }
 {
-    let answer = put_record(x, amounts, out);
-    *written = length(answer, *written);
-    number(answer)
+    tell(put_record(x, amounts, out), written)
 }

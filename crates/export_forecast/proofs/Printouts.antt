@@ -5,8 +5,7 @@ use mathlib.Core.Path.{◌≡◌, sym, ap, ◌∙◌}
 use mathlib.Core.List.{List}
 use lib.ListN.{length}
 use Rattle.sheet.specs.Reader.{Read, over}
-use Rattle.forecast_text.specs.declared.ending.Forecast.{Forecast}
-use Rattle.forecast_text.specs.Printed.{printed_of}
+use Rattle.forecast_text.specs.Printed.{Forecast, printed_of}
 use Rattle.forecast.proofs.Theorems.{one-forecast}
 use Rattle.export_forecast.specs.Printout.{Prints}
 

@@ -1,14 +1,13 @@
 -- What the exported reader and writer of sheets answer and leave, on plain numbers: six settings (x0, xend, rtol and
 -- atol by their bits, max_steps, the rule's number), and two counts (species, reactions).
-use Rattle.std.specs.Prelude.{ℕ, List, [], ◌∷◌, ltb, get_or}
+use Rattle.std.specs.Prelude.{ℕ, Ok, Err, List, [], ◌∷◌, ltb, get_or}
 use Rattle.words.specs.Loop.{pick}
 use Rattle.sheet.specs.declared.sheet.Heading.{Heading}
 use Rattle.sheet.specs.Sheet.{rule_number}
 use Rattle.sheet.specs.Reader.{Read, accepted, malformed, too_long, heading_of, over, rule_from}
 use Rattle.sheet.specs.Reader.{amounts_left, rates_left, species_left}
-use Rattle.sheet_write.specs.declared.writing.Writing.{Writing}
-use Rattle.sheet_write.specs.declared.writing.Writing.TheVariants.{Written, NoModel, TooShort}
-use Rattle.sheet_write.specs.Writer.{number_of, answer_of, bytes_left}
+use Rattle.sheet_write.specs.declared.writing.WritingError.TheVariants.{NoModel}
+use Rattle.sheet_write.specs.Writer.{Writing, number_of, answer_of, bytes_left}
 
 abbrev pub setting_words : Heading → List ℕ
 setting_words h = h.x0 ∷ h.xend ∷ h.rtol ∷ h.atol ∷ h.max_steps ∷ rule_number h.rule ∷ []
@@ -73,14 +72,13 @@ heading_given settings counts =
 
 -- the length is told of a sheet that was written
 unfoldable pub length_left : Writing → ℕ → ℕ
-length_left (Written n) long = n
-length_left NoModel long = long
-length_left TooShort long = long
+length_left (Ok n) long = n
+length_left (Err refused) long = long
 
 -- a rule above 1 is unknown: 23, as all else that is no model
 unfoldable pub written_left : List ℕ → List ℕ → List ℕ → List ℕ → List ℕ → List ℕ → ℕ → SheetWritten
 written_left settings counts amounts rates species sheet long =
     let h = heading_given settings counts in
     let answer = answer_of h amounts rates species sheet in
-    pick (ltb 1 (get_or settings 5 0)) (sheet_written (number_of NoModel) sheet long)
+    pick (ltb 1 (get_or settings 5 0)) (sheet_written (number_of (Err NoModel)) sheet long)
     (sheet_written (number_of answer) (bytes_left h amounts rates species sheet) (length_left answer long))

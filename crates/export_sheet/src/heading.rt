@@ -5,6 +5,7 @@ ghost use Rattle.export_sheet.specs.Border.{heading_given, setting_words, count_
 
 use sheet::sheet::{Heading, rule_from, rule_number};
 
+#[tactic(auto, unfolding(crate::specs::Border::heading_given))]
 pub fn heading_from(settings: &[u64; 6], counts: &[usize; 2]) -> Heading
     ensures { result ≡ heading_given settings.now counts.now }
 {
@@ -23,18 +24,18 @@ pub fn heading_from(settings: &[u64; 6], counts: &[usize; 2]) -> Heading
 pub fn put_settings(heading: Heading, settings: &mut [u64; 6])
     ensures { settings.new ≡ over (setting_words heading) settings.old }
 {
-    let rule = heading.rule;
-    settings[0] = heading.x0;
-    settings[1] = heading.xend;
-    settings[2] = heading.rtol;
-    settings[3] = heading.atol;
-    settings[4] = heading.max_steps;
-    settings[5] = rule_number(rule);
+    *settings = [
+        heading.x0,
+        heading.xend,
+        heading.rtol,
+        heading.atol,
+        heading.max_steps,
+        rule_number(heading.rule),
+    ];
 }
 
 pub fn put_counts(heading: Heading, counts: &mut [usize; 2])
     ensures { counts.new ≡ over (count_words heading) counts.old }
 {
-    counts[0] = heading.species;
-    counts[1] = heading.reactions;
+    *counts = [heading.species, heading.reactions];
 }

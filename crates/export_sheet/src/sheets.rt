@@ -5,9 +5,9 @@ ghost use Rattle.export_sheet.specs.Border.{sheet_read, read_left, sheet_written
 
 use crate::heading::{heading_from, put_counts, put_settings};
 use sheet::read;
-use sheet::sheet::Reading;
+use sheet::sheet::SheetError;
 use sheet_write::write;
-use sheet_write::writing::{Writing, writing_number};
+use sheet_write::writing::{WritingError, writing_number};
 
 // The greatest number of a rule.
 const LAST_RULE: u64 = 1;
@@ -29,18 +29,17 @@ pub extern "C" fn elchepur_read_sheet(
         ≡ read_left (read_of sheet.now) settings.old counts.old amounts.old
         rates.old species.old line.old }
 {
-    let reading = read(sheet, amounts, rates, species);
-    match reading {
-        Reading::Read(heading) => {
+    match read(sheet, amounts, rates, species) {
+        Ok(heading) => {
             put_settings(heading, settings);
             put_counts(heading, counts);
             0
         }
-        Reading::Malformed(first) => {
+        Err(SheetError::Malformed(first)) => {
             *line = first;
             20
         }
-        Reading::TooLong => 21,
+        Err(SheetError::TooLong) => 21,
     }
 }
 
@@ -62,7 +61,7 @@ pub extern "C" fn elchepur_write_sheet(
 {
     let rule = settings[5];
     if LAST_RULE < rule {
-        return writing_number(Writing::NoModel);
+        return writing_number(Err(WritingError::NoModel));
     }
     let answer = write(
         heading_from(settings, counts),
@@ -72,11 +71,10 @@ pub extern "C" fn elchepur_write_sheet(
         sheet,
     );
     match answer {
-        Writing::Written(count) => {
+        Ok(count) => {
             *length = count;
             writing_number(answer)
         }
-        Writing::NoModel => writing_number(answer),
-        Writing::TooShort => writing_number(answer),
+        Err(_) => writing_number(answer),
     }
 }

@@ -1,3 +1,2 @@
--- A law of what crosses the border, and that the contracts settle their calls.
-pub mod BorderLaws
+-- That the contracts settle their calls.
 pub mod Determinism

@@ -1,8 +1,7 @@
 -- A shelf's state as two numbers: how many steps are kept, and the place of the next.
-use Rattle.std.specs.Prelude.{ℕ, List, [], ◌∷◌, get_or}
+use Rattle.std.specs.Prelude.{ℕ, List, [], ◌∷◌, get_or, Ok, Err}
 use Rattle.shelf.specs.declared.answers.Shelf.{Shelf}
-use Rattle.shelf.specs.declared.answers.Placing.{Placing}
-use Rattle.shelf.specs.declared.answers.Placing.TheVariants as placing
+use Rattle.shelf.specs.Answers.{Placing}
 use Rattle.shelf.specs.Shelf.{shelf}
 
 abbrev pub shelf_from : List ℕ → Shelf
@@ -13,6 +12,5 @@ shelf_words s = s.steps ∷ s.place ∷ []
 
 -- a refusal leaves them as they were
 unfoldable pub words_after : Placing → List ℕ → List ℕ
-words_after (placing.Kept s) words = shelf_words s
-words_after placing.RefusedLength words = words
-words_after placing.RefusedShelf words = words
+words_after (Ok s) words = shelf_words s
+words_after (Err e) words = words

@@ -1,12 +1,12 @@
 // A shelf is emptied, a step is put on it, and it is asked at a point.
 ghost use Rattle.std.specs.Prelude.{◌≡◌};
-ghost use Rattle.shelf.specs.Answers.{placing_number, asking_number};
+ghost use Rattle.shelf.specs.Answers.{error_number, placing_number, asking_number};
 ghost use Rattle.shelf.specs.Ask.{ask_of};
 ghost use Rattle.shelf.specs.Put.{put_of};
 ghost use Rattle.shelf.specs.Shelf.{empty_shelf};
 ghost use Rattle.export_shelf.specs.Border.{shelf_from, shelf_words, words_after};
 
-use shelf::answers::{Asking, Placing, Shelf};
+use shelf::answers::{Shelf, ShelfError};
 
 fn shelf_from(words: &[usize; 2]) -> Shelf
     ensures { result ≡ shelf_from words.now }
@@ -17,14 +17,13 @@ fn shelf_from(words: &[usize; 2]) -> Shelf
     }
 }
 
-fn asking_number(answer: Asking) -> u64
-    ensures { result ≡ asking_number answer }
+fn error_number(error: ShelfError) -> u64
+    ensures { result ≡ error_number error }
 {
-    match answer {
-        Asking::Answered => 0,
-        Asking::RefusedLength => 2,
-        Asking::RefusedShelf => 13,
-        Asking::RefusedPoint => 25,
+    match error {
+        ShelfError::Length => 2,
+        ShelfError::State => 13,
+        ShelfError::Point => 25,
     }
 }
 
@@ -39,6 +38,7 @@ pub extern "C" fn elchepur_empty_shelf(shelf: &mut [usize; 2])
 
 // Keeps the step from xold by h with its coefficients, four for each amount. Answers 0, or refuses with 2, then 13, and
 // writes nothing then.
+#[tactic(auto, unfolding(crate::specs::Border::words_after))]
 #[unsafe(no_mangle)]
 pub extern "C" fn elchepur_put_on_shelf(
     shelf: &mut [usize; 2],
@@ -57,14 +57,12 @@ pub extern "C" fn elchepur_put_on_shelf(
         × (ends.new ≡ (put_of (shelf_from shelf.old) cont.now xold h
         coefficients.old ends.old).ends) }
 {
-    let answer = shelf::put(shelf_from(shelf), cont, xold, h, coefficients, ends);
-    match answer {
-        Placing::Kept(after) => {
+    match shelf::put(shelf_from(shelf), cont, xold, h, coefficients, ends) {
+        Ok(after) => {
             *shelf = [after.steps, after.place];
             0
         }
-        Placing::RefusedLength => 2,
-        Placing::RefusedShelf => 13,
+        Err(error) => error_number(error),
     }
 }
 
@@ -83,5 +81,8 @@ pub extern "C" fn elchepur_ask_shelf(
         × (target.new ≡ (ask_of (shelf_from shelf.now) x target.old
         coefficients.now ends.now).target) }
 {
-    asking_number(shelf::ask(shelf_from(shelf), x, target, coefficients, ends))
+    match shelf::ask(shelf_from(shelf), x, target, coefficients, ends) {
+        Ok(()) => 0,
+        Err(error) => error_number(error),
+    }
 }

@@ -1,4 +1,5 @@
 -- What a user in C cites: each theorem in words, its statement, and where it is proved.
+use Rattle.std.proofs.Common.{Result}
 use Prim.Native.Nat.{ℕ}
 use mathlib.Core.Path.{◌≡◌}
 use mathlib.Core.Logic.{◌↔◌}
@@ -6,14 +7,14 @@ use mathlib.Core.List.{List}
 use Rattle.night_totals.specs.Night.{start_of, fed_of, told_of}
 use Rattle.night_totals.specs.Reads.{Reads}
 use Rattle.night_totals.specs.declared.night.Night.{Night}
-use Rattle.night_totals.specs.declared.night.Outcome.{Outcome}
+use Rattle.night_totals.specs.declared.totals.Totals.{Totals}
+use Rattle.night_totals.specs.declared.night.NightError.{NightError}
 use Rattle.export_totals.specs.Record.{words_of, night_from}
 use Rattle.export_totals.specs.Border.{taken_of, whole_of}
-use Rattle.export_totals.proofs.RecordLaws.{Whole, unpacked, taken, told-of-pieces-proof}
+use Rattle.export_totals.proofs.RecordLaws.{unpacked, taken, told-of-pieces-proof}
 
--- What one call packs the next unpacks: a record with room for its sixteen numbers, which every record has that calls
--- lead to.
-pub read_back : (n : Night) → Whole n → night_from (words_of n) ≡ n
+-- What one call packs the next unpacks.
+pub read_back : (n : Night) → night_from (words_of n) ≡ n
 read_back = unpacked
 
 -- Pieces that are handed over one after the other come to the record of their bytes in one.
@@ -21,6 +22,6 @@ pub pieces-taken : (pieces : List (List ℕ)) → night_from (taken_of pieces) �
 pieces-taken = taken
 
 -- What is told of them is what the bytes in one come to by their lines, and nothing else.
-pub told-of-pieces : (pieces : List (List ℕ)) (a : Outcome)
+pub told-of-pieces : (pieces : List (List ℕ)) (a : Result Totals NightError)
     → (told_of (night_from (taken_of pieces)) ≡ a) ↔ Reads (whole_of pieces) a
 told-of-pieces = told-of-pieces-proof

@@ -6,7 +6,7 @@ ghost use Rattle.export_totals.specs.Border.{totals_joined, joined_left};
 
 use crate::record::{totals_given, totals_words};
 use night_join::join;
-use night_join::joining::Joining;
+use night_join::joining::JoinError;
 
 // Joins two totals, the second's lines behind the first's: 0 and the totals, 28 or 26.
 #[unsafe(no_mangle)]
@@ -20,11 +20,11 @@ pub extern "C" fn elchepur_totals_join(
         joined.old }
 {
     match join(totals_given(first), totals_given(second)) {
-        Joining::Joined(all) => {
+        Ok(all) => {
             *joined = totals_words(all);
             0
         }
-        Joining::Unfit => 28,
-        Joining::TooMany => 26,
+        Err(JoinError::Unfit) => 28,
+        Err(JoinError::TooMany) => 26,
     }
 }

@@ -7,7 +7,7 @@ ghost use Rattle.export_totals.specs.Record.{words_of, night_from};
 ghost use Rattle.export_totals.specs.Border.{totals_told, told_left};
 
 use crate::record::{night_from, totals_words, words_of};
-use night_totals::night::Outcome;
+use night_totals::night::NightError;
 use night_totals::{fed, print, start, told};
 
 // The record of a night of which nothing has come.
@@ -38,15 +38,15 @@ pub extern "C" fn elchepur_totals_told(
         ≡ told_left (told_of (night_from night.now)) totals.old line.old }
 {
     match told(night_from(night)) {
-        Outcome::Totals(all) => {
+        Ok(all) => {
             *totals = totals_words(all);
             0
         }
-        Outcome::Malformed(wrong) => {
+        Err(NightError::Malformed(wrong)) => {
             *line = wrong;
             20
         }
-        Outcome::TooMany => 26,
+        Err(NightError::TooMany) => 26,
     }
 }
 

@@ -1,92 +1,72 @@
 // The record of a night as 37 words, and its totals as 15. Read, every word means something: of a flag 0 is no, and any
 // other word yes.
 ghost use Rattle.std.specs.Prelude.{◌+◌, ◌≤◌, ◌≡◌, length};
-ghost use Rattle.std.proofs.Math.Seq.{paste};
-ghost use Rattle.export_totals.specs.Record.{flag_word, totals_words, line_words, words_of};
-ghost use Rattle.export_totals.specs.Record.{totals_from, values_from, filling_from, night_from};
+ghost use Rattle.export_totals.specs.Record.{totals_words, line_words, words_of};
+ghost use Rattle.export_totals.specs.Record.{totals_from, number_from, filling_from, stand_from, night_from};
 
+use night_totals::counts::{Counts, Runs};
 use night_totals::filling::Filling;
-use night_totals::night::Night;
+use night_totals::night::{Night, Stand};
 use night_totals::totals::Totals;
 
-fn flag_word(flag: bool) -> u64
-    ensures { result ≡ flag_word flag }
-{
-    if flag { 1 } else { 0 }
-}
+// How many words the totals take, at the front.
+const TOTALS: usize = 15;
 
 pub fn totals_words(totals: Totals) -> [u64; 15]
     ensures { result ≡ totals_words totals }
 {
     [
         totals.lines,
-        totals.status0,
-        totals.status1,
-        totals.status2,
-        totals.status3,
-        totals.status5,
-        totals.status7,
-        totals.accepted,
-        totals.rejected,
-        totals.total,
-        totals.ode,
-        totals.jac,
-        totals.lu,
+        totals.runs.status0,
+        totals.runs.status1,
+        totals.runs.status2,
+        totals.runs.status3,
+        totals.runs.status5,
+        totals.runs.status7,
+        totals.counts.accepted,
+        totals.counts.rejected,
+        totals.counts.total,
+        totals.counts.ode,
+        totals.counts.jac,
+        totals.counts.lu,
         totals.largest,
         totals.place,
     ]
 }
 
-// The line that has begun, and whether it is one too many.
+// How the line stands that has begun, and how far it has come.
 fn line_words(night: Night) -> [u64; 22]
     ensures { result ≡ line_words night }
 {
     let filling = night.filling;
-    let values = filling.values;
-    [
-        flag_word(night.beyond),
+    let (beyond, wrong) = match night.stand {
+        Stand::Open => (0, 0),
+        Stand::Wrong => (0, 1),
+        Stand::Beyond => (1, 0),
+    };
+    let (begun, value) = match filling.number {
+        Some(value) => (1, value),
+        None => (0, 0),
+    };
+    let mut words = [0u64; 22];
+    words[..6].copy_from_slice(&[
+        beyond,
         filling.at as u64,
-        flag_word(filling.begun),
-        filling.value,
+        begun,
+        value,
         filling.filled as u64,
-        flag_word(filling.wrong),
-        values[0],
-        values[1],
-        values[2],
-        values[3],
-        values[4],
-        values[5],
-        values[6],
-        values[7],
-        values[8],
-        values[9],
-        values[10],
-        values[11],
-        values[12],
-        values[13],
-        values[14],
-        values[15],
-    ]
-}
-
-// Writes a group of words at its place.
-fn put(words: &mut [u64], at: usize, part: &[u64])
-    requires { at + length part.now ≤ length words.old }
-    ensures { words.new
-        ≡ paste words.old at part.now (length part.now) }
-{
-    for k in 0..part.len() {
-        words[at + k] = part[k];
-    }
+        wrong,
+    ]);
+    words[6..].copy_from_slice(&filling.values);
+    words
 }
 
 pub fn words_of(night: Night) -> [u64; 37]
     ensures { result ≡ words_of night }
 {
-    let totals = night.totals;
     let mut words = [0u64; 37];
-    put(&mut words, 0, &totals_words(totals));
-    put(&mut words, 15, &line_words(night));
+    words[..TOTALS].copy_from_slice(&totals_words(night.totals));
+    words[TOTALS..].copy_from_slice(&line_words(night));
     words
 }
 
@@ -97,57 +77,72 @@ fn totals_from(words: &[u64]) -> Totals
 {
     Totals {
         lines: words[0],
-        status0: words[1],
-        status1: words[2],
-        status2: words[3],
-        status3: words[4],
-        status5: words[5],
-        status7: words[6],
-        accepted: words[7],
-        rejected: words[8],
-        total: words[9],
-        ode: words[10],
-        jac: words[11],
-        lu: words[12],
+        runs: Runs {
+            status0: words[1],
+            status1: words[2],
+            status2: words[3],
+            status3: words[4],
+            status5: words[5],
+            status7: words[6],
+        },
+        counts: Counts {
+            accepted: words[7],
+            rejected: words[8],
+            total: words[9],
+            ode: words[10],
+            jac: words[11],
+            lu: words[12],
+        },
         largest: words[13],
         place: words[14],
     }
 }
 
-fn values_from(words: &[u64; 37]) -> [u64; 16]
-    ensures { result ≡ values_from words.now }
+#[tactic(auto, unfolding(words::specs::Loop::pick))]
+fn number_from(begun: u64, value: u64) -> Option<u64>
+    ensures { result ≡ number_from begun value }
 {
-    [
-        words[21], words[22], words[23], words[24], words[25], words[26], words[27], words[28],
-        words[29], words[30], words[31], words[32], words[33], words[34], words[35], words[36],
-    ]
+    if begun != 0 {
+        return Some(value);
+    }
+    None
 }
 
 fn filling_from(words: &[u64; 37]) -> Filling
     ensures { result ≡ filling_from words.now }
 {
-    let values = values_from(words);
+    let mut values = [0u64; 16];
+    values.copy_from_slice(&words[21..]);
     Filling {
         at: words[16] as usize,
-        begun: words[17] != 0,
-        value: words[18],
+        number: number_from(words[17], words[18]),
         filled: words[19] as usize,
         values: values,
-        wrong: words[20] != 0,
     }
 }
 
+#[tactic(auto, unfolding(words::specs::Loop::pick))]
+fn stand_from(beyond: u64, wrong: u64) -> Stand
+    ensures { result ≡ stand_from beyond wrong }
+{
+    if beyond != 0 {
+        return Stand::Beyond;
+    }
+    if wrong != 0 {
+        return Stand::Wrong;
+    }
+    Stand::Open
+}
+
 // The night of any words at all.
+#[tactic(auto, unfolding(crate::specs::Record::night_from))]
 pub fn night_from(words: &[u64; 37]) -> Night
     ensures { result ≡ night_from words.now }
 {
-    let all: &[u64] = words;
-    let filling = filling_from(words);
-    let totals = totals_from(all);
     Night {
-        filling: filling,
-        totals: totals,
-        beyond: words[15] != 0,
+        stand: stand_from(words[15], words[20]),
+        filling: filling_from(words),
+        totals: totals_from(words),
     }
 }
 
@@ -155,6 +150,5 @@ pub fn night_from(words: &[u64; 37]) -> Night
 pub fn totals_given(words: &[u64; 15]) -> Totals
     ensures { result ≡ totals_from words.now }
 {
-    let all: &[u64] = words;
-    totals_from(all)
+    totals_from(words)
 }

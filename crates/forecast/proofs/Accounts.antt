@@ -5,14 +5,11 @@ use mathlib.Core.Bool.{Bool, true, false, true≢false}
 use mathlib.Core.Path.{◌≡◌, refl, sym, ap, ◌∙◌, subst}
 use mathlib.Core.List.{List, []}
 use lib.ListN.{length}
-use lib.Ieee.{Float}
 use Rattle.state.specs.declared.run.Counts.{Counts}
 use Rattle.state.specs.declared.run.Run.{Run}
 use Rattle.state.specs.declared.run.Notes.{Notes}
 use Rattle.state.specs.declared.run.Status.{Status}
 use Rattle.state.specs.declared.talk.IntegrationResult.{IntegrationResult}
-use Rattle.state.specs.declared.talk.Opened.{Opened}
-use Rattle.state.specs.declared.talk.Opened.TheVariants as opened
 use Rattle.state.specs.declared.talk.Place.{Place}
 use Rattle.state.specs.declared.talk.Place.TheVariants.{Nowhere}
 use Rattle.state.specs.declared.talk.Request.{Request}
@@ -35,23 +32,25 @@ use Rattle.sheet.specs.Sheet.{Model, Valid}
 use Rattle.sheet.specs.Reader.{Read, accepted, malformed, too_long, read_of}
 use Rattle.sheet.proofs.Accepted.{accepted-sound}
 use Rattle.forecast_text.specs.declared.ending.Reached.{Reached}
-use Rattle.forecast_text.specs.declared.ending.Ending.{Ending}
-use Rattle.forecast_text.specs.declared.ending.Ending.TheVariants as ending
-use Rattle.forecast_text.specs.declared.ending.Forecast.{Forecast}
-use Rattle.forecast.specs.Forecast.{opening_for, host_of, ended_at, refused_by, RunsTo, FromOpened, Forecasts}
+use Rattle.forecast_text.specs.declared.ending.ForecastError.{ForecastError}
+use Rattle.forecast_text.specs.declared.ending.ForecastError.TheVariants as error
+use Rattle.std.specs.Prelude.{Ok, Err}
+use Rattle.forecast_text.specs.Printed.{Forecast}
+use Rattle.forecast.specs.Forecast.{opening_for, host_of, ended_at, RunsTo, FromOpened, Forecasts}
 use Rattle.forecast.specs.Account.{strategy_of, most_of, Accounted, Accounts}
 use Rattle.forecast.proofs.Turns.{played-point, journal-of}
 use Rattle.forecast.proofs.BudgetLasts.{starts}
 use Rattle.forecast.proofs.ModelRead.{rates_for, species_for}
 use Rattle.forecast.proofs.HostsAgree.{model_host, reached, model-talks, model-fair}
+use Rattle.state.specs.Talk.{Opened, call}
 
--- a forecast that tells the end e and the amounts y
-abbrev pub tells : Reached → List Float → Forecast
-tells e y = record { ending = ending.Ended e; amounts = y }
+-- a forecast that tells the end e
+abbrev pub tells : Reached → Forecast
+tells e = Ok e
 
 module _ (m : Model) (valid : Valid m) (r : Run) (q : Request) (p : Place) (memory : Memory)
-    (opens : open_of (opening_for m) ≡ opening_outcome (opened.Asked r q p) memory)
-    (e : Reached) (y : List Float) (runs : RunsTo m (point r q p memory) (tells e y)) where
+    (opens : open_of (opening_for m) ≡ opening_outcome (Ok (call r q p)) memory)
+    (e : Reached) (runs : RunsTo m (point r q p memory) (tells e)) where
   abbrev start : Point
   start = point r q p memory
 
@@ -67,7 +66,7 @@ module _ (m : Model) (valid : Valid m) (r : Run) (q : Request) (p : Place) (memo
   -- the result of the run is told
   result-told : e.result
       ≡ demand.tells runs.run runs.talks.status runs.run.counts runs.run.notes
-  result-told = let is = ap (λ (f : Forecast). f.ending) runs.told in cc
+  result-told = let is = runs.told in cc
 
   status : e.result.status ≡ runs.talks.status
   status = ap (λ (x : IntegrationResult). x.status) result-told
@@ -115,7 +114,7 @@ module _ (m : Model) (valid : Valid m) (r : Run) (q : Request) (p : Place) (memo
       (model-talks m valid r q p memory opens) runs.talks in
       subst (λ (w : World). length w.exchanges < most_of o) same.1 a.few
 
-  accounts : Accounted m e y
+  accounts : Accounted m e
   accounts =
       record {
         start = start;
@@ -146,35 +145,33 @@ module _ (m : Model) (valid : Valid m) (r : Run) (q : Request) (p : Place) (memo
 -- ---- the theorem
 
 -- a refusal tells no end
-abbrev pub refuses : Ending → Bool
-refuses (ending.Ended e) = false
-refuses (ending.Refused x) = true
-refuses (ending.Malformed k) = true
-refuses ending.TooLong = true
+abbrev pub refuses : Forecast → Bool
+refuses (Ok e) = false
+refuses (Err x) = true
 
-no_end : {X : Type 0} (e : Reached) (y : List Float) (x : Ending) → refuses x ≡ true → tells e y ≡ refused_by x → X
-no_end e y x refused is = absurd (true≢false (sym refused ∙ sym (ap (λ (f : Forecast). refuses f.ending) is)))
+no_end : {X : Type 0} (e : Reached) (x : ForecastError) → tells e ≡ Err x → X
+no_end e x is = absurd (true≢false (sym (ap refuses is)))
 
 accounted-by : (m : Model) → Valid m → (a : Opened) (memory : Memory) → open_of (opening_for m) ≡ opening_outcome a
     memory
-    → (e : Reached) (y : List Float) → FromOpened m a memory (tells e y) → Accounted m e y
+    → (e : Reached) → FromOpened m a memory (tells e) → Accounted m e
 unfolding FromOpened
-accounted-by m valid (opened.Refused x) memory opens e y f = no_end e y (ending.Refused x) refl f
-accounted-by m valid (opened.Asked r q p) memory opens e y f = accounts m valid r q p memory opens e y f
+accounted-by m valid (Err x) memory opens e f = no_end e (error.Opening x) f
+accounted-by m valid (Ok c) memory opens e f = accounts m valid c.run c.request c.place memory opens e f
 
 accounts-by : (bytes : List ℕ) (x : Read) → read_of bytes ≡ x
-    → (e : Reached) (y : List Float) → Forecasts x (tells e y) → Accounts bytes e y
+    → (e : Reached) → Forecasts x (tells e) → Accounts bytes e
 unfolding Forecasts
-accounts-by bytes (accepted m) is e y f =
+accounts-by bytes (accepted m) is e f =
     let o = open_of (opening_for m) in
     record {
       model = m;
       holds = is;
-      accounted = accounted-by m (accepted-sound bytes m is).1 o.answer o.memory refl e y f;
+      accounted = accounted-by m (accepted-sound bytes m is).1 o.answer o.memory refl e f;
     }
-accounts-by bytes (malformed k) is e y f = no_end e y (ending.Malformed k) refl f
-accounts-by bytes too_long is e y f = no_end e y ending.TooLong refl f
+accounts-by bytes (malformed k) is e f = no_end e (error.Malformed k) f
+accounts-by bytes too_long is e f = no_end e error.TooLong f
 
-pub forecast-accounts-proof : (bytes : List ℕ) (e : Reached) (y : List Float)
-    → Forecasts (read_of bytes) (tells e y) → Accounts bytes e y
-forecast-accounts-proof bytes e y f = accounts-by bytes (read_of bytes) refl e y f
+pub forecast-accounts-proof : (bytes : List ℕ) (e : Reached)
+    → Forecasts (read_of bytes) (tells e) → Accounts bytes e
+forecast-accounts-proof bytes e f = accounts-by bytes (read_of bytes) refl e f

@@ -10,8 +10,6 @@ use lib.Ieee.{Float}
 use Rattle.state.specs.declared.settings.Source.{Source}
 use Rattle.state.specs.declared.settings.Source.TheVariants as source
 use Rattle.state.specs.declared.run.Run.{Run}
-use Rattle.state.specs.declared.talk.Opened.{Opened}
-use Rattle.state.specs.declared.talk.Opened.TheVariants as opened
 use Rattle.state.specs.declared.talk.Place.{Place}
 use Rattle.state.specs.declared.talk.Place.TheVariants.{Nowhere}
 use Rattle.state.specs.declared.talk.Request.{Request}
@@ -33,6 +31,8 @@ use Rattle.forecast.specs.Account.{most_of}
 use Rattle.forecast.specs.Told.{Ends}
 use Rattle.forecast.proofs.Turns.{always, last-talk}
 use Rattle.model_run.proofs.HostFair.{host-fair}
+use Rattle.std.specs.Prelude.{Ok, Err}
+use Rattle.state.specs.Talk.{Opened, call}
 
 -- ---- how many requests
 
@@ -64,7 +64,7 @@ module _ (reactions : ℕ) (rates : List Float) (species : List ℕ) (o : Openin
   host = answered_by reactions rates species
 
   module _ (r : Run) (q : Request) (p : Place) (m : Memory)
-      (accepted : open_of o ≡ opening_outcome (opened.Asked r q p) m) where
+      (accepted : open_of o ≡ opening_outcome (Ok (call r q p)) m) where
     abbrev start : Point
     start = point r q p m
 
@@ -104,9 +104,9 @@ module _ (reactions : ℕ) (rates : List Float) (species : List ℕ) (o : Openin
 
   ended-by : (a : Opened) (m : Memory) → open_of o ≡ opening_outcome a m → Ends (from_opened host a m).finish
   unfolding from_opened Ends
-  ended-by (opened.Refused x) m e = tt
-  ended-by (opened.Asked r q p) m e =
-      let a = reaches r q p m e in
+  ended-by (Err x) m e = tt
+  ended-by (Ok c) m e =
+      let a = reaches c.run c.request c.place m e in
       record { status = a.talks.status; is = ap (λ (x : Point). x.run.stage) a.last ∙ a.talks.stage }
 
   pub whole-ends : Ends (whole_of host o).finish

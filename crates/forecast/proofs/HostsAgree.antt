@@ -10,7 +10,6 @@ use lib.Dec.{ltb}
 use lib.ListN.{length, length-take}
 use lib.Ieee.{Float}
 use Rattle.state.specs.declared.run.Run.{Run}
-use Rattle.state.specs.declared.talk.Opened.TheVariants as opened
 use Rattle.state.specs.declared.talk.Place.{Place}
 use Rattle.state.specs.declared.talk.Place.TheVariants as place
 use Rattle.state.specs.declared.talk.Request.{Request}
@@ -42,6 +41,8 @@ use Rattle.forecast.specs.Account.{most_of}
 use Rattle.forecast.proofs.BudgetLasts.{Reaches, starts, reaches}
 use Rattle.forecast.proofs.ModelRead.{rates_for, species_for, rates-enough}
 use Rattle.forecast.proofs.ModelRead.{species-enough, species-fit, reactions-left}
+use Rattle.std.specs.Prelude.{Ok}
+use Rattle.state.specs.Talk.{call}
 
 -- ---- what a derivative reads and writes has the length of the amounts
 
@@ -119,7 +120,7 @@ module _ (m : sheet.Model) (valid : Valid m) (memory : Memory) (long : MemoryLon
 -- ---- one talk
 
 module _ (m : sheet.Model) (valid : Valid m) (r : Run) (q : Request) (p : Place) (memory : Memory)
-    (opens : open_of (opening_for m) ≡ opening_outcome (opened.Asked r q p) memory) where
+    (opens : open_of (opening_for m) ≡ opening_outcome (Ok (call r q p)) memory) where
   abbrev start : Point
   start = point r q p memory
 

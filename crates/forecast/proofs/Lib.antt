@@ -1,4 +1,5 @@
 -- In order of reading; Theorems is what users cite.
+pub mod DoubleLaws
 pub mod Turns
 pub mod BudgetLasts
 pub mod ModelRead

@@ -6,8 +6,6 @@ use mathlib.Core.Path.{◌≡◌, refl, sym, ap, ◌∙◌, subst}
 use mathlib.Core.List.{List}
 use Rattle.state.specs.declared.run.Status.{Status}
 use Rattle.state.specs.declared.run.Stage.TheVariants as stage
-use Rattle.state.specs.declared.talk.Opened.{Opened}
-use Rattle.state.specs.declared.talk.Opened.TheVariants as opened
 use Rattle.state.specs.Memory.{Memory}
 use Rattle.opening.specs.Opening.{OpeningOutcome, opening_outcome, open_of}
 use Rattle.limit.specs.Limit.{run_with, Raises}
@@ -16,26 +14,28 @@ use Rattle.limit.proofs.Theorems.{raising-keeps}
 use Rattle.sheet.specs.Sheet.{Model, Valid}
 use Rattle.sheet.specs.Reader.{Read, read_of}
 use Rattle.sheet.proofs.Accepted.{accepted-sound}
-use Rattle.forecast_text.specs.declared.ending.Forecast.{Forecast}
-use Rattle.forecast_text.specs.Printed.{printed_of}
+use Rattle.forecast_text.specs.Printed.{Forecast, printed_of}
 use Rattle.forecast.specs.Forecast.{opening_for, host_of, ended_at, FromOpened, Solved, Forecasts}
 use Rattle.forecast.specs.Raised.{model_with, Raised, ends_over, SameForecast}
 use Rattle.forecast.proofs.HostsAgree.{model-fair}
 use Rattle.forecast.proofs.Solves.{one-forecast-proof}
+use Rattle.std.specs.Prelude.{Ok, Err}
+use Rattle.state.specs.Talk.{Opened}
 
 module _ (m : Model) (valid : Valid m) (M : ℕ) (least : 1 ≤ m.max_steps) (raises : Raises m.max_steps M)
-    (f : Forecast) (other : ends_over f.ending ≡ false) where
+    (f : Forecast) (other : ends_over f ≡ false) where
   -- of the opening's answer the forecast with the larger limit tells the same
   raised_by : (a : Opened) (memory : Memory) → open_of (opening_for m) ≡ opening_outcome a memory
       → FromOpened m a memory f → (let x = opened_with M (opening_outcome a memory) in
       FromOpened (model_with M m) x.answer x.memory f)
   unfolding FromOpened
-  raised_by (opened.Refused x) memory opens told = told
-  raised_by (opened.Asked r q p) memory opens runs =
+  raised_by (Err x) memory opens told = told
+  raised_by (Ok c) memory opens runs =
       let a = runs.talks in
-      let not-two = ap (λ (g : Forecast). ends_over g.ending) (sym runs.told) ∙ other in
+      let not-two = ap ends_over (sym runs.told) ∙ other in
       let same =
-      raising-keeps M (host_of m) (opening_for m) r q p memory opens raises (model-fair m valid r q p memory opens)
+      raising-keeps M (host_of m) (opening_for m) c.run c.request c.place memory opens raises
+      (model-fair m valid c.run c.request c.place memory opens)
       runs.run runs.world a not-two in
       let stages : stage.Ended a.status ≡ stage.Ended same.talks.status =
       sym a.stage ∙ same.talks.stage in
@@ -55,7 +55,7 @@ module _ (m : Model) (valid : Valid m) (M : ℕ) (least : 1 ≤ m.max_steps) (ra
       (raised_by o.answer o.memory refl solved)
 
 pub raised-forecast-proof : (sheet raised : List ℕ) → Raised sheet raised → (f : Forecast) → Forecasts (read_of sheet) f
-    → ends_over f.ending ≡ false → SameForecast raised f
+    → ends_over f ≡ false → SameForecast raised f
 unfolding Forecasts
 raised-forecast-proof sheet raised x f told other =
     let m = x.model in

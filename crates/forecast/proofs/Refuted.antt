@@ -9,9 +9,9 @@ use native.Mathlib.Omega.{arith}
 use Rattle.state.specs.declared.run.Status.TheVariants.{Success}
 use Rattle.sheet.specs.Sheet.{written}
 use Rattle.sheet.specs.Reader.{read_of}
-use Rattle.forecast_text.specs.declared.ending.Ending.TheVariants as ending
+use Rattle.std.specs.Prelude.{Ok}
 use Rattle.forecast_text.specs.declared.ending.Reached.{Reached}
-use Rattle.forecast_text.specs.declared.ending.Forecast.{Forecast}
+use Rattle.forecast_text.specs.Printed.{Forecast}
 use Rattle.forecast.specs.Forecast.{Forecasts}
 use Rattle.forecast.proofs.Accounts.{refuses}
 use Rattle.forecast.proofs.Samples.{still, still_forecast}
@@ -31,18 +31,18 @@ has-to s meets =
 
 -- refuses every sheet
 abbrev pub RefusesAll : Forecaster → Type 0
-RefusesAll s = (bytes : List ℕ) → refuses (s bytes).ending ≡ true
+RefusesAll s = (bytes : List ℕ) → refuses (s bytes) ≡ true
 
 pub not-refuses-all : (s : Forecaster) → RefusesAll s → Meets s → ⊥
 not-refuses-all s all meets =
-    true≢false (sym (all (written still)) ∙ ap (λ (f : Forecast). refuses f.ending) (has-to s meets))
+    true≢false (sym (all (written still)) ∙ ap refuses (has-to s meets))
 
 -- tells status 0 wherever it tells an end
 abbrev pub TellsSuccess : Forecaster → Type 0
-TellsSuccess s = (bytes : List ℕ) (e : Reached) → (s bytes).ending ≡ ending.Ended e → e.result.status ≡ Success
+TellsSuccess s = (bytes : List ℕ) (e : Reached) → s bytes ≡ Ok e → e.result.status ≡ Success
 
 pub not-tells-success : (s : Forecaster) → TellsSuccess s → Meets s → ⊥
 not-tells-success s tells meets =
-    let told = tells (written still) _ (ap (λ (f : Forecast). f.ending) (has-to s meets)) in
+    let told = tells (written still) _ (has-to s meets) in
     let z : ◌≡◌ {A = ℕ} 0 1 = cc in
     omega arith

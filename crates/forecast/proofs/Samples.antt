@@ -16,12 +16,8 @@ use Rattle.state.specs.declared.run.Run.{Run}
 use Rattle.state.specs.declared.run.Stage.TheVariants as stage
 use Rattle.state.specs.declared.run.Status.TheVariants.{StepSizeTooSmall}
 use Rattle.state.specs.declared.talk.Blame.TheVariants.{Untold}
-use Rattle.state.specs.declared.talk.Opened.TheVariants as opened
 use Rattle.state.specs.declared.talk.Place.TheVariants as place
 use Rattle.state.specs.declared.talk.Request.TheVariants as request
-use Rattle.state.specs.declared.talk.Verdict.{Verdict}
-use Rattle.state.specs.declared.talk.Verdict.TheVariants.{Passed}
-use Rattle.state.specs.Settings.{or_else, or_none}
 use Rattle.state.specs.Memory.{Memory, amounts_fit, newton_fit, given_fit, factors_fit, differences_fit, zeros, noughts}
 use Rattle.state.specs.Pivots.{stray_at, stray}
 use Rattle.matrix.specs.Complex.{at_complex, size_complex}
@@ -50,10 +46,11 @@ use Rattle.model.specs.Model.{derivative_of}
 use Rattle.sheet.specs.Sheet.{Model, Valid, written}
 use Rattle.sheet.specs.Reader.{Read, read_of}
 use Rattle.sheet.proofs.Accepted.{accepted-complete}
-use Rattle.forecast_text.specs.declared.ending.Ending.TheVariants as ending
-use Rattle.forecast_text.specs.declared.ending.Forecast.{Forecast}
+use Rattle.std.specs.Prelude.{Ok}
+use Rattle.forecast_text.specs.Printed.{Forecast}
 use Rattle.model_run.specs.Host.{source_at, reply_to}
 use Rattle.forecast.specs.Forecast.{opening_for, done, host_of, ended_at, FromOpened, Forecasts}
+use Rattle.state.specs.Talk.{Verdict, call, passed_all}
 
 -- ---- the sheet
 
@@ -94,9 +91,9 @@ valid =
 abbrev o : Opening
 o = opening_for still
 
-passed : verdict_of (opening_rows o) ≡ Passed
+passed : verdict_of (opening_rows o) ≡ passed_all
 unfolding verdict_of pick amounts_fit newton_fit given_fit factors_fit differences_fit zeros noughts bad_number place_of
-    mass_given rtol_given atol_given partition_fails given_zero given_below or_else or_none abs_of sub le lt eq of_bits
+    mass_given rtol_given atol_given partition_fails given_zero given_below abs_of sub le lt eq of_bits
 passed = refl
 
 abbrev converted : Converted
@@ -111,7 +108,7 @@ lent = cleared_of o.settings.mass o.n converted o.memory
 abbrev start : Point
 start = point first (request.Derivative o.x0) place.YToF0 lent
 
-opens : open_of o ≡ opening_outcome (opened.Asked first (request.Derivative o.x0) place.YToF0) lent
+opens : open_of o ≡ opening_outcome (Ok (call first (request.Derivative o.x0) place.YToF0)) lent
 unfolding open_of by_verdict accepted_of
 opens = ap (λ (v : Verdict). by_verdict v o) passed
 
@@ -120,21 +117,19 @@ opens = ap (λ (v : Verdict). by_verdict v o) passed
 -- the step is 0, so the first attempt finds it too small
 abbrev pub still_forecast : Forecast
 still_forecast =
-    record {
-      ending = ending.Ended (record {
-        result = record {
-          h = double 0;
-          x = double one;
-          status = StepSizeTooSmall;
-          counts = counts 1 1 2 1 0 0;
-          blame = Untold;
-          smallest = double 0;
-          largest = double 0;
-        };
-        species = 1;
-      });
+    Ok (record {
+      result = record {
+        h = double 0;
+        x = double one;
+        status = StepSizeTooSmall;
+        counts = counts 1 1 2 1 0 0;
+        blame = Untold;
+        smallest = double 0;
+        largest = double 0;
+      };
+      species = 1;
       amounts = (double one ∷ []) ++ zeros 31;
-    }
+    })
 
 abbrev after : ℕ → Talk
 after k = talk_by offered (host_of still) k (talk start [])
@@ -157,11 +152,11 @@ record Course : Type 0 where
 course : Course
 unfolding is_end talk_by done derivative_of source_at reply_to filled modified wrote next_point advance_by verdict_of
     pick loop amounts_fit newton_fit given_fit factors_fit differences_fit zeros noughts asking_at answers_report
-    stray_at stray replied_of called_of pass_at passes_of started_of reported_of first_run shape_of nind1_of or_none
+    stray_at stray replied_of called_of pass_at passes_of started_of reported_of first_run shape_of nind1_of
     fixed_of cleared_of mass_kept converted_of scalar_turns scale_at scaled_of ask_jacobian_by ask_column_of column_of
     perturbation column_at at put mass_at jac_at build_at build_row built_of lu_decomp_of lu_decomp_complex_of single
     worked answered is_zero is_zero_complex at_complex size_complex real_tried_of complex_tried_of tried_of attempt_of
-    first_step_of wished_step or_else abs_of max_of clamp_of signum_of is_nan add sub mul div neg eq le lt of_bits
+    first_step_of wished_step abs_of max_of clamp_of signum_of is_nan add sub mul div neg eq le lt of_bits
 course = record {
   first = refl;
   second = refl;

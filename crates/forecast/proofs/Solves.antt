@@ -17,9 +17,6 @@ use Rattle.state.specs.declared.run.Stage.TheVariants as stage
 use Rattle.state.specs.declared.run.Status.{Status}
 use Rattle.state.specs.declared.run.Tolerances.TheVariants.{Scalars}
 use Rattle.state.specs.declared.talk.IntegrationResult.{IntegrationResult}
-use Rattle.state.specs.declared.talk.Opened.{Opened}
-use Rattle.state.specs.declared.talk.Opened.TheVariants as opened
-use Rattle.state.specs.declared.talk.Result.TheVariants as result
 use Rattle.state.specs.Memory.{Memory, zeros, noughts}
 use Rattle.state.specs.Result.{result_at, result_of}
 use Rattle.opening.specs.Rows.{Opening, opening}
@@ -34,16 +31,20 @@ use Rattle.sheet.specs.Reader.{Read, accepted, malformed, too_long, heading_of}
 use Rattle.sheet.specs.Reader.{answer_of, amounts_left, rates_left, species_left, read_of}
 use Rattle.sheet.proofs.Accepted.{accepted-sound}
 use Rattle.sheet.specs.declared.sheet.Heading.{Heading}
-use Rattle.sheet.specs.declared.sheet.Reading.TheVariants as reading
-use Rattle.forecast_text.specs.declared.ending.Ending.TheVariants as ending
-use Rattle.forecast_text.specs.declared.ending.Forecast.{Forecast}
+use Rattle.sheet.specs.declared.sheet.SheetError.{SheetError}
+use Rattle.sheet.specs.declared.sheet.SheetError.TheVariants as unreadable
+use Rattle.forecast_text.specs.Unread.{unread}
+use Rattle.std.specs.Prelude.{Ok, Err}
+use Rattle.forecast_text.specs.Printed.{Forecast}
 use Rattle.model_run.specs.Budget.{lent_of, room_of, opening_of, from_opened, whole_of, run_of}
 use Rattle.model_run.specs.declared.run.TaskOutcome.{TaskOutcome}
 use Rattle.forecast.specs.Forecast.{settings_of, opening_for, host_of, ended_at}
-use Rattle.forecast.specs.Forecast.{refused_by, RunsTo, FromOpened, Solved, Forecasts}
+use Rattle.forecast.specs.Forecast.{RunsTo, FromOpened, Solved, Forecasts}
 use Rattle.forecast.specs.Told.{task_from, outcome_from, ToldEnd, Told}
 use Rattle.forecast.proofs.ModelRead.{amounts-taken, amounts-behind}
 use Rattle.forecast.proofs.HostsAgree.{code_host, reached, model-talks, amounts-kept}
+use Rattle.std.specs.Prelude.{Some}
+use Rattle.state.specs.Talk.{Opened}
 
 -- ---- what is opened
 
@@ -83,10 +84,10 @@ module _ (m : sheet.Model) (valid : Valid m) where
   end_of e s = demand.tells e s e.counts e.notes
 
   abbrev tells : IntegrationResult → ℕ → List Float → Forecast
-  tells i k y = record { ending = ending.Ended (record { result = i; species = k }); amounts = y ++ zeros (32 - k) }
+  tells i k y = Ok (record { result = i; species = k; amounts = y ++ zeros (32 - k) })
 
   end_is : (e : Run) (s : Status) (end : IntegrationResult)
-      → e.stage ≡ stage.Ended s → result_of e ≡ result.Ended end → end_of e s ≡ end
+      → e.stage ≡ stage.Ended s → result_of e ≡ Some end → end_of e s ≡ end
   unfolding result_at
   end_is e s end at is = let same = sym (ap (result_at e) at) ∙ is in cc
 
@@ -94,10 +95,10 @@ module _ (m : sheet.Model) (valid : Valid m) where
       → (let e = from_opened (code_host m) a memory in Told n e.finish (e.memory.amounts.y ++ zeros (32 - n)) f)
       → FromOpened m a memory f
   unfolding from_opened Told FromOpened
-  solved-by (opened.Refused x) memory opens f told = told
-  solved-by (opened.Asked r q p) memory opens f told =
-      let a = reached m valid r q p memory opens in
-      let t = model-talks m valid r q p memory opens in
+  solved-by (Err x) memory opens f told = told
+  solved-by (Ok c) memory opens f told =
+      let a = reached m valid c.run c.request c.place memory opens in
+      let t = model-talks m valid c.run c.request c.place memory opens in
       let e =
       subst (λ (here : Point). ToldEnd n here.run (here.memory.amounts.y ++ zeros (32 - n)) f) a.last told in
       let y = a.world.memory.amounts.y in
@@ -108,7 +109,8 @@ module _ (m : sheet.Model) (valid : Valid m) where
         told = e.told
             ∙ ap (λ (i : IntegrationResult). tells i n y)
             (sym (end_is a.run t.status e.end t.stage e.is))
-            ∙ ap (λ (k : ℕ). tells (end_of a.run t.status) k y) (sym (amounts-kept m valid r q p memory opens));
+            ∙ ap (λ (k : ℕ). tells (end_of a.run t.status) k y)
+            (sym (amounts-kept m valid c.run c.request c.place memory opens));
       }
 
   pub run-solves : (f : Forecast)
@@ -127,7 +129,7 @@ module _ (m : sheet.Model) (valid : Valid m) where
 -- ---- the three answers of the reader
 
 solves-by : (x : Read) → ((m : sheet.Model) → x ≡ accepted m → Valid m)
-    → (h : Heading) → reading.Read h ≡ answer_of x → (f : Forecast)
+    → (h : Heading) → Ok h ≡ answer_of x → (f : Forecast)
     → (let o = outcome_of h x in Told h.species o.finish o.amounts f) → Forecasts x f
 unfolding answer_of heading_of Forecasts
 solves-by (accepted m) valid h e f told =
@@ -138,7 +140,7 @@ solves-by (malformed k) valid h e f told = absurd (let z : ◌≡◌ {A = ℕ} 0
 solves-by too_long valid h e f told = absurd (let z : ◌≡◌ {A = ℕ} 0 1 = cc in let no : ⊥ = omega arith in no)
 
 pub forecast-solves : (bytes : List ℕ) (h : Heading) {amounts rates species : List ℕ} (f : Forecast)
-    → reading.Read h ≡ answer_of (read_of bytes)
+    → Ok h ≡ answer_of (read_of bytes)
     → amounts ≡ amounts_left (read_of bytes) (noughts 32) → rates ≡ rates_left (read_of bytes) (noughts 64)
     → species ≡ species_left (read_of bytes) (noughts 256)
     → (let o = outcome_from h amounts rates species in Told h.species o.finish o.amounts f)
@@ -154,18 +156,11 @@ forecast-solves bytes h {amounts} {rates} {species} f e a r s told =
     s)
     told)
 
-pub read-malformed : (x : Read) (k : ℕ) → reading.Malformed k ≡ answer_of x
-    → Forecasts x (refused_by (ending.Malformed k))
+pub read-refused : (x : Read) (e : SheetError) → Err e ≡ answer_of x → Forecasts x (Err (unread e))
 unfolding answer_of Forecasts
-read-malformed (accepted m) k e = absurd (let z : ◌≡◌ {A = ℕ} 0 1 = cc in let no : ⊥ = omega arith in no)
-read-malformed (malformed j) k e = let same : k ≡ j = cc in ap (λ (i : ℕ). refused_by (ending.Malformed i)) same
-read-malformed too_long k e = absurd (let z : ◌≡◌ {A = ℕ} 0 1 = cc in let no : ⊥ = omega arith in no)
-
-pub read-too-long : (x : Read) → reading.TooLong ≡ answer_of x → Forecasts x (refused_by ending.TooLong)
-unfolding answer_of Forecasts
-read-too-long (accepted m) e = absurd (let z : ◌≡◌ {A = ℕ} 0 1 = cc in let no : ⊥ = omega arith in no)
-read-too-long (malformed j) e = absurd (let z : ◌≡◌ {A = ℕ} 0 1 = cc in let no : ⊥ = omega arith in no)
-read-too-long too_long e = refl
+read-refused (accepted m) e q = absurd (let z : ◌≡◌ {A = ℕ} 0 1 = cc in let no : ⊥ = omega arith in no)
+read-refused (malformed k) e q = let same : e ≡ unreadable.Malformed k = cc in rw same refl
+read-refused too_long e q = let same : e ≡ unreadable.TooLong = cc in rw same refl
 
 -- ---- one forecast
 
@@ -184,8 +179,8 @@ one-end-told m start f g a b =
 one-by : (m : sheet.Model) (a : Opened) (memory : Memory) (f g : Forecast) → FromOpened m a memory f
     → FromOpened m a memory g → f ≡ g
 unfolding FromOpened
-one-by m (opened.Refused x) memory f g a b = a ∙ sym b
-one-by m (opened.Asked r q p) memory f g a b = one-end-told m (point r q p memory) f g a b
+one-by m (Err x) memory f g a b = a ∙ sym b
+one-by m (Ok c) memory f g a b = one-end-told m (point c.run c.request c.place memory) f g a b
 
 pub one-forecast-proof : (x : Read) (f g : Forecast) → Forecasts x f → Forecasts x g → f ≡ g
 unfolding Forecasts

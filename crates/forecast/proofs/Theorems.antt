@@ -9,7 +9,7 @@ use lib.Ieee.{Float}
 use Rattle.sheet.specs.Sheet.{written}
 use Rattle.sheet.specs.Reader.{Read, read_of}
 use Rattle.forecast_text.specs.declared.ending.Reached.{Reached}
-use Rattle.forecast_text.specs.declared.ending.Forecast.{Forecast}
+use Rattle.forecast_text.specs.Printed.{Forecast}
 use Rattle.model_run.specs.Budget.{run_of}
 use Rattle.model_run.specs.declared.run.Task.{Task}
 use Rattle.forecast.specs.Forecast.{Forecasts}
@@ -32,13 +32,12 @@ run_ends = run-ends-proof
 
 -- A forecast that tells an end is accounted for: `solve` in one piece returns with it, and a journal of the run gives
 -- its counts and its status.
-pub forecast-accounts : (bytes : List ℕ) (e : Reached) (y : List Float) → Forecasts (read_of bytes) (tells e y)
-    → Accounts bytes e y
+pub forecast-accounts : (bytes : List ℕ) (e : Reached) → Forecasts (read_of bytes) (tells e) → Accounts bytes e
 forecast-accounts = forecast-accounts-proof
 
 -- A sheet with a larger limit of steps has the same forecast, byte for byte, unless the first ended with 2.
 pub raised-forecast : (sheet raised : List ℕ) → Raised sheet raised → (f : Forecast) → Forecasts (read_of sheet) f
-    → ends_over f.ending ≡ false → SameForecast raised f
+    → ends_over f ≡ false → SameForecast raised f
 raised-forecast = raised-forecast-proof
 
 -- There is a forecast that tells an end: that of a sheet with one species and no reaction, which ends with 3.

@@ -1,6 +1,6 @@
 -- The forecast of a sheet: 21 and 20 as the reader tells them; then, of its model, opening's refusal; and else the end
 -- that the run comes to, each of its requests being answered by the model's host.
-use Rattle.std.specs.Prelude.{ℕ, ◌-◌, ◌≡◌, List, [], ◌++◌, map, length, Float}
+use Rattle.std.specs.Prelude.{ℕ, ◌-◌, ◌≡◌, List, [], ◌++◌, map, length, Float, Ok, Err}
 use Rattle.words.specs.Words.{double}
 use Rattle.state.specs.declared.settings.Mass.TheVariants.{Identity}
 use Rattle.state.specs.declared.settings.Rule.{Rule}
@@ -8,8 +8,6 @@ use Rattle.state.specs.declared.settings.Settings.{Settings}
 use Rattle.state.specs.declared.run.Run.{Run}
 use Rattle.state.specs.declared.run.Status.{Status}
 use Rattle.state.specs.declared.run.Tolerances.TheVariants.{Scalars}
-use Rattle.state.specs.declared.talk.Opened.{Opened}
-use Rattle.state.specs.declared.talk.Opened.TheVariants as opened
 use Rattle.state.specs.declared.talk.Place.{Place}
 use Rattle.state.specs.declared.talk.Request.{Request}
 use Rattle.state.specs.declared.talk.Request.TheVariants as request
@@ -25,11 +23,11 @@ use Rattle.model.specs.Model.{reaction, derivative_of}
 use Rattle.model.specs.Model as model
 use Rattle.sheet.specs.Sheet as sheet
 use Rattle.sheet.specs.Reader.{Read, accepted, malformed, too_long}
-use Rattle.forecast_text.specs.declared.ending.Ending.{Ending}
-use Rattle.forecast_text.specs.declared.ending.Ending.TheVariants as ending
-use Rattle.forecast_text.specs.declared.ending.Forecast.{Forecast}
+use Rattle.forecast_text.specs.declared.ending.ForecastError.TheVariants as error
+use Rattle.forecast_text.specs.Printed.{Forecast}
 use Rattle.model_run.specs.Host.{source_at, action}
 use Rattle.model_run.specs.Budget.{lent_of}
+use Rattle.state.specs.Talk.{Opened}
 
 -- ---- what a model opens with
 
@@ -86,17 +84,11 @@ host_of m es q p memory = done (map reaction_for m.reactions) q p memory
 -- what is told of the end: the result, and the amounts, with +0 in the room behind them
 abbrev pub ended_at : Run → Status → List Float → Forecast
 ended_at e s y =
-    record {
-      ending = ending.Ended (record {
-        result = tells e s e.counts e.notes;
-        species = length y;
-      });
+    Ok (record {
+      result = tells e s e.counts e.notes;
+      species = length y;
       amounts = y ++ zeros (32 - length y);
-    }
-
--- a refusal has no amounts
-abbrev pub refused_by : Ending → Forecast
-refused_by e = record { ending = e; amounts = zeros 32 }
+    })
 
 -- the advances from `start` on, by the host's replies, come to an end, and f tells it
 pub record RunsTo (m : sheet.Model) (start : Point) (f : Forecast) : Type 0 where
@@ -106,8 +98,8 @@ pub record RunsTo (m : sheet.Model) (start : Point) (f : Forecast) : Type 0 wher
   pub told : f ≡ ended_at run talks.status world.memory.amounts.y
 
 unfoldable pub FromOpened : sheet.Model → Opened → Memory → Forecast → Type 0
-FromOpened m (opened.Refused x) memory f = f ≡ refused_by (ending.Refused x)
-FromOpened m (opened.Asked r q p) memory f = RunsTo m (point r q p memory) f
+FromOpened m (Err x) memory f = f ≡ Err (error.Opening x)
+FromOpened m (Ok c) memory f = RunsTo m (point c.run c.request c.place memory) f
 
 abbrev pub Solved : sheet.Model → Forecast → Type 0
 Solved m f = let o = open_of (opening_for m) in FromOpened m o.answer o.memory f
@@ -115,5 +107,5 @@ Solved m f = let o = open_of (opening_for m) in FromOpened m o.answer o.memory f
 -- of what was read, f is the forecast
 unfoldable pub Forecasts : Read → Forecast → Type 0
 Forecasts (accepted m) f = Solved m f
-Forecasts (malformed k) f = f ≡ refused_by (ending.Malformed k)
-Forecasts too_long f = f ≡ refused_by ending.TooLong
+Forecasts (malformed k) f = f ≡ Err (error.Malformed k)
+Forecasts too_long f = f ≡ Err error.TooLong

@@ -1,12 +1,9 @@
 -- Two sheets that differ in max_steps alone, the second's being larger, and what it is that the forecast doesn't move.
-use Rattle.std.specs.Prelude.{ℕ, ◌≤◌, Bool, false, ◌≡◌, List}
+use Rattle.std.specs.Prelude.{ℕ, ◌≤◌, Bool, false, ◌≡◌, List, Ok, Err}
 use Rattle.limit.specs.Limit.{Raises, is_over}
 use Rattle.sheet.specs.Sheet.{Model}
 use Rattle.sheet.specs.Reader.{accepted, read_of}
-use Rattle.forecast_text.specs.declared.ending.Ending.{Ending}
-use Rattle.forecast_text.specs.declared.ending.Ending.TheVariants as ending
-use Rattle.forecast_text.specs.declared.ending.Forecast.{Forecast}
-use Rattle.forecast_text.specs.Printed.{printed_of}
+use Rattle.forecast_text.specs.Printed.{Forecast, printed_of}
 use Rattle.forecast.specs.Forecast.{Forecasts}
 
 -- the same model with the limit M
@@ -33,11 +30,9 @@ pub record Raised (sheet raised : List ℕ) : Type 0 where
   pub raises : Raises model.max_steps limit
 
 -- whether the end that is told has status 2; a refusal tells none
-abbrev pub ends_over : Ending → Bool
-ends_over (ending.Ended e) = is_over e.result.status
-ends_over (ending.Refused x) = false
-ends_over (ending.Malformed k) = false
-ends_over ending.TooLong = false
+abbrev pub ends_over : Forecast → Bool
+ends_over (Ok e) = is_over e.result.status
+ends_over (Err x) = false
 
 -- f is the forecast of the bytes, and what is printed of any forecast of theirs is what is printed of f
 pub record SameForecast (bytes : List ℕ) (f : Forecast) : Type 0 where

@@ -1,5 +1,5 @@
 // The task of a sheet that was read.
-ghost use Rattle.std.specs.Prelude.{◌≡◌, map, length};
+ghost use Rattle.std.specs.Prelude.{◌≡◌, map};
 ghost use Rattle.words.specs.Words.{double};
 ghost use Rattle.forecast.specs.Forecast.{settings_of};
 ghost use Rattle.forecast.specs.Told.{task_from};
@@ -9,31 +9,17 @@ use model_run::run::Task;
 use sheet::sheet::Heading;
 use state::settings::{Mass, Settings};
 
-// Doubles by their bits.
-fn doubles(bits: &[u64], floats: &mut [f64])
-    requires { length floats.old ≡ length bits.now }
-    ensures { floats.new ≡ map double bits.now }
-{
-    for i in 0..bits.len() {
-        floats[i] = double(bits[i]);
-    }
-}
-
 // The amounts and the rates of a sheet, as the reader leaves them.
 pub fn amounts_from(bits: &[u64; 32]) -> [f64; 32]
     ensures { result ≡ map double bits.now }
 {
-    let mut floats = [0.0; 32];
-    doubles(bits, &mut floats);
-    floats
+    bits.map(double)
 }
 
 pub fn rates_from(bits: &[u64; 64]) -> [f64; 64]
     ensures { result ≡ map double bits.now }
 {
-    let mut floats = [0.0; 64];
-    doubles(bits, &mut floats);
-    floats
+    bits.map(double)
 }
 
 // The settings of a sheet: max_steps, the rule, the mass Identity, and else the defaults.

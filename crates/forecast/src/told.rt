@@ -1,21 +1,18 @@
 // The model of a sheet, run, and what is told of it.
 ghost use Rattle.std.specs.Prelude.{◌≡◌};
-ghost use Rattle.state.specs.declared.talk.Result.TheVariants.{Ended, NotEnded};
 ghost use Rattle.state.specs.Result.{result_of};
-ghost use Rattle.forecast.specs.Forecast.{refused_by};
 ghost use Rattle.forecast.specs.Told.{outcome_from, Over, Ends, Told};
 
 use crate::task::{amounts_from, rates_from, task_from};
-use forecast_text::Forecast;
-use forecast_text::ending::{Ending, Reached};
-use model_run::run::{Finish, TaskOutcome, run};
+use forecast_text::ending::{ForecastError, Reached};
+use model_run::run::{TaskOutcome, run};
 use sheet::sheet::Heading;
 use state::run::{Run, Status};
-use state::talk::{Blame, IntegrationResult, Result};
+use state::talk::{Blame, IntegrationResult};
 
 // Stands where no run that has ended comes: of its run, which has a result, the caller shows that it isn't called.
 fn never(run: Run) -> IntegrationResult
-    requires { result_of run ≡ NotEnded }
+    requires { result_of run ≡ None }
 {
     let numbers = run.numbers;
     let counts = run.counts;
@@ -33,43 +30,27 @@ fn never(run: Run) -> IntegrationResult
 // The result of a run that has ended.
 fn end_of(run: Run) -> IntegrationResult
     requires { Over run }
-    ensures { result_of run ≡ Ended result }
+    ensures { result_of run ≡ Some result }
 {
     match run.result() {
-        Result::Ended(end) => end,
-        Result::NotEnded => never(run),
-    }
-}
-
-// A refusal has no amounts.
-pub fn refused(ending: Ending) -> Forecast
-    ensures { result ≡ refused_by ending }
-{
-    Forecast {
-        ending,
-        amounts: [0.0; 32],
+        Some(end) => end,
+        None => never(run),
     }
 }
 
 // What is told of an outcome for n amounts.
-fn told(n: usize, outcome: TaskOutcome) -> Forecast
+fn told(n: usize, outcome: TaskOutcome) -> Result<Reached, ForecastError>
     requires { Ends outcome.finish }
     ensures { Told n outcome.finish outcome.amounts result }
 {
-    let finish = outcome.finish;
     let amounts = outcome.amounts;
-    match finish {
-        Finish::Refused(refusal) => refused(Ending::Refused(refusal)),
-        Finish::Ran(run) => {
-            let reached = Reached {
-                result: end_of(run),
-                species: n,
-            };
-            Forecast {
-                ending: Ending::Ended(reached),
-                amounts,
-            }
-        }
+    match outcome.finish {
+        Err(refusal) => Err(ForecastError::Opening(refusal)),
+        Ok(run) => Ok(Reached {
+            result: end_of(run),
+            species: n,
+            amounts,
+        }),
     }
 }
 
@@ -79,7 +60,7 @@ pub fn modelled(
     amounts: &[u64; 32],
     rates: &[u64; 64],
     species: &[usize; 256],
-) -> Forecast
+) -> Result<Reached, ForecastError>
     ensures { let o = outcome_from heading amounts.now rates.now species.now in
         Told heading.species o.finish o.amounts result }
 {

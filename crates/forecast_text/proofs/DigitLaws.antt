@@ -5,16 +5,20 @@ use mathlib.Core.Path.{◌≡◌, refl, sym, ap, ◌∙◌}
 use mathlib.Core.List.{List, [], ◌∷◌, ◌++◌}
 use native.Mathlib.Nat.{mod-lt, mod-eq_of_lt, div-one, div-eq_of_lt, div-add-mod', div-div-eq-div-mul}
 use native.Mathlib.Nat.{div-lt_iff_lt-mul, mul_comm, mul-add-div_right, mul-add-mod_self_right, mul-le-mul_right}
-use native.Mathlib.Numerals.{add-one}
+use native.Mathlib.Numerals.{add-one, unary_clauses}
+use native.Mathlib.Nat.{pow-suc}
+use Rattle.words.specs.Loop.{pick}
 use native.Mathlib.Omega.{arith}
-use borrow.Author.Tests.{lt-ltb, le-ltb, ltb-true}
+use borrow.Author.Tests.{lt-ltb, le-ltb, ltb-true, ltb-false}
+use Rattle.std.specs.Prelude.{◌⊎◌}
+use Rattle.std.proofs.Common.{inl, inr}
 use lib.Dec.{ltb}
 use lib.ListN.{set}
 use lib.Seq.{sets}
 use Rattle.words.proofs.Branch.{pick_yes, pick_no, pick_all}
-use Rattle.sheet.specs.Digits.{byte_of, power, digits}
+use Rattle.sheet.specs.Digits.{byte_of, power, digits, width_of, decimal_of}
 use Rattle.sheet.proofs.Inverse.{length_digits, power-some}
-use Rattle.forecast_text.specs.Printed.{width_in}
+use Rattle.forecast_text.specs.Printed.{width_in, numeral_of}
 use Rattle.forecast_text.specs.Put.{Put}
 use Rattle.forecast_text.proofs.PutLaws.{sets_last}
 
@@ -109,35 +113,73 @@ width-spells (suc k) v h =
     let s : width_in k (v / 10) + 1 ≡ suc (width_in k (v / 10)) = add-one (width_in k (v / 10)) in
     rw s (omega arith))
 
--- what is left of a value after its last n - 1 digits, and how many more there can be
-pub record Wide (value n left : ℕ) : Type 0 where
-  pub more : ℕ
-  pub all : n + more ≡ 20
-  pub low : left < power 10 (suc more)
-  pub is : n + width_in more left ≡ width_in 19 value + 1
-
 pub twenty : power 10 20 ≡ 10 ^ 20
 unfolding power
 twenty = refl
 
-pub wide-first : (value : ℕ) → value < 2 ^ 64 → Wide value 1 value
-wide-first value h = record { more = 19; all = refl; low = omega (arith, twenty); is = omega arith }
+-- ---- the digits of a sheet's decimals are those of any count
 
-wide-on : (value n left more : ℕ) → n + more ≡ 20 → left < power 10 (suc more)
-    → n + width_in more left ≡ width_in 19 value + 1 → 10 ≤ left → Wide value (n + 1) (left / 10)
+width-is : (k n v : ℕ) → n ≤ k → power 10 n ≤ v ⊎ (n ≡ 0) → v < power 10 (suc n) → width_in k v ≡ suc n
 unfolding width_in power
-wide-on value n left zero a l i h = absurd (let z : ⊥ = omega arith in z)
-wide-on value n left (suc k) a l i h =
-    let e : width_in (suc k) left ≡ width_in k (left / 10) + 1 = pick_no _ _ (le-ltb left 10 h) in
-    record { more = k; all = omega arith; low = omega arith; is = omega arith }
+width-is zero zero v l low high = refl
+width-is zero (suc n) v l low high = absurd (let z : ⊥ = omega arith in z)
+width-is (suc k) zero v l low high = pick_yes _ _ (lt-ltb v 10 (omega arith))
+width-is (suc k) (suc n) v l (inr z) high = absurd (let z : ⊥ = omega arith in z)
+width-is (suc k) (suc n) v l (inl low) high =
+    let some : 0 < power 10 n = power-some 10 n (omega arith) in
+    let more : 10 ≤ v = omega arith in
+    let e : width_in k (v / 10) ≡ suc n =
+    width-is k n (v / 10) (omega arith) (inl (let z : power 10 n ≤ v / 10 = omega arith in z)) (omega arith) in
+    pick_no _ _ (le-ltb v 10 more) ∙ ap (λ x. x + 1) e ∙ add-one (suc n)
 
-pub wide-next : {value n left : ℕ} → Wide value n left → 10 ≤ left → Wide value (n + 1) (left / 10)
-wide-next {value} {n} {left} w h = wide-on value n left w.more w.all w.low w.is h
+width-same : (v : ℕ) → v < 10000000000 → width_of v ≡ width_in 19 v
+unfolding width_of power
+width-same v h =
+    let P : ℕ → Type 0 = λ n. n ≡ width_in 19 v in
+    pick_all P (ltb v 10) 1 _
+    (λ e. sym (width-is 19 0 v (omega arith) (inr refl) (omega (arith, ltb-true v 10 e))))
+    (λ e1. pick_all P (ltb v 100) 2 _
+    (λ e. sym (width-is 19 1 v (omega arith) (inl (omega (arith, ltb-false v 10 e1)))
+    (omega (arith, ltb-true v 100 e))))
+    (λ e2. pick_all P (ltb v 1000) 3 _
+    (λ e. sym (width-is 19 2 v (omega arith) (inl (omega (arith, ltb-false v 100 e2)))
+    (omega (arith, ltb-true v 1000 e))))
+    (λ e3. pick_all P (ltb v 10000) 4 _
+    (λ e. sym (width-is 19 3 v (omega arith) (inl (omega (arith, ltb-false v 1000 e3)))
+    (omega (arith, ltb-true v 10000 e))))
+    (λ e4. pick_all P (ltb v 100000) 5 _
+    (λ e. sym (width-is 19 4 v (omega arith) (inl (omega (arith, ltb-false v 10000 e4)))
+    (omega (arith, ltb-true v 100000 e))))
+    (λ e5. pick_all P (ltb v 1000000) 6 _
+    (λ e. sym (width-is 19 5 v (omega arith) (inl (omega (arith, ltb-false v 100000 e5)))
+    (omega (arith, ltb-true v 1000000 e))))
+    (λ e6. pick_all P (ltb v 10000000) 7 _
+    (λ e. sym (width-is 19 6 v (omega arith) (inl (omega (arith, ltb-false v 1000000 e6)))
+    (omega (arith, ltb-true v 10000000 e))))
+    (λ e7. pick_all P (ltb v 100000000) 8 _
+    (λ e. sym (width-is 19 7 v (omega arith) (inl (omega (arith, ltb-false v 10000000 e7)))
+    (omega (arith, ltb-true v 100000000 e))))
+    (λ e8. pick_all P (ltb v 1000000000) 9 _
+    (λ e. sym (width-is 19 8 v (omega arith) (inl (omega (arith, ltb-false v 100000000 e8)))
+    (omega (arith, ltb-true v 1000000000 e))))
+    (λ e9. sym (width-is 19 9 v (omega arith) (inl (omega (arith, ltb-false v 1000000000 e9))) (omega arith)))))))))))
 
-one-digit : (more left : ℕ) → left < 10 → width_in more left ≡ 1
-unfolding width_in
-one-digit zero left h = refl
-one-digit (suc k) left h = pick_yes _ _ (lt-ltb left 10 h)
+pub decimal-numeral : (v : ℕ) → v < 10000000000 → decimal_of v ≡ numeral_of v
+decimal-numeral v h = ap (λ n. digits 10 n v) (width-same v h)
 
-pub wide-last : {value n left : ℕ} → Wide value n left → left < 10 → n ≡ width_in 19 value
-wide-last {value} {n} {left} w h = omega (arith, one-digit w.more left h, w.is)
+-- ---- by the logarithm
+
+power-is : (b k : ℕ) → power b k ≡ b ^ k
+unfolding power
+power-is b zero = simp unary_clauses
+power-is b (suc k) = ap (λ x. x * b) (power-is b k) ∙ sym (pow-suc b k)
+
+pub width-log : (n v : ℕ) → n < 20 → 10 ^ n ≤ v → v < 10 * 10 ^ n → n + 1 ≡ width_in 19 v
+unfolding power
+width-log n v few low high =
+    let p = power-is 10 n in
+    add-one n ∙ sym (width-is 19 n v (omega arith) (inl (omega arith)) (omega arith))
+
+pub width-none : (v : ℕ) → v ≡ 0 → 1 ≡ width_in 19 v
+unfolding width_in pick
+width-none v e = rw e refl

@@ -1,24 +1,24 @@
 -- No forecast is printed with more than 771 bytes: so the lent 1,024 always suffice.
 use Prim.Native.Nat.{ℕ, ◌*◌, ◌≤◌}
-use mathlib.Core.Path.{◌≡◌, refl}
+use mathlib.Core.Path.{◌≡◌, refl, sym, ap, ◌∙◌}
 use mathlib.Core.List.{List, [], ◌∷◌}
 use native.Mathlib.Omega.{arith}
 use lib.Ieee.{Float}
 use lib.ListN.{length, take, length-append, length-take}
+use Rattle.std.specs.Prelude.{Ok, Err, IfOk}
 use Rattle.words.specs.Loop.{pick}
 use Rattle.state.specs.declared.run.Status.{Status}
 use Rattle.state.specs.declared.run.Status.TheVariants as status
 use Rattle.state.specs.declared.talk.IntegrationResult.{IntegrationResult}
 use Rattle.state.specs.Numbers.{status_number, refusal_number}
-use Rattle.sheet.specs.Reader.{over}
 use Rattle.sheet.proofs.Inverse.{length_digits}
-use Rattle.forecast_text.specs.declared.ending.Ending.{Ending}
-use Rattle.forecast_text.specs.declared.ending.Ending.TheVariants as ending
-use Rattle.forecast_text.specs.declared.ending.Forecast.{Forecast}
+use Rattle.forecast_text.specs.declared.ending.ForecastError.{ForecastError}
+use Rattle.forecast_text.specs.declared.ending.ForecastError.TheVariants.{Opening, Malformed, TooLong}
+use Rattle.forecast_text.specs.declared.ending.Reached.{Reached}
 use Rattle.forecast_text.specs.Printed.{text, width_in, numeral_of, float_of, status_line}
-use Rattle.forecast_text.specs.Printed.{amounts_text, ending_text, printed_of}
-use Rattle.forecast_text.specs.Put.{Put}
-use Rattle.forecast_text.proofs.PutLaws.{put-over}
+use Rattle.forecast_text.specs.Printed.{amounts_text, reached_text, refusal_text, Forecast, printed_of}
+use Rattle.forecast_text.specs.Put.{put}
+use Rattle.forecast_text.proofs.PutLaws.{put-whole}
 use Rattle.forecast_text.proofs.DigitLaws.{width_few}
 
 pub numeral-few : (v : ℕ) → length (numeral_of v) ≤ 20
@@ -56,9 +56,9 @@ status-few r =
       numeral-few c.lu,
     ))
 
-ending-few : (e : Ending) (ys : List Float) → length ys ≡ 32 → length (ending_text e ys) ≤ 771
-unfolding ending_text text
-ending-few (ending.Ended e) ys h =
+reached-few : (e : Reached) → length e.amounts ≡ 32 → length (reached_text e) ≤ 771
+unfolding text
+reached-few e h =
     simp length-append
     (omega (
       arith,
@@ -66,19 +66,30 @@ ending-few (ending.Ended e) ys h =
       length_float e.result.x,
       length_float e.result.smallest,
       length_float e.result.largest,
-      length-amounts (take e.species ys),
-      length-take e.species ys,
+      length-amounts (take e.species e.amounts),
+      length-take e.species e.amounts,
     ))
-ending-few (ending.Refused x) ys h = simp length-append (omega (arith, numeral-few (refusal_number x)))
-ending-few (ending.Malformed k) ys h = simp length-append (omega (arith, numeral-few k))
-ending-few ending.TooLong ys h = omega arith
+
+refusal-few : (e : ForecastError) → length (refusal_text e) ≤ 771
+unfolding refusal_text text
+refusal-few (Opening x) = simp length-append (omega (arith, numeral-few (refusal_number x)))
+refusal-few (Malformed k) = simp length-append (omega (arith, numeral-few k))
+refusal-few TooLong = omega arith
 
 -- an array of amounts has 32 of them
-pub printed-few-proof : (f : Forecast) → length f.amounts ≡ 32 → length (printed_of f) ≤ 771
-printed-few-proof f h = ending-few f.ending f.amounts h
+pub printed-few-proof : (f : Forecast) → IfOk f (λ e. length e.amounts ≡ 32) → length (printed_of f) ≤ 771
+unfolding printed_of
+printed-few-proof (Ok e) h = reached-few e h
+printed-few-proof (Err x) h = refusal-few x
 
--- what `print` is to ensure, where the bytes of the ending were put from the start
-pub answered : (f : Forecast) (e : Ending) {m₀ m₁ : List ℕ} {r : ℕ} → f.ending ≡ e → length f.amounts ≡ 32
-    → Put 0 (ending_text e f.amounts) m₀ m₁ r
-    → (m₁ ≡ over (printed_of f) m₀) × ((r ≡ length (printed_of f)) × (r ≤ 1024))
-answered f e is h p = rw is (put-over p, (omega arith, omega (arith, ending-few e f.amounts h)))
+-- what was put of g into fresh room is what is printed of f
+pub answered : (f g : Forecast) {before after : List ℕ} → f ≡ g → IfOk g (λ e. length e.amounts ≡ 32) → before ≡ []
+    → after ≡ put 1024 before (printed_of g) → after ≡ printed_of f
+answered f g {before} {after} is h fresh p =
+    let few : length (printed_of g) ≤ 1024 = omega (arith, printed-few-proof g h) in
+    p ∙ ap (λ m. put 1024 m (printed_of g)) fresh ∙ put-whole 1024 (printed_of g) few ∙ ap printed_of (sym is)
+
+pub refused : (f : Forecast) (x y : ForecastError) {before after : List ℕ} → f ≡ Err x → x ≡ y → before ≡ []
+    → after ≡ put 1024 before (refusal_text y) → after ≡ printed_of f
+unfolding printed_of
+refused f x y is same fresh p = answered f (Err y) (is ∙ ap Err same) tt fresh p

@@ -1,30 +1,26 @@
 -- Numbers with their names, and amounts, one behind the other.
-use Prim.Native.Nat.{ℕ, zero, suc, ◌+◌, ◌<◌}
-use mathlib.Core.Path.{◌≡◌, refl, sym, ap, ◌∙◌}
+use Prim.Native.Nat.{ℕ, zero, suc, ◌+◌, ◌-◌, ◌<◌}
+use mathlib.Core.Path.{◌≡◌, sym, ap, ◌∙◌}
 use mathlib.Core.List.{List, [], ◌∷◌, ◌++◌, append_assoc, append-nil}
 use native.Mathlib.Numerals.{add-one}
 use native.Mathlib.Omega.{arith}
-use borrow.Author.Tests.{ltb-false}
-use lib.Dec.{ltb}
 use lib.Ieee.{Float, nan}
 use lib.ListN.{length, get_or, take}
-use lib.Seq.{take_all}
-use Rattle.words.specs.Loop.{pick}
-use Rattle.words.proofs.Branch.{pick_all}
+use Rattle.std.specs.Prelude.{min}
+use Rattle.std.proofs.lemmas.List.{take_min}
 use Rattle.forecast_text.specs.Printed.{text, float_of, amounts_text}
-use Rattle.forecast_text.specs.Put.{Put}
-use Rattle.forecast_text.proofs.PutLaws.{put_then}
+use Rattle.forecast_text.specs.Put.{put}
+use Rattle.forecast_text.proofs.PutLaws.{put-then}
 
-pub put-named : {at next last : ℕ} {xs m₀ m₁ m₂ : List ℕ} (name number : List ℕ) → Put at xs m₀ m₁ next
-    → Put next (name ++ number) m₁ m₂ last
-    → Put at (xs ++ name ++ number) m₀ m₂ last
-put-named name number p q = rw append_assoc (put_then p q)
+pub put-named : (room : ℕ) (before xs name number : List ℕ) {mid after : List ℕ} → mid ≡ put room before xs
+    → after ≡ put room mid (name ++ number) → after ≡ put room before (xs ++ name ++ number)
+put-named room before xs name number p q = rw append_assoc (put-then room before xs (name ++ number) p q)
 
 -- there are no more amounts than the array has
-pub few-taken : (n : ℕ) (ys : List Float) → length ys ≡ 32 → take (pick (ltb n 32) n 32) ys ≡ take n ys
-few-taken n ys h =
-    pick_all (λ k. take k ys ≡ take n ys) (ltb n 32) n 32 (λ e. refl)
-    (λ e. take_all 32 ys (omega arith) ∙ sym (take_all n ys (omega (arith, ltb-false n 32 e))))
+pub few-taken : (n k : ℕ) (ys : List Float) → length ys ≡ 32 → k ≡ min n 32 → take (k - 0) ys ≡ take n ys
+few-taken n k ys h e =
+    let few : k - 0 ≡ min n (length ys) = omega arith in
+    ap (λ i. take i ys) few ∙ take_min n ys
 
 amounts-one : (ys : List Float) (i : ℕ) → i < length ys
     → amounts_text (take (suc i) ys) ≡ amounts_text (take i ys) ++ (text " " ++ float_of (get_or ys i nan))

@@ -1,14 +1,17 @@
 -- Bytes put into memory: one text behind another is both in a row, the last byte may be put first, and bytes put from
 -- the start stand over the first entries.
-use Prim.Native.Nat.{ℕ, suc, ◌+◌, ◌≤◌, ◌<◌}
+use Prim.Native.Nat.{ℕ, zero, suc, ◌+◌, ◌-◌, ◌≤◌}
 use mathlib.Core.Path.{◌≡◌, refl, sym, ap, ◌∙◌}
-use mathlib.Core.List.{List, [], ◌∷◌, ◌++◌}
+use mathlib.Core.List.{List, [], ◌∷◌, ◌++◌, append_assoc, append-nil}
 use native.Mathlib.Omega.{arith}
-use lib.ListN.{length, get_or, set, drop, length-append, drop_of_length-le}
-use lib.Seq.{sets, set_comm}
+use lib.ListN.{length, set, take, drop, length-append}
+use lib.Seq.{sets, sets-eq, set_comm, take_all, take-append_seam}
+use Rattle.std.proofs.lemmas.List.{length-take, take_min}
+use borrow.Rule.Slice.PartMut.{put_mid}
+use Rattle.std.proofs.lemmas.Slice.{put_mid-paste}
+use Rattle.std.specs.Prelude.{min}
 use Rattle.sheet.specs.Reader.{over}
-use Rattle.sheet.proofs.DigitsLaws.{drop_more}
-use Rattle.forecast_text.specs.Put.{Put}
+use Rattle.forecast_text.specs.Put.{Put, put}
 
 -- ---- one behind the other
 
@@ -31,21 +34,14 @@ put_then {at} {next} {last} {xs} {ys} {m₀} p q =
           ∙ sym (sets-append xs ys m₀ at);
     }
 
--- ---- a text, byte by byte
+-- ---- a text over as many bytes
 
-pub text-first : (at : ℕ) (bytes m : List ℕ) → sets m (at + 0) bytes ≡ sets m at bytes
-text-first at bytes m = let e : at + 0 ≡ at = omega arith in ap (λ k. sets m k bytes) e
-
-module _ (at i : ℕ) (bytes m : List ℕ) where
-  pub text-more : i < length bytes
-      → sets (set m (at + i) (get_or bytes i 0)) (at + (i + 1)) (drop (i + 1) bytes) ≡ sets m (at + i) (drop i bytes)
-  text-more h =
-      let e : at + (i + 1) ≡ suc (at + i) = omega arith in
-      ap (λ k. sets (set m (at + i) (get_or bytes i 0)) k (drop (i + 1) bytes)) e
-      ∙ ap (λ l. sets m (at + i) l) (sym (drop_more bytes i h))
-
-  pub text-all : length bytes ≤ i → m ≡ sets m (at + i) (drop i bytes)
-  text-all h = ap (λ l. sets m (at + i) l) (sym (drop_of_length-le bytes h))
+pub text-copied : (at k : ℕ) (m copied bytes : List ℕ) → copied ≡ bytes → at + length bytes ≤ length m
+    → k ≡ at + length bytes - at → put_mid at k m copied ≡ sets m at bytes
+text-copied at k m copied bytes e h n =
+    put_mid-paste at k m copied bytes (length bytes) e (omega arith) refl
+    ∙ ap (λ l. take at m ++ l ++ drop (at + length bytes) m) (take_all (length bytes) bytes (omega arith))
+    ∙ sym (sets-eq bytes m at h)
 
 -- ---- the last byte first
 
@@ -75,3 +71,70 @@ sets_over (v ∷ vs) (x ∷ m) = sets_behind vs m v 0 ∙ ap (λ l. v ∷ l) (se
 
 pub put-over : {bytes m₀ m₁ : List ℕ} {next : ℕ} → Put 0 bytes m₀ m₁ next → m₁ ≡ over bytes m₀
 put-over {bytes} {m₀} p = p.is ∙ sets_over bytes m₀
+
+-- no more of a text is put over memory than finds room there
+over-cut : (vs m : List ℕ) → over (take (length m) vs) m ≡ over vs m
+unfolding over
+over-cut [] [] = refl
+over-cut [] (x ∷ m) = refl
+over-cut (v ∷ vs) [] = refl
+over-cut (v ∷ vs) (x ∷ m) = ap (λ l. v ∷ l) (over-cut vs m)
+
+pub put-first : {m₀ m₁ : List ℕ} {next : ℕ} (k : ℕ) (text : List ℕ) → k ≡ min (length m₀) (length text)
+    → Put 0 (take k text) m₀ m₁ next → m₁ ≡ over text m₀
+put-first {m₀} k text e p =
+    put-over p ∙ ap (λ i. over (take i text) m₀) e ∙ ap (λ l. over l m₀) (take_min (length m₀) text) ∙ over-cut text m₀
+
+pub put-cut : {bytes m₀ m₁ : List ℕ} {next : ℕ} (n : ℕ) → Put 0 bytes m₀ m₁ next → length bytes ≡ n → n ≤ length m₀
+    → take n m₁ ≡ bytes
+put-cut {bytes} {m₀} {m₁} n p e h =
+    let fits : 0 + length bytes ≤ length m₀ = omega arith in
+    ap (λ k. take k m₁) (sym e) ∙ ap (λ m. take (length bytes) m) (p.is ∙ sets-eq bytes m₀ 0 fits)
+    ∙ take-append_seam bytes (drop (0 + length bytes) m₀)
+
+-- ---- behind a text that has room of its own
+
+kept : (n : ℕ) (xs ys : List ℕ) → take n xs ++ take (n - length (take n xs)) ys ≡ take n (xs ++ ys)
+kept zero xs ys = refl
+kept (suc n) [] ys = let e : suc n - 0 ≡ suc n = omega arith in ap (λ k. take k ys) e
+kept (suc n) (x ∷ xs) ys =
+    let e : suc n - suc (length (take n xs)) ≡ n - length (take n xs) = omega arith in
+    ap (λ k. x ∷ (take n xs ++ take k ys)) e ∙ ap (λ l. x ∷ l) (kept n xs ys)
+
+pub put-nothing : (room : ℕ) (before : List ℕ) → put room before [] ≡ before
+unfolding put
+put-nothing room before = ap (λ l. before ++ l) (take_all (room - length before) [] (omega arith)) ∙ append-nil before
+
+pub put-put : (room : ℕ) (before xs ys : List ℕ) → put room (put room before xs) ys ≡ put room before (xs ++ ys)
+unfolding put
+put-put room before xs ys =
+    let n = room - length before in
+    let e : room - length (before ++ take n xs) ≡ n - length (take n xs) =
+    omega (arith, length-append before (take n xs)) in
+    ap (λ k. before ++ take n xs ++ take k ys) e ∙ append_assoc before (take n xs) (take (n - length (take n xs)) ys)
+    ∙ ap (λ l. before ++ l) (kept n xs ys)
+
+pub put-then : (room : ℕ) (before xs ys : List ℕ) {mid after : List ℕ} → mid ≡ put room before xs
+    → after ≡ put room mid ys → after ≡ put room before (xs ++ ys)
+put-then room before xs ys p q = q ∙ ap (λ m. put room m ys) p ∙ put-put room before xs ys
+
+-- a text that its room is enough for
+pub put-whole : (room : ℕ) (bytes : List ℕ) → length bytes ≤ room → put room [] bytes ≡ bytes
+unfolding put
+put-whole room bytes h = take_all (room - 0) bytes (omega arith)
+
+pub put-copied : {room count next : ℕ} {memory before after part : List ℕ} (bytes : List ℕ) → length memory ≡ room
+    → count ≤ room → take count memory ≡ before → part ≡ take (min (room - count) (length bytes)) bytes
+    → Put count part memory after next → take next after ≡ put room before bytes
+unfolding put
+put-copied {room} {count} {next} {memory} {before} {after} {part} bytes m n b t p =
+    let long : length before ≡ count = omega (arith, ap length b, length-take count memory) in
+    let left : room - count ≡ room - length before = omega arith in
+    let fits : count + length part ≤ length memory =
+    omega (arith, ap length t, length-take (min (room - count) (length bytes)) bytes) in
+    let written : after ≡ (before ++ part) ++ drop (count + length part) memory =
+    p.is ∙ sets-eq part memory count fits ∙ ap (λ l. l ++ part ++ drop (count + length part) memory) b in
+    let whole : next ≡ length (before ++ part) = omega (arith, p.ends, length-append before part) in
+    ap (λ n. take n after) whole ∙ ap (λ l. take (length (before ++ part)) l) written
+    ∙ take-append_seam (before ++ part) (drop (count + length part) memory)
+    ∙ ap (λ l. before ++ l) (t ∙ take_min (room - count) bytes ∙ ap (λ n. take n bytes) left)

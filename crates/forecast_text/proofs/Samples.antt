@@ -12,10 +12,9 @@ use Rattle.state.specs.declared.run.Status.TheVariants.{Success}
 use Rattle.state.specs.declared.talk.Blame.TheVariants.{Untold}
 use Rattle.state.specs.declared.talk.Refusal.TheVariants.{MinStep}
 use Rattle.sheet.specs.Digits.{byte_of, power, digits}
-use Rattle.forecast_text.specs.declared.ending.Forecast.{Forecast}
-use Rattle.forecast_text.specs.declared.ending.Ending.{Ending}
-use Rattle.forecast_text.specs.declared.ending.Ending.TheVariants as ending
-use Rattle.forecast_text.specs.Printed.{text, width_in, amounts_text, ending_text, printed_of}
+use Rattle.std.specs.Prelude.{Ok, Err}
+use Rattle.forecast_text.specs.declared.ending.ForecastError.TheVariants.{Opening, Malformed, TooLong}
+use Rattle.forecast_text.specs.Printed.{text, width_in, amounts_text, refusal_text, Forecast, printed_of}
 
 abbrev counted : Counts
 counted = record { ode = 33; jac = 8; lu = 24; total = 8; accepted = 8; rejected = 0 }
@@ -23,13 +22,10 @@ counted = record { ode = 33; jac = 8; lu = 24; total = 8; accepted = 8; rejected
 abbrev pub one : Float
 one = double 0x3ff0_0000_0000_0000
 
-abbrev pub told : Ending → Forecast
-told e = record { ending = e; amounts = replicate 32 one }
-
 -- the end of a run with these counts, at x, with so many amounts, each 1, and strides from 2^-10 to 1
 abbrev pub ended : Float → ℕ → Forecast
 ended x n =
-    told (ending.Ended (record {
+    Ok (record {
       result = record {
         h = one;
         x = x;
@@ -40,28 +36,29 @@ ended x n =
         largest = one;
       };
       species = n;
-    }))
+      amounts = replicate 32 one;
+    })
 
 pub decayed-printed : printed_of (ended one 1)
     ≡ text "status 0 accepted 8 rejected 0 total 8 ode 33 jac 8 lu 24\nx 3ff0000000000000\ny 3ff0000000000000\n"
     ++ text "h 3f50000000000000 3ff0000000000000\n"
-unfolding ending_text text amounts_text width_in digits byte_of power pick ne of_bits to_bits
+unfolding printed_of text amounts_text width_in digits byte_of power pick ne of_bits to_bits
 decayed-printed = refl
 
 pub nan-printed : printed_of (ended nan 0)
     ≡ text "status 0 accepted 8 rejected 0 total 8 ode 33 jac 8 lu 24\nx 7ff8000000000000\ny\n"
     ++ text "h 3f50000000000000 3ff0000000000000\n"
-unfolding ending_text text amounts_text width_in digits byte_of power pick ne of_bits to_bits
+unfolding printed_of text amounts_text width_in digits byte_of power pick ne of_bits to_bits
 nan-printed = refl
 
-pub refused-printed : printed_of (told (ending.Refused MinStep)) ≡ text "refused 12\n"
-unfolding ending_text text width_in digits byte_of power pick
+pub refused-printed : printed_of (Err (Opening MinStep)) ≡ text "refused 12\n"
+unfolding printed_of refusal_text text width_in digits byte_of power pick
 refused-printed = refl
 
-pub malformed-printed : printed_of (told (ending.Malformed 107)) ≡ text "refused 20 107\n"
-unfolding ending_text text width_in digits byte_of power pick
+pub malformed-printed : printed_of (Err (Malformed 107)) ≡ text "refused 20 107\n"
+unfolding printed_of refusal_text text width_in digits byte_of power pick
 malformed-printed = refl
 
-pub too-long-printed : printed_of (told ending.TooLong) ≡ text "refused 21\n"
-unfolding ending_text text
+pub too-long-printed : printed_of (Err TooLong) ≡ text "refused 21\n"
+unfolding printed_of refusal_text text
 too-long-printed = refl

@@ -1,3 +1,4 @@
 -- In order of reading.
 pub mod Printed
 pub mod Put
+pub mod Unread

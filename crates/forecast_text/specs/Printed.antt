@@ -1,7 +1,7 @@
 -- The bytes that are printed of a forecast (01, 'Sheet and program'): 'status, six counts, the point reached, all
 -- amounts on one line; one space between, a NaN as 7ff8000000000000', then the two strides (02, [7]); or `refused` and
 -- the number, with the line after 20. Each line is ended by LF.
-use Rattle.std.specs.Prelude.{ℕ, zero, suc, ◌+◌, ◌/◌, List, [], ◌∷◌, ◌++◌, ltb, take, Float}
+use Rattle.std.specs.Prelude.{ℕ, zero, suc, ◌+◌, ◌/◌, List, [], ◌∷◌, ◌++◌, ltb, take, Float, Result, Ok, Err}
 use Prim.Native.Char.{code}
 use Prim.Native.String.{String, [] as nothing, ◌∷◌ as ◌then◌}
 use Rattle.words.specs.Loop.{pick}
@@ -10,9 +10,8 @@ use Rattle.state.specs.Numbers.{refusal_number, status_number}
 use Rattle.bits.specs.Pattern.{pattern_of}
 use Rattle.sheet.specs.Digits.{digits, hex_of}
 use Rattle.forecast_text.specs.declared.ending.Reached.{Reached}
-use Rattle.forecast_text.specs.declared.ending.Ending.{Ending}
-use Rattle.forecast_text.specs.declared.ending.Ending.TheVariants as ending
-use Rattle.forecast_text.specs.declared.ending.Forecast.{Forecast}
+use Rattle.forecast_text.specs.declared.ending.ForecastError.{ForecastError}
+use Rattle.forecast_text.specs.declared.ending.ForecastError.TheVariants.{Opening, Malformed, TooLong}
 
 -- ---- words and numbers
 
@@ -53,16 +52,20 @@ abbrev pub stride_line : IntegrationResult → List ℕ
 stride_line r = text "h " ++ float_of r.smallest ++ text " " ++ float_of r.largest ++ text "\n"
 
 -- all amounts, of those that stand in the array
-abbrev pub reached_text : Reached → List Float → List ℕ
-reached_text e amounts =
+abbrev pub reached_text : Reached → List ℕ
+reached_text e =
     status_line e.result ++ text "x " ++ float_of e.result.x ++ text "\n" ++ text "y"
-    ++ amounts_text (take e.species amounts) ++ text "\n" ++ stride_line e.result
+    ++ amounts_text (take e.species e.amounts) ++ text "\n" ++ stride_line e.result
 
-unfoldable pub ending_text : Ending → List Float → List ℕ
-ending_text (ending.Ended e) amounts = reached_text e amounts
-ending_text (ending.Refused x) amounts = text "refused " ++ numeral_of (refusal_number x) ++ text "\n"
-ending_text (ending.Malformed k) amounts = text "refused 20 " ++ numeral_of k ++ text "\n"
-ending_text ending.TooLong amounts = text "refused 21\n"
+unfoldable pub refusal_text : ForecastError → List ℕ
+refusal_text (Opening x) = text "refused " ++ numeral_of (refusal_number x) ++ text "\n"
+refusal_text (Malformed k) = text "refused 20 " ++ numeral_of k ++ text "\n"
+refusal_text TooLong = text "refused 21\n"
 
-abbrev pub printed_of : Forecast → List ℕ
-printed_of f = ending_text f.ending f.amounts
+-- what became of a sheet: the end of its run, or why it has none
+abbrev pub Forecast : Type 0
+Forecast = Result Reached ForecastError
+
+unfoldable pub printed_of : Forecast → List ℕ
+printed_of (Ok e) = reached_text e
+printed_of (Err x) = refusal_text x

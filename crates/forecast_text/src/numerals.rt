@@ -1,9 +1,12 @@
 // What numbers are put into memory with, for every crate that does: the byte of a digit, and how many there are.
-ghost use Rattle.std.specs.Prelude.{◌%◌, ◌≡◌};
-ghost use Rattle.sheet.specs.Digits.{byte_of};
+ghost use Rattle.std.specs.Prelude.{◌%◌, ◌≤◌, ◌<◌, ◌≡◌, take};
+ghost use Rattle.sheet.specs.Digits.{byte_of, power, digits};
 ghost use Rattle.forecast_text.specs.Printed.{width_in};
 
 use bits::{BYTE_0, TEN_BELOW_A};
+
+// As many digits as a number may have, in any base from ten to sixteen.
+const DIGITS: usize = 20;
 
 // The byte of a number's last hexadecimal digit.
 pub fn digit_byte(number: u64) -> u8
@@ -18,13 +21,28 @@ pub fn digit_byte(number: u64) -> u8
 
 // How many decimal digits a number has.
 pub fn decimal_width(value: u64) -> usize
-    ensures { result ≡ width_in 19 value }
+    ensures value { result ≡ width_in 19 value }
+    ensures upper_bound { result ≤ 20 }
 {
-    let mut left = value;
-    let mut n: usize = 1;
-    while 10 <= left {
-        left = left / 10;
-        n += 1;
+    if value == 0 {
+        1
+    } else {
+        value.ilog10() as usize + 1
     }
-    n
+}
+
+// The digits of a number that `width` digits of a base can spell, in the first of the room.
+pub fn digits_of(base: u64, width: usize, value: u64) -> [u8; DIGITS]
+    requires width { width ≤ 20 }
+    requires base { (2 ≤ base) × (base ≤ 16) }
+    requires spelt { value < power base width }
+    ensures { take width result ≡ digits base width value }
+{
+    let mut digits = [0; DIGITS];
+    let mut rest = value;
+    for place in (0..width).rev() {
+        digits[place] = digit_byte(rest % base);
+        rest = rest / base;
+    }
+    digits
 }

@@ -14,8 +14,6 @@ use Rattle.state.specs.declared.run.Stage.{Stage}
 use Rattle.state.specs.declared.run.Stage.TheVariants as stage
 use Rattle.state.specs.declared.run.Status.TheVariants as status
 use Rattle.state.specs.declared.run.Tolerances.TheVariants.{Scalars}
-use Rattle.state.specs.declared.talk.Answer.{Answer}
-use Rattle.state.specs.declared.talk.Answer.TheVariants as answer
 use Rattle.state.specs.declared.talk.Place.TheVariants.{Nowhere}
 use Rattle.state.specs.declared.talk.Refusal.TheVariants.{Unfit}
 use Rattle.state.specs.declared.talk.Reply.{Reply}
@@ -34,6 +32,8 @@ use Rattle.solve_blocks.specs.Advance.{advance_by, started_of, replied_of, calle
 use Rattle.solve_blocks.specs.Attempt.{stage_sum_at, ask_stage_of}
 use Rattle.solve_blocks.specs.Matrices.{passes_of, pass_at}
 use Rattle.solve_blocks.specs.Report.{reported_of}
+use Rattle.std.specs.Prelude.{Ok, Err}
+use Rattle.state.specs.Talk.{Answer, call, refused}
 
 -- what a solver is, for one advance, and what the definition asks of it
 abbrev pub Solver : Type 0
@@ -75,14 +75,14 @@ sample_at s =
 
 -- the first advance is admitted, and asks for a report
 first-asks : (advance_of (sample_at stage.FirstDerivative) reply.Filled sample_memory).core.answer
-    ≡ answer.Asked (sample_at stage.FirstReport) (request.Report «0·0» «0·0» false) Nowhere
+    ≡ Ok (call (sample_at stage.FirstReport) (request.Report «0·0» «0·0» false) Nowhere)
 unfolding advance_by replied_of called_of passes_of pass_at loop pick verdict_of amounts_fit newton_fit given_fit
     factors_fit differences_fit asking_at answers_report stray stray_at le of_bits
 first-asks = refl
 
 -- an interrupt at that report is answered by the end, with its status
 interrupt-ends : (advance_of (sample_at stage.FirstReport) reply.Interrupt sample_memory).core.answer
-    ≡ answer.Asked (sample_at (stage.Ended status.UserInterrupt)) (request.Ended status.UserInterrupt) Nowhere
+    ≡ Ok (call (sample_at (stage.Ended status.UserInterrupt)) (request.Ended status.UserInterrupt) Nowhere)
 unfolding advance_by replied_of called_of passes_of pass_at loop pick verdict_of amounts_fit newton_fit given_fit
     factors_fit differences_fit asking_at answers_report stray stray_at le of_bits started_of reported_of
 interrupt-ends = refl
@@ -109,8 +109,8 @@ not-held = refl
 
 -- whether an answer is a refusal, and whether it is the end with an interrupt
 abbrev refuses : Answer → Bool
-refuses (answer.Asked r q p) = false
-refuses (answer.Refused r x) = true
+refuses (Ok c) = false
+refuses (Err e) = true
 
 abbrev interrupts : Request → Bool
 interrupts (request.Derivative x) = false
@@ -123,12 +123,12 @@ interrupts (request.Ended status.StepSizeTooSmall) = false
 interrupts (request.Ended status.SingularMatrix) = false
 
 abbrev interrupted : Answer → Bool
-interrupted (answer.Asked r q p) = interrupts q
-interrupted (answer.Refused r x) = false
+interrupted (Ok c) = interrupts c.request
+interrupted (Err e) = false
 
 -- refuses everything
 abbrev pub refuses_all : Solver
-refuses_all r p m = advance_outcome (answer.Refused r Unfit) m
+refuses_all r p m = advance_outcome (Err (refused r Unfit)) m
 
 pub not-refuses-all : Meets refuses_all → ⊥
 not-refuses-all meets =
@@ -152,8 +152,8 @@ not-always o meets =
 
 -- does nothing: the run comes back as it went in, whatever is asked along with it
 abbrev run_in : Answer → Run
-run_in (answer.Asked r q p) = r
-run_in (answer.Refused r x) = r
+run_in (Ok c) = c.run
+run_in (Err e) = e.run
 
 abbrev pub DoesNothing : Solver → Type 0
 DoesNothing s = (r : Run) (p : Reply) (m : Memory) → run_in (s r p m).answer ≡ r
@@ -195,18 +195,18 @@ not-writes-nothing s nothing meets =
 -- is right at the first advance, and later ends with Success
 unfoldable pub right_at : Stage → Solver
 right_at stage.FirstDerivative r p m = (advance_of r p m).core
-right_at stage.FirstReport r p m = advance_outcome (answer.Asked r (request.Ended status.Success) Nowhere) m
-right_at stage.FirstDerivativeAgain r p m = advance_outcome (answer.Asked r (request.Ended status.Success) Nowhere) m
-right_at stage.Jacobian r p m = advance_outcome (answer.Asked r (request.Ended status.Success) Nowhere) m
-right_at (stage.Column c) r p m = advance_outcome (answer.Asked r (request.Ended status.Success) Nowhere) m
-right_at stage.Newton1 r p m = advance_outcome (answer.Asked r (request.Ended status.Success) Nowhere) m
-right_at stage.Newton2 r p m = advance_outcome (answer.Asked r (request.Ended status.Success) Nowhere) m
-right_at stage.Newton3 r p m = advance_outcome (answer.Asked r (request.Ended status.Success) Nowhere) m
-right_at stage.Refinement r p m = advance_outcome (answer.Asked r (request.Ended status.Success) Nowhere) m
-right_at stage.Accepted r p m = advance_outcome (answer.Asked r (request.Ended status.Success) Nowhere) m
-right_at stage.Report r p m = advance_outcome (answer.Asked r (request.Ended status.Success) Nowhere) m
-right_at stage.DerivativeAgain r p m = advance_outcome (answer.Asked r (request.Ended status.Success) Nowhere) m
-right_at (stage.Ended s) r p m = advance_outcome (answer.Asked r (request.Ended status.Success) Nowhere) m
+right_at stage.FirstReport r p m = advance_outcome (Ok (call r (request.Ended status.Success) Nowhere)) m
+right_at stage.FirstDerivativeAgain r p m = advance_outcome (Ok (call r (request.Ended status.Success) Nowhere)) m
+right_at stage.Jacobian r p m = advance_outcome (Ok (call r (request.Ended status.Success) Nowhere)) m
+right_at (stage.Column c) r p m = advance_outcome (Ok (call r (request.Ended status.Success) Nowhere)) m
+right_at stage.Newton1 r p m = advance_outcome (Ok (call r (request.Ended status.Success) Nowhere)) m
+right_at stage.Newton2 r p m = advance_outcome (Ok (call r (request.Ended status.Success) Nowhere)) m
+right_at stage.Newton3 r p m = advance_outcome (Ok (call r (request.Ended status.Success) Nowhere)) m
+right_at stage.Refinement r p m = advance_outcome (Ok (call r (request.Ended status.Success) Nowhere)) m
+right_at stage.Accepted r p m = advance_outcome (Ok (call r (request.Ended status.Success) Nowhere)) m
+right_at stage.Report r p m = advance_outcome (Ok (call r (request.Ended status.Success) Nowhere)) m
+right_at stage.DerivativeAgain r p m = advance_outcome (Ok (call r (request.Ended status.Success) Nowhere)) m
+right_at (stage.Ended s) r p m = advance_outcome (Ok (call r (request.Ended status.Success) Nowhere)) m
 
 abbrev pub pretends : Solver
 pretends r p m = right_at r.stage r p m

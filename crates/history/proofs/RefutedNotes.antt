@@ -13,12 +13,8 @@ use Rattle.words.specs.Grid.{at, put}
 use Rattle.matrix.specs.Elimination.{single, worked, answered}
 use Rattle.matrix.specs.Lu.{is_zero, lu_decomp_of}
 use Rattle.state.specs.declared.run.Run.{Run}
-use Rattle.state.specs.declared.run.Singular.{Singular}
-use Rattle.state.specs.declared.run.Singular.TheVariants as singular
 use Rattle.state.specs.declared.run.Stage.{Stage}
 use Rattle.state.specs.declared.run.Stage.TheVariants as stage
-use Rattle.state.specs.declared.talk.Answer.{Answer}
-use Rattle.state.specs.declared.talk.Answer.TheVariants as answer
 use Rattle.state.specs.declared.talk.Reply.TheVariants as reply
 use Rattle.state.specs.declared.talk.Request.{Request}
 use Rattle.state.specs.declared.talk.Request.TheVariants as request
@@ -36,20 +32,24 @@ use Rattle.solve_blocks.specs.Matrices.{passes_of}
 use Rattle.solve_blocks.specs.Matrices.{pass_at}
 use Rattle.solve_blocks.specs.Report.{is_due, ask_report}
 use Rattle.history.proofs.Refuted.{Solver, Meets, sample_at, sample_memory}
+use Rattle.std.specs.Prelude.{None, Some, Option, Ok, Err}
+use Rattle.state.specs.declared.run.Singular.{Singular}
+use Rattle.state.specs.Talk.{Answer, call, refused}
+use Rattle.state.specs.declared.run.Singular.TheVariants.{Real, Complex}
 
 -- a run whose latest is E2's column 5: no test looks at it
 abbrev noted : Stage → Run
-noted s = sample_at s ▸ in_numbers (set_h «1·0») ▸ in_notes (set_latest (singular.Complex 5))
+noted s = sample_at s ▸ in_numbers (set_h «1·0») ▸ in_notes (set_latest (Some (Complex 5)))
 
 -- whether it still is
-abbrev is_fifth : Singular → Bool
-is_fifth singular.None = false
-is_fifth (singular.Real k) = false
-is_fifth (singular.Complex k) = eqb k 5
+abbrev is_fifth : Option Singular → Bool
+is_fifth None = false
+is_fifth (Some (Real k)) = false
+is_fifth (Some (Complex k)) = eqb k 5
 
 abbrev says_fifth : Answer → Bool
-says_fifth (answer.Asked r q p) = is_fifth r.notes.singular
-says_fifth (answer.Refused r x) = false
+says_fifth (Ok c) = is_fifth c.run.notes.singular
+says_fifth (Err e) = false
 
 abbrev says_fifth_of : AdvanceOutcome → Bool
 says_fifth_of o = says_fifth o.answer
@@ -59,12 +59,12 @@ says_fifth_of o = says_fifth o.answer
 abbrev forgotten : Request → Run → Run
 forgotten (request.Derivative x) r = r
 forgotten (request.Jacobian x) r = r
-forgotten (request.Report xold x offered) r = r ▸ in_notes (set_latest singular.None)
+forgotten (request.Report xold x offered) r = r ▸ in_notes (set_latest None)
 forgotten (request.Ended s) r = r
 
 abbrev forgetting : Answer → Answer
-forgetting (answer.Asked r q p) = answer.Asked (forgotten q r) q p
-forgetting (answer.Refused r x) = answer.Refused r x
+forgetting (Ok c) = Ok (call (forgotten c.request c.run) c.request c.place)
+forgetting (Err e) = Err e
 
 abbrev pub forgets : Solver
 forgets r p m = let o = (advance_of r p m).core in advance_outcome (forgetting o.answer) o.memory
@@ -77,14 +77,14 @@ not-forgetting meets =
 
 -- ---- a solver that keeps the first
 
-abbrev first : Singular → Run → Run
-first singular.None r = r
-first (singular.Real k) r = r ▸ in_notes (set_latest (singular.Real k))
-first (singular.Complex k) r = r ▸ in_notes (set_latest (singular.Complex k))
+abbrev first : Option Singular → Run → Run
+first None r = r
+first (Some (Real k)) r = r ▸ in_notes (set_latest (Some (Real k)))
+first (Some (Complex k)) r = r ▸ in_notes (set_latest (Some (Complex k)))
 
-abbrev keeping_first : Singular → Answer → Answer
-keeping_first s (answer.Asked r q p) = answer.Asked (first s r) q p
-keeping_first s (answer.Refused r x) = answer.Refused r x
+abbrev keeping_first : Option Singular → Answer → Answer
+keeping_first s (Ok c) = Ok (call (first s c.run) c.request c.place)
+keeping_first s (Err e) = Err e
 
 abbrev pub keeps_first : Solver
 keeps_first r p m =

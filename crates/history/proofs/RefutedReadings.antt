@@ -6,7 +6,6 @@ use mathlib.Core.Bool.{Bool, true, false, not}
 use lib.Ieee.{Float, nan, le, of_bits}
 use Rattle.words.specs.Constants.{«0·0»}
 use Rattle.words.specs.Loop.{pick}
-use Rattle.state.specs.declared.settings.Number.TheVariants as number
 use Rattle.state.specs.declared.settings.Rule.{Rule}
 use Rattle.state.specs.declared.settings.Rule.TheVariants as rule
 use Rattle.state.specs.declared.run.Run.{Run}
@@ -22,17 +21,18 @@ use Rattle.solve_blocks.specs.Matrices.{ended_of, wished_of, missed_of, failed_o
 use Rattle.solve_blocks.specs.Newton.{slow_round}
 use Rattle.solve_blocks.specs.Report.{is_due}
 use Rattle.history.proofs.Refuted.{sample_at}
+use Rattle.std.specs.Prelude.{Some}
 
 abbrev sample : Run
 sample = sample_at stage.Newton3
 
 -- a mark is due at x itself, not only past it (radau.rs:722)
-mark-at-x : is_due (number.Given «0·0») «0·0» ≡ true
+mark-at-x : is_due (Some «0·0») «0·0» ≡ true
 unfolding is_due le of_bits
 mark-at-x = refl
 
 -- and a NaN mark never
-mark-nan : is_due (number.Given nan) «0·0» ≡ false
+mark-nan : is_due (Some nan) «0·0» ≡ false
 unfolding is_due le
 mark-nan = refl
 

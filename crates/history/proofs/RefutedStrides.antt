@@ -14,10 +14,6 @@ use Rattle.matrix.specs.Linear.{divided, lin_solve_of}
 use Rattle.matrix.specs.Substitution.{solved}
 use Rattle.state.specs.declared.run.Run.{Run}
 use Rattle.state.specs.declared.run.Stage.TheVariants as stage
-use Rattle.state.specs.declared.run.Strides.{Strides}
-use Rattle.state.specs.declared.run.Strides.TheVariants as strides
-use Rattle.state.specs.declared.talk.Answer.{Answer}
-use Rattle.state.specs.declared.talk.Answer.TheVariants as answer
 use Rattle.state.specs.declared.talk.Reply.TheVariants as reply
 use Rattle.state.specs.Memory.{amounts_fit, newton_fit, given_fit, factors_fit, differences_fit}
 use Rattle.state.specs.Pivots.{stray, stray_at}
@@ -29,36 +25,39 @@ use Rattle.solve_blocks.specs.Estimate.{solved_first, error_at, error_of, sum_at
 use Rattle.solve_blocks.specs.Judge.{with_stride, accepted_of, judged_of, refined_of}
 use Rattle.solve_blocks.specs.Matrices.{passes_of, pass_at}
 use Rattle.history.proofs.Refuted.{Solver, Meets, sample_at, sample_memory}
+use Rattle.std.specs.Prelude.{None, Some, Option, Ok, Err}
+use Rattle.state.specs.declared.run.Strides.{Strides}
+use Rattle.state.specs.Talk.{Answer, call, refused, stride_pair}
 
 -- a run that accepts an attempt of h = 1 at its next reply: of memory that is 0 the error is a NaN, which is small
-abbrev striding : Strides → Run
+abbrev striding : Option Strides → Run
 striding s = sample_at stage.Refinement ▸ in_numbers (set_h «1·0») ▸ in_notes (set_strides s)
 
 -- whether there are strides, and the smallest is below 2
-abbrev is_short : Strides → Bool
-is_short strides.None = false
-is_short (strides.Between smallest largest) = lt smallest «2·0»
+abbrev is_short : Option Strides → Bool
+is_short None = false
+is_short (Some s) = lt s.smallest «2·0»
 
 abbrev says_short : Answer → Bool
-says_short (answer.Asked r q p) = is_short r.notes.strides
-says_short (answer.Refused r x) = false
+says_short (Ok c) = is_short c.run.notes.strides
+says_short (Err e) = false
 
 abbrev says_short_of : AdvanceOutcome → Bool
 says_short_of o = says_short o.answer
 
 -- right but for the strides, which it makes of the run before and the run after
-abbrev with_strides : (Run → Strides) → Answer → Answer
-with_strides f (answer.Asked r q p) = answer.Asked (r ▸ in_notes (set_strides (f r))) q p
-with_strides f (answer.Refused r x) = answer.Refused r x
+abbrev with_strides : (Run → Option Strides) → Answer → Answer
+with_strides f (Ok c) = Ok (call (c.run ▸ in_notes (set_strides (f c.run))) c.request c.place)
+with_strides f (Err e) = Err e
 
-abbrev noting : (Run → Run → Strides) → Solver
+abbrev noting : (Run → Run → Option Strides) → Solver
 noting f r p m = let o = (advance_of r p m).core in advance_outcome (with_strides (f r) o.answer) o.memory
 
 -- ---- a solver that keeps the first
 
-abbrev first : Strides → Strides → Strides
-first strides.None new = new
-first (strides.Between smallest largest) new = strides.Between smallest largest
+abbrev first : Option Strides → Option Strides → Option Strides
+first None new = new
+first (Some s) new = Some s
 
 abbrev pub keeps_first_stride : Solver
 keeps_first_stride = noting (λ (before after : Run). first before.notes.strides after.notes.strides)
@@ -70,11 +69,11 @@ unfolding advance_by replied_of called_of passes_of pass_at refined_of judged_of
     of_int of_bits
 not-keeping-first-stride meets =
     true≢false
-    (sym (ap says_short_of (meets (striding (strides.Between «2·0» «2·0»)) reply.Filled sample_memory)))
+    (sym (ap says_short_of (meets (striding (Some (stride_pair «2·0» «2·0»))) reply.Filled sample_memory)))
 
 -- ---- a solver that takes it too late
 
-abbrev later : Run → Run → Strides
+abbrev later : Run → Run → Option Strides
 later before after =
     pick (asking_at before.stage).report (with_stride (abs_of after.numbers.h) before.notes.strides)
     before.notes.strides
@@ -87,4 +86,4 @@ unfolding advance_by replied_of called_of passes_of pass_at refined_of judged_of
     max_of error_of error_at sum_at solved_first lin_solve_of solved divided at sqrt_of loop pick verdict_of amounts_fit
     newton_fit given_fit factors_fit differences_fit asking_at answers_report stray stray_at is_nan le lt add mul div
     of_int of_bits
-not-taking-later meets = true≢false (sym (ap says_short_of (meets (striding strides.None) reply.Filled sample_memory)))
+not-taking-later meets = true≢false (sym (ap says_short_of (meets (striding None) reply.Filled sample_memory)))

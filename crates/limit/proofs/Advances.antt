@@ -21,7 +21,6 @@ use Rattle.state.specs.declared.run.Stage.TheVariants as stage
 use Rattle.state.specs.declared.talk.Reply.{Reply}
 use Rattle.state.specs.declared.talk.Request.{Request}
 use Rattle.state.specs.declared.talk.Request.TheVariants as request
-use Rattle.state.specs.declared.talk.Verdict.TheVariants.{Passed}
 use Rattle.state.specs.Memory.{Memory, Newton, Differences}
 use Rattle.opening.specs.Rows.{verdict_of}
 use Rattle.opening.specs.Admission.{admission_rows, asking_at}
@@ -43,6 +42,7 @@ use Rattle.solve_beside.proofs.Carried.{on_round, on_asking, RuleSame}
 use Rattle.solve_beside.proofs.Walk.{At, Agree, advance-same}
 use Rattle.account.proofs.Admits.{over, no_row}
 use Rattle.limit.specs.Limit.{to_limit, run_with, is_over}
+use Rattle.state.specs.Talk.{passed_all}
 
 -- ---- admitted
 
@@ -61,8 +61,8 @@ unless-more a b c t l e = by (ltb a c) refl (ltb b c) refl
 module _ (M : ℕ) (r : Run) (p : Reply) (m : Memory) (more : r.settings.max_steps ≤ M) (permitted : M ≤ 1_000_000)
   where
     -- the rows in their order, of which six look at the limit
-    pub admits-more : verdict_of (admission_rows r p m) ≡ Passed → verdict_of (admission_rows (run_with M r) p m) ≡
-        Passed
+    pub admits-more : verdict_of (admission_rows r p m) ≡ passed_all → verdict_of (admission_rows (run_with M r) p m) ≡
+        passed_all
     admits-more e =
         let none = (verdict-first-proof (admission_rows r p m)).1.0 e in
         let least = (within 1 1_000_000 r.settings.max_steps (none 2 (omega arith))).0 in
@@ -94,7 +94,7 @@ module _ (M : ℕ) (r : Run) (p : Reply) (m : Memory) (more : r.settings.max_ste
 
 -- ---- the settings are kept
 
-module _ (r : Run) (p : Reply) (m : Memory) (passed : verdict_of (admission_rows r p m) ≡ Passed) where
+module _ (r : Run) (p : Reply) (m : Memory) (passed : verdict_of (admission_rows r p m) ≡ passed_all) where
   pub settings-kept : (whole_of r p m).core.call.run.settings ≡ r.settings
   unfolding KeptAt
   settings-kept = (everyway r p m passed (kept-closed r p _ _) (refl, (refl, refl))).0
@@ -183,7 +183,7 @@ module _ (M : ℕ) where
 
   -- ---- the same
 
-  pub whole_same : (r : Run) (p : Reply) (m : Memory) → verdict_of (admission_rows r p m) ≡ Passed
+  pub whole_same : (r : Run) (p : Reply) (m : Memory) → verdict_of (admission_rows r p m) ≡ passed_all
       → r.settings.max_steps ≤ M → ends_over (whole_of r p m).core.call.request ≡ false
       → whole_of (run_with M r) p m ≡ on_core (called_by (to_limit M)) (whole_of r p m)
   whole_same r p m passed more going =

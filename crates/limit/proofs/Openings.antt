@@ -6,12 +6,8 @@ use native.Mathlib.Omega.{arith}
 use borrow.Author.Tests.{le-ltb}
 use Rattle.state.specs.declared.settings.Settings.{Settings}
 use Rattle.state.specs.declared.run.Run.{Run}
-use Rattle.state.specs.declared.talk.Opened.{Opened}
-use Rattle.state.specs.declared.talk.Opened.TheVariants as opened
 use Rattle.state.specs.declared.talk.Place.{Place}
 use Rattle.state.specs.declared.talk.Request.{Request}
-use Rattle.state.specs.declared.talk.Verdict.{Verdict}
-use Rattle.state.specs.declared.talk.Verdict.TheVariants.{Passed, Refused}
 use Rattle.state.specs.Memory.{Memory}
 use Rattle.opening.specs.Rows.{Test, Opening, opening_rows, verdict_of}
 use Rattle.opening.specs.Opening.{OpeningOutcome, opening_outcome, open_of, by_verdict, accepted_of, first_run}
@@ -20,14 +16,16 @@ use Rattle.opening.specs.Opening.{shape_of, first_step_of}
 use Rattle.opening.proofs.RowLaws.{verdict-first-proof}
 use Rattle.opening.proofs.OpeningLaws.{within}
 use Rattle.limit.specs.Limit.{opening_with, run_with}
+use Rattle.std.specs.Prelude.{Ok, Err}
+use Rattle.state.specs.Talk.{Verdict, Opened, call, passed_all}
 
 -- what is answered to an opening
 abbrev pub opened_with : ℕ → OpeningOutcome → OpeningOutcome
 opened_with M x = opening_outcome (answer_with x.answer) x.memory
   where
     answer_with : Opened → Opened
-    answer_with (opened.Asked r q p) = opened.Asked (run_with M r) q p
-    answer_with (opened.Refused y) = opened.Refused y
+    answer_with (Ok c) = Ok (call (run_with M c.run) c.request c.place)
+    answer_with (Err y) = Err y
 
 accepted-same : (M : ℕ) (o : Opening) → accepted_of (opening_with M o) ≡ opened_with M (accepted_of o)
 unfolding accepted_of first_run fixed_of shape_of first_step_of
@@ -53,27 +51,27 @@ module _ (M : ℕ) (o : Opening) (least : 1 ≤ o.settings.max_steps) (more : o.
       (verdict_of (opening_rows o))
     where
       by : (v : Verdict) → by_verdict v (opening_with M o) ≡ opened_with M (by_verdict v o)
-      by Passed = accepted-same M o
-      by (Refused x) = refl
+      by (Ok tt) = accepted-same M o
+      by (Err x) = refl
 
 -- ---- of an opening that is accepted
 
 module _ (o : Opening) (r : Run) (q : Request) (p : Place) (m : Memory)
-    (asked : open_of o ≡ opening_outcome (opened.Asked r q p) m) where
+    (asked : open_of o ≡ opening_outcome (Ok (call r q p)) m) where
   abbrev settings_in : Opened → Settings
-  settings_in (opened.Asked s x y) = s.settings
-  settings_in (opened.Refused x) = o.settings
+  settings_in (Ok c) = c.run.settings
+  settings_in (Err x) = o.settings
 
   -- a refused opening asks nothing
-  passed-by : (v : Verdict) → by_verdict v o ≡ opening_outcome (opened.Asked r q p) m → v ≡ Passed
+  passed-by : (v : Verdict) → by_verdict v o ≡ opening_outcome (Ok (call r q p)) m → v ≡ passed_all
   unfolding by_verdict
-  passed-by Passed e = refl
-  passed-by (Refused x) e =
-      let a : opened.Refused x ≡ opened.Asked r q p = ap (λ (y : OpeningOutcome). y.answer) e in
+  passed-by (Ok tt) e = refl
+  passed-by (Err x) e =
+      let a : Err x ≡ Ok (call r q p) = ap (λ (y : OpeningOutcome). y.answer) e in
       let z : ◌≡◌ {A = ℕ} 0 1 = cc in
       absurd (omega arith)
 
-  passed : verdict_of (opening_rows o) ≡ Passed
+  passed : verdict_of (opening_rows o) ≡ passed_all
   unfolding open_of
   passed = passed-by (verdict_of (opening_rows o)) asked
 
@@ -85,8 +83,8 @@ module _ (o : Opening) (r : Run) (q : Request) (p : Place) (m : Memory)
   -- the run has the settings of its opening
   settings-by : (v : Verdict) → settings_in (by_verdict v o).answer ≡ o.settings
   unfolding by_verdict accepted_of first_run
-  settings-by Passed = refl
-  settings-by (Refused x) = refl
+  settings-by (Ok tt) = refl
+  settings-by (Err x) = refl
 
   pub first-settings : r.settings ≡ o.settings
   unfolding open_of

@@ -32,7 +32,6 @@ use Rattle.matrix.specs.LuComplex.{updated_complex, multiplier_complex, is_zero_
 use Rattle.matrix.specs.Substitution.{exchanged, forward_at, substituted, solved}
 use Rattle.state.specs.Memory.{amounts_fit, newton_fit, given_fit, factors_fit, differences_fit, zeros, noughts}
 use Rattle.state.specs.Pivots.{stray_at, stray}
-use Rattle.state.specs.Settings.{or_else, or_none}
 use Rattle.opening.specs.Admission.{asking_at, answers_report, unfit_of}
 use Rattle.opening.specs.Opening.{nind1_of, shape_of, wished_step, first_step_of, fixed_of}
 use Rattle.opening.specs.Opening.{first_run, mass_kept, cleared_of, by_verdict, open_of}
@@ -56,12 +55,10 @@ use Rattle.solve_blocks.specs.Report.{is_due, ask_report, reported_of, is_interr
 use Rattle.solve_blocks.specs.Report.{arrived_of}
 use Rattle.solve_blocks.specs.Scale.{scale_at, scaled_of, divide_at, weighted_of}
 use Rattle.scalar.specs.SquareRoot.{square_of}
-use Rattle.scalar.specs.SquareRoot.{square_of}
 use Rattle.state.specs.declared.run.Run.{Run}
 use Rattle.state.specs.declared.run.Stage.TheVariants as stage
 use Rattle.state.specs.declared.run.Status.{Status}
 use Rattle.state.specs.declared.run.Status.TheVariants.{Success, NeedLargerNMax}
-use Rattle.state.specs.declared.talk.Opened.TheVariants as opened
 use Rattle.state.specs.declared.talk.Place.{Place}
 use Rattle.state.specs.declared.talk.Place.TheVariants.{YToF0, Nowhere}
 use Rattle.state.specs.declared.talk.Reply.TheVariants as reply
@@ -78,6 +75,8 @@ use Rattle.solve_whole.specs.Talk.{Host, World, world, Talk, talk, offered, adva
 use Rattle.solve_whole.specs.Talk.{TalksTo}
 use Rattle.solve_whole.proofs.Talks.{one_end}
 use Rattle.limit.specs.Limit.{run_with, point_with, opening_with, Raises, Unmoved}
+use Rattle.std.specs.Prelude.{Ok}
+use Rattle.state.specs.Talk.{call}
 
 -- ---- a host that leaves everything as it stands, so it is fair: the derivative and the Jacobian are 0
 
@@ -136,7 +135,7 @@ stands M k = talk_by offered host k (talk (start_of M) [])
 -- the opening is accepted; after k advances, and not before, the run ends with s
 record Course (M k : ℕ) (s : Status) : Type 0 where
   opens : open_of (sample_with M)
-      ≡ opening_outcome (opened.Asked (start_of M).run (start_of M).request (start_of M).place) (start_of M).memory
+      ≡ opening_outcome (Ok (call (start_of M).run (start_of M).request (start_of M).place)) (start_of M).memory
   goes-on : goes k (talk (start_of M) []) ≡ true
   ended : (stands M k).point.request ≡ request.Ended s
   stage : (stands M k).point.run.stage ≡ stage.Ended s
@@ -157,7 +156,7 @@ unfolding talk_by goes at put loop pick halve abs_of max_of min_of clamp_of sign
     exchanged
     forward_at blocks_newton.back_at substituted solved amounts_fit newton_fit given_fit factors_fit differences_fit
     zeros
-    noughts stray_at stray or_else or_none asking_at answers_report unfit_of nind1_of shape_of wished_step
+    noughts stray_at stray asking_at answers_report unfit_of nind1_of shape_of wished_step
     first_step_of fixed_of
     first_run mass_kept cleared_of opening_opening.accepted_of blocks_judge.accepted_of by_verdict open_of verdict_of
     bad_number
@@ -218,7 +217,7 @@ module _ (M k : ℕ) (s : Status) (c : Course M k s) where
 abbrev pub EndsTheSame : (ℕ → ℕ → Type 0) → Type 0
 EndsTheSame Limits =
     (M : ℕ) (host : Host) (o : Opening) (r : Run) (q : Request) (p : Place) (m : Memory)
-    → open_of o ≡ opening_outcome (opened.Asked r q p) m → Limits o.settings.max_steps M
+    → open_of o ≡ opening_outcome (Ok (call r q p)) m → Limits o.settings.max_steps M
     → FairTalk host (point r q p m)
     → (e : Run) (w : World) → TalksTo offered host (point r q p m) e w → Unmoved M host o (point r q p m) e w
 

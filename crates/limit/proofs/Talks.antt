@@ -11,11 +11,9 @@ use Rattle.state.specs.declared.settings.Settings.{Settings}
 use Rattle.state.specs.declared.run.Run.{Run}
 use Rattle.state.specs.declared.run.Stage.{Stage}
 use Rattle.state.specs.declared.run.Stage.TheVariants as stage
-use Rattle.state.specs.declared.talk.Opened.TheVariants as opened
 use Rattle.state.specs.declared.talk.Place.{Place}
 use Rattle.state.specs.declared.talk.Request.{Request}
 use Rattle.state.specs.declared.talk.Request.TheVariants as request
-use Rattle.state.specs.declared.talk.Verdict.{Verdict}
 use Rattle.state.specs.Memory.{Memory}
 use Rattle.state.specs.Result.{result_at}
 use Rattle.opening.specs.Rows.{Opening}
@@ -35,6 +33,8 @@ use Rattle.limit.specs.Limit.{run_with, point_with, opening_with, Raises, is_ove
 use Rattle.limit.specs.Limit.{Unmoved, Continued}
 use Rattle.limit.proofs.Openings.{opened_with, opening-same, first-limit, first-settings}
 use Rattle.limit.proofs.Advances.{admits-more, settings-kept, ends_over, whole_same}
+use Rattle.std.specs.Prelude.{Ok}
+use Rattle.state.specs.Talk.{Verdict, call}
 
 -- ---- one advance of a talk
 
@@ -133,7 +133,7 @@ result-same M e stage.DerivativeAgain = refl
 result-same M e (stage.Ended s) = refl
 
 module _ (M : ℕ) (host : Host) (o : Opening) (r : Run) (q : Request) (p : Place) (m : Memory)
-    (accepted : open_of o ≡ opening_outcome (opened.Asked r q p) m) (raises : Raises o.settings.max_steps M)
+    (accepted : open_of o ≡ opening_outcome (Ok (call r q p)) m) (raises : Raises o.settings.max_steps M)
     (fair : FairTalk host (point r q p m)) (e : Run) (w : World) (a : TalksTo offered host (point r q p m) e w) where
   abbrev start : Point
   start = point r q p m

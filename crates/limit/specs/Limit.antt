@@ -1,12 +1,11 @@
 -- The same with another limit: an opening, a run, and where a talk stands. Nothing else is exchanged. Then what is
 -- promised of the longer run, that with the larger limit, beside one that has ended.
-use Rattle.std.specs.Prelude.{ℕ, ◌≤◌, Bool, ◌≡◌, List, ◌++◌, Float}
+use Rattle.std.specs.Prelude.{ℕ, ◌≤◌, Bool, ◌≡◌, List, ◌++◌, Float, Ok}
 use Rattle.state.specs.declared.settings.Rule.{Rule}
 use Rattle.state.specs.declared.settings.Source.{Source}
 use Rattle.state.specs.declared.run.Run.{Run}
 use Rattle.state.specs.declared.run.Status.{Status}
 use Rattle.state.specs.declared.run.Status.TheVariants.{NeedLargerNMax}
-use Rattle.state.specs.declared.talk.Opened.TheVariants as opened
 use Rattle.state.specs.Result.{result_of}
 use Rattle.opening.specs.Rows.{Opening, opening}
 use Rattle.opening.specs.Opening.{opening_outcome, open_of}
@@ -14,6 +13,7 @@ use Rattle.solve_beside.specs.Changes.{Changes, settings_by, run_by}
 use Rattle.history.specs.History.{Point, point}
 use Rattle.account.specs.Reading.{same_status}
 use Rattle.solve_whole.specs.Talk.{Exchange, Host, World, offered, TalksTo}
+use Rattle.state.specs.Talk.{call}
 
 -- ---- the same with another limit
 
@@ -54,7 +54,7 @@ pub record Begins (es fs : List Exchange) : Type 0 where
 abbrev pub Opens : ℕ → Opening → Point → Type 0
 Opens M o start =
     open_of (opening_with M o)
-    ≡ opening_outcome (opened.Asked (run_with M start.run) start.request start.place) start.memory
+    ≡ opening_outcome (Ok (call (run_with M start.run) start.request start.place)) start.memory
 
 -- the run from `start`, which ended at e after w's exchanges, with w's memory, is the same with the limit M
 pub record Unmoved (M : ℕ) (host : Host) (o : Opening) (start : Point) (e : Run) (w : World) : Type 0 where

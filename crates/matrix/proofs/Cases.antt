@@ -1,15 +1,15 @@
 -- The three loops that lu.rs has for a complex multiplier are one loop that asks for the case in each turn.
 use Prim.Native.Nat.{ℕ, ◌+◌, ◌<◌}
-use mathlib.Core.Bool.{Bool, true, false}
+use mathlib.Core.Bool.{Bool, true, false, not}
 use mathlib.Core.Path.{◌≡◌, refl, sym, ap, ◌∙◌}
 use native.Mathlib.Omega.{arith}
-use lib.Ieee.{neg, eq, ne}
+use lib.Ieee.{Float, neg, eq, ne}
 use Rattle.words.specs.Words.{◌⊗◌, double}
 use Rattle.words.specs.Loop.{loop, pick}
 use Rattle.words.proofs.Loops.{Any}
 use Rattle.matrix.specs.declared.complex.Complex.{Complex}
 use Rattle.matrix.specs.Complex.{complex, Parts, at_complex, size_complex, times_complex}
-use Rattle.matrix.specs.LuComplex.{added_complex, real_at, imaginary_at, general_at, updated_complex}
+use Rattle.matrix.specs.LuComplex.{added_complex, real_at, imaginary_at, general_at, updated_complex, is_zero_complex}
 use Rattle.matrix.specs.Reordered.{multiplied_of, multiplied_at}
 use Rattle.matrix.proofs.Interchange.{alike, hoisted}
 
@@ -18,6 +18,19 @@ inside : {X Y : Type 0} (f : X → Y) (b : Bool) (x y : X) → pick b (f x) (f y
 unfolding pick
 inside f true x y = refl
 inside f false x y = refl
+
+-- the test for zero and its opposite
+zero-unequal : (x y : Float) → ne x y ≡ not (eq x y)
+unfolding ne
+zero-unequal x y = refl
+
+pub not-zero : (t : Complex) → is_zero_complex t ≡ false → ne (size_complex t) (double 0) ≡ true
+unfolding is_zero_complex
+not-zero t e = zero-unequal (size_complex t) (double 0) ∙ ap not e
+
+pub zero : (t : Complex) → is_zero_complex t ≡ true → ne (size_complex t) (double 0) ≡ false
+unfolding is_zero_complex
+zero t e = zero-unequal (size_complex t) (double 0) ∙ ap not e
 
 module _ (n k j : ℕ) (t : Complex) (h : k < n) where
   turn : (i : ℕ) (a : Parts)

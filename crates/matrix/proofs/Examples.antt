@@ -5,12 +5,13 @@ use mathlib.Core.Path.{◌≡◌, refl}
 use mathlib.Core.List.{[], ◌∷◌}
 use lib.IntN.{pos}
 use lib.Ieee.{Float, fin, add, sub, mul, div, neg, lt, eq, ne, of_bits}
+use Rattle.std.proofs.Common.{Ok, Err}
 use Rattle.words.specs.Loop.{loop, pick}
 use Rattle.words.specs.Grid.{at, put}
 use Rattle.scalar.specs.Order.{abs_of}
 use Rattle.state.specs.Pivots.{stray_at, stray}
-use Rattle.matrix.specs.declared.answers.Decomposed.TheVariants as decomposed
-use Rattle.matrix.specs.declared.answers.Solved.TheVariants as solves
+use Rattle.matrix.specs.declared.answers.DecompositionError.TheVariants as undone
+use Rattle.matrix.specs.declared.answers.SolveError.TheVariants as unsolved
 use Rattle.matrix.specs.Answers.{decomposition, solution}
 use Rattle.matrix.specs.Complex.{parts, at_complex, put_complex, size_complex, negated_complex}
 use Rattle.matrix.specs.Complex.{plus_complex, times_complex, square_complex, reciprocal_complex}
@@ -47,7 +48,7 @@ minus_none = fin true 0 (pos 0)
 -- 1,i;i,1: the pivots are of one size, so the first row stays, and the multiplier i has no real part
 pub imaginary : lu_decomp_complex_of 2 (parts (one ∷ none ∷ none ∷ one ∷ []) (none ∷ one ∷ one ∷ none ∷ []))
     (7 ∷ 7 ∷ [])
-    ≡ decomposition decomposed.Done
+    ≡ decomposition (Ok tt)
     (parts (one ∷ none ∷ minus_none ∷ two ∷ []) (none ∷ one ∷ minus_one ∷ none ∷ [])) (0 ∷ 7 ∷ [])
 unfolding loop pick at put abs_of at_complex put_complex size_complex negated_complex plus_complex times_complex
     square_complex reciprocal_complex better_at pivot_row swapped scaled_at column_at eliminated pass_with passed
@@ -55,23 +56,23 @@ unfolding loop pick at put abs_of at_complex put_complex size_complex negated_co
     multiplier_complex is_zero_complex lu_decomp_complex_of add sub mul div neg lt eq ne of_bits
 imaginary = refl
 
-pub too_large : lu_decomp_of 33 [] [] ≡ decomposition decomposed.RefusedOrder [] []
+pub too_large : lu_decomp_of 33 [] [] ≡ decomposition (Err undone.Order) [] []
 unfolding pick lu_decomp_of
 too_large = refl
 
 pub pivots-too-long : lu_decomp_of 1 (one ∷ []) (0 ∷ 0 ∷ [])
-    ≡ decomposition decomposed.RefusedLength (one ∷ []) (0 ∷ 0 ∷ [])
+    ≡ decomposition (Err undone.Length) (one ∷ []) (0 ∷ 0 ∷ [])
 unfolding pick lu_decomp_of
 pivots-too-long = refl
 
 -- ---- solutions
 
 pub stray-pivot : lin_solve_of 2 (four ∷ four ∷ one ∷ one ∷ []) (one ∷ one ∷ []) (2 ∷ 0 ∷ [])
-    ≡ solution solves.RefusedPivot (one ∷ one ∷ [])
+    ≡ solution (Err unsolved.Pivot) (one ∷ one ∷ [])
 unfolding loop pick stray_at stray lin_solve_of
 stray-pivot = refl
 
 -- the last pivot is never looked at
-pub last-pivot : lin_solve_of 1 (two ∷ []) (four ∷ []) (9 ∷ []) ≡ solution solves.Done (two ∷ [])
+pub last-pivot : lin_solve_of 1 (two ∷ []) (four ∷ []) (9 ∷ []) ≡ solution (Ok tt) (two ∷ [])
 unfolding loop pick at stray_at stray solved divided lin_solve_of div
 last-pivot = refl

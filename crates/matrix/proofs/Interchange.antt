@@ -1,4 +1,5 @@
 -- Laws of counting loops whose turns do not disturb each other, for any state.
+--     moved          a turn by another number
 --     none, more     a loop by its number of turns: no turn, and one more
 --     whole          what holds at every number of turns up to the loop's, at its end
 --     past           one more act, before the loop or after it
@@ -13,7 +14,13 @@ use mathlib.Core.Bool.{Bool, true, false}
 use mathlib.Core.Path.{◌≡◌, refl, sym, ap, subst, ◌∙◌}
 use native.Mathlib.Omega.{arith}
 use Rattle.words.specs.Loop.{loop, pick}
-use Rattle.words.proofs.Loops.{loop-none, loop-more, Any}
+use Rattle.words.proofs.Loops.{loop-none, loop-more, Ran, Any}
+
+-- ---- a loop that counts another way
+
+pub moved : {A : Type 0} {f : ℕ → A → A} {P : A → Type 0} {lo hi i j : ℕ} {s₀ s : A} → i ≡ j → Ran f P lo hi i s₀ s
+    → Ran f P lo hi j s₀ s
+moved {f = f} {P = P} {lo = lo} {hi = hi} {s₀ = s₀} {s = s} e r = subst (λ (i : ℕ). Ran f P lo hi i s₀ s) e r
 
 -- ---- a loop by its number of turns
 

@@ -7,7 +7,6 @@ pub mod Determinism
 pub mod Refusals
 pub mod Sizes
 pub mod Passes
-pub mod Parts
 pub mod Interchange
 pub mod Cells
 pub mod Rows

@@ -6,9 +6,10 @@ use mathlib.Core.Bool.{Bool, true, false}
 use mathlib.Core.Path.{◌≡◌, refl}
 use mathlib.Core.List.{List}
 use lib.Ieee.{Float}
+use Rattle.std.proofs.Common.{Ok, Err}
 use Rattle.words.specs.Loop.{pick}
-use Rattle.matrix.specs.declared.answers.Decomposed.TheVariants as decomposed
-use Rattle.matrix.specs.declared.answers.Solved.TheVariants as solves
+use Rattle.matrix.specs.declared.answers.DecompositionError.TheVariants as undone
+use Rattle.matrix.specs.declared.answers.SolveError.TheVariants as unsolved
 use Rattle.matrix.specs.Answers.{Stop, nowhere, column, Decomposition}
 use Rattle.matrix.specs.Answers.{decomposition, stop_answer, Solution, solution}
 use Rattle.matrix.specs.Complex.{Parts}
@@ -22,7 +23,7 @@ use Rattle.matrix.specs.LinearComplex.{complex_side, lin_solve_complex_of}
 module _ {A : Type 0} (a : A) (ip : List ℕ) where
   abbrev pub Kept : Decomposition A → Type 0
   Kept d =
-      (d.answer ≡ decomposed.Done → ⊥) → ((k : ℕ) → d.answer ≡ decomposed.Singular k → ⊥)
+      (d.answer ≡ Ok tt → ⊥) → ((k : ℕ) → d.answer ≡ Err (undone.Singular k) → ⊥)
       → (d.a ≡ a) × (d.ip ≡ ip)
 
   -- the work itself refuses with 17 alone
@@ -32,8 +33,8 @@ module _ {A : Type 0} (a : A) (ip : List ℕ) where
 
   decomposition-kept : (ranged fits : Bool) (w : Work A)
       → Kept (pick ranged
-      (pick fits (decomposition (stop_answer w.stop) w.a w.ip) (decomposition decomposed.RefusedLength a ip))
-      (decomposition decomposed.RefusedOrder a ip))
+      (pick fits (decomposition (stop_answer w.stop) w.a w.ip) (decomposition (Err undone.Length) a ip))
+      (decomposition (Err undone.Order) a ip))
   unfolding pick
   decomposition-kept true true w p q = work-kept w.a w.ip w.stop p q
   decomposition-kept true false w p q = (refl, refl)
@@ -41,12 +42,12 @@ module _ {A : Type 0} (a : A) (ip : List ℕ) where
 
 module _ {B : Type 0} (b : B) where
   abbrev pub KeptSide : Solution B → Type 0
-  KeptSide s = (s.answer ≡ solves.Done → ⊥) → s.b ≡ b
+  KeptSide s = (s.answer ≡ Ok tt → ⊥) → s.b ≡ b
 
   solution-kept : (ranged fits strays : Bool) (x : B)
-      → KeptSide (pick ranged (pick fits (pick strays (solution solves.RefusedPivot b) (solution solves.Done x))
-      (solution solves.RefusedLength b))
-      (solution solves.RefusedOrder b))
+      → KeptSide (pick ranged (pick fits (pick strays (solution (Err unsolved.Pivot) b) (solution (Ok tt) x))
+      (solution (Err unsolved.Length) b))
+      (solution (Err unsolved.Order) b))
   unfolding pick
   solution-kept true true true x p = refl
   solution-kept true true false x p = absurd (p refl)

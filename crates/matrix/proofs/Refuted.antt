@@ -15,16 +15,16 @@ use mathlib.Core.List.{List, [], ◌∷◌}
 use lib.Dec.{eqb}
 use lib.ListN.{get_or, set}
 use lib.Ieee.{Float, add, sub, mul, div, neg, le, lt, eq, ne, of_bits}
+use Rattle.std.proofs.Common.{Ok, Err}
 use Rattle.words.specs.Words.{double, ◌⊗◌, ◌!◌}
 use Rattle.words.specs.Loop.{loop, pick}
 use Rattle.words.specs.Grid.{at, put}
 use Rattle.scalar.specs.Order.{abs_of}
 use Rattle.state.specs.Pivots.{stray_at, stray}
-use Rattle.matrix.specs.declared.answers.Decomposed.{Decomposed}
-use Rattle.matrix.specs.declared.answers.Decomposed.TheVariants as decomposes
-use Rattle.matrix.specs.declared.answers.Solved.TheVariants as solves
+use Rattle.matrix.specs.declared.answers.DecompositionError.TheVariants as undone
+use Rattle.matrix.specs.declared.answers.SolveError.TheVariants as unsolved
 use Rattle.matrix.specs.declared.complex.Complex.{Complex}
-use Rattle.matrix.specs.Answers.{nowhere, column, Decomposition, decomposition, decomposed_number}
+use Rattle.matrix.specs.Answers.{nowhere, column, Decomposed, Decomposition, decomposition, decomposed_number}
 use Rattle.matrix.specs.Answers.{Solution, solution}
 use Rattle.matrix.specs.Complex.{complex, Parts, parts, at_complex, put_complex, size_complex, negated_complex}
 use Rattle.matrix.specs.Complex.{plus_complex, times_complex, square_complex, reciprocal_complex}
@@ -155,10 +155,10 @@ not-first-diagonal meets = true≢false (ap is_done (meets 2 (one ∷ one ∷ on
 -- ---- the column of a zero pivot (02, [3])
 
 abbrev renumbered : (ℕ → ℕ) → Decomposed → Decomposed
-renumbered f decomposes.Done = decomposes.Done
-renumbered f decomposes.RefusedOrder = decomposes.RefusedOrder
-renumbered f decomposes.RefusedLength = decomposes.RefusedLength
-renumbered f (decomposes.Singular k) = decomposes.Singular (f k)
+renumbered f (Ok done) = Ok done
+renumbered f (Err undone.Order) = Err undone.Order
+renumbered f (Err undone.Length) = Err undone.Length
+renumbered f (Err (undone.Singular k)) = Err (undone.Singular (f k))
 
 -- told as f has it, and else the same
 abbrev pub told_as : (ℕ → ℕ) → Routine (List Float)
@@ -166,10 +166,10 @@ told_as f n a ip =
     decomposition (renumbered f (lu_decomp_of n a ip).answer) (lu_decomp_of n a ip).a (lu_decomp_of n a ip).ip
 
 abbrev is_second : Decomposed → Bool
-is_second decomposes.Done = false
-is_second decomposes.RefusedOrder = false
-is_second decomposes.RefusedLength = false
-is_second (decomposes.Singular k) = eqb k 1
+is_second (Ok done) = false
+is_second (Err undone.Order) = false
+is_second (Err undone.Length) = false
+is_second (Err (undone.Singular k)) = eqb k 1
 
 -- 1,1;1,1 has no pivot in the second of its columns, which is column 1
 module _ (f : ℕ → ℕ) where
@@ -231,7 +231,7 @@ abbrev pub MeetsSolve : (ℕ → List Float → List Float → List ℕ → Solu
 MeetsSolve f = (n : ℕ) (a b : List Float) (ip : List ℕ) → f n a b ip ≡ lin_solve_of n a b ip
 
 abbrev pub tested_late : ℕ → List Float → List Float → List ℕ → Solution (List Float)
-tested_late n a b ip = solution (pick (stray n ip) solves.RefusedPivot solves.Done) (solved real_side a n ip b)
+tested_late n a b ip = solution (pick (stray n ip) (Err unsolved.Pivot) (Ok tt)) (solved real_side a n ip b)
 
 abbrev first_is_one : Solution (List Float) → Bool
 first_is_one s = eq (s.b ! 0) one

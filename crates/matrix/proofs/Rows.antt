@@ -1,5 +1,5 @@
 -- Column by column, as lu.rs goes, or row by row, as the code does: for any lawful kind of matrix a pass leaves the
--- same (`rows-first`); `by_rows` says so of a whole pass. Nor does it matter that a row ends where only idle
+-- same (`rows-first`); `by_rows` says so by the calls. Nor does it matter that a row ends where only idle
 -- multipliers follow (`row-early`). A turn at row i, column j writes that entry alone and reads, besides it, column k
 -- and row k, which no turn writes. So turns in two columns may change places, and so may a turn and the exchange of two
 -- entries in another column: first all exchanges, then all turns, in either order.
@@ -12,7 +12,7 @@ use lib.Dec.{eqb}
 use borrow.Author.Tests.{eqb-true}
 use Rattle.words.specs.Loop.{loop, pick}
 use Rattle.words.proofs.Branch.{pick_all}
-use Rattle.matrix.specs.Elimination.{Kind, swapped, scaled_at, column_at, eliminated}
+use Rattle.matrix.specs.Elimination.{Kind, swapped, column_at}
 use Rattle.matrix.specs.Reordered.{cell_at, row_at, IdleFrom}
 use Rattle.matrix.proofs.Interchange.{past, split, across, alike, through, early}
 use Rattle.matrix.proofs.Cells.{Lawful, columns-apart, rows_apart}
@@ -195,15 +195,7 @@ module _ {A E : Type 0} (kind : Kind A E) (P : ℕ → A → Type 0)
         cells-commute i j' i' j l₆ (omega arith) (omega arith) (omega arith) (λ e. omega arith) s)
         (loop (swapped kind n k m) (k + 1) n a)
 
-    -- a pass by its calls: the rows' entries in column k change places, that column is scaled, the rest of the rows
-    -- changes places, row by row is updated
-    pub by_rows : {a a₁ a₂ a₃ a₄ : A} {pivot : E} → P n a₂ → pivot ≡ kind.at a n m k → a₁ ≡ swapped kind n k m k a
-        → a₂ ≡ loop (scaled_at kind n k (kind.reciprocal pivot)) (k + 1) n a₁
-        → a₃ ≡ loop (swapped kind n k m) (k + 1) n a₂
-        → a₄ ≡ loop (row_at kind entry n k) (k + 1) n a₃ → a₄ ≡ eliminated kind n k m a
-    unfolding eliminated
-    by_rows {a} {a₁} {a₂} p e e₁ e₂ e₃ e₄ =
-        e₄ ∙ ap (loop (row_at kind entry n k) (k + 1) n) e₃ ∙ sym (rows-first a₂ p)
-        ∙ ap (loop (column_at kind n k m) (k + 1) n)
-        (e₂ ∙ ap (λ (x : E). loop (scaled_at kind n k (kind.reciprocal x)) (k + 1) n a₁) e
-        ∙ ap (loop (scaled_at kind n k (kind.reciprocal (kind.at a n m k))) (k + 1) n) e₁)
+    -- past column k, by its calls: the rows change places, row by row is updated
+    pub by_rows : {a a₁ a₂ : A} → P n a → a₁ ≡ loop (swapped kind n k m) (k + 1) n a
+        → a₂ ≡ loop (row_at kind entry n k) (k + 1) n a₁ → a₂ ≡ loop (column_at kind n k m) (k + 1) n a
+    by_rows {a} p e₁ e₂ = e₂ ∙ ap (loop (row_at kind entry n k) (k + 1) n) e₁ ∙ sym (rows-first a p)

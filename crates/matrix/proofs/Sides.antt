@@ -1,22 +1,24 @@
 -- The entries of a right side as places: what a store leaves alone, and that stores at two places may change turns.
 -- `Lawful` is what proofs/Backward.antt asks of a kind of right side; real ones (`real-lawful`) and complex ones
 -- (`complex-lawful`) obey it.
-use Prim.Native.Nat.{ℕ, ◌<◌}
+use Prim.Native.Nat.{ℕ, ◌+◌, ◌<◌}
 use mathlib.Core.Logic.{◌≢◌}
 use mathlib.Core.Path.{◌≡◌, refl, sym, ap, ◌∙◌}
 use mathlib.Core.List.{List}
 use native.Mathlib.Omega.{arith}
-use lib.ListN.{length, length-set}
+use lib.ListN.{length, set, length-set}
 use lib.Seq.{get_or-set_same, get_or-set_other, set-get_or, set-set, set_comm}
 use lib.Ieee.{Float, nan}
+use Rattle.words.specs.Words.{◌⊕◌, ◌⊗◌, ◌!◌}
 use Rattle.words.specs.Loop.{loop}
+use Rattle.words.specs.Grid.{at}
 use Rattle.matrix.specs.declared.complex.Complex.{Complex}
 use Rattle.matrix.specs.Complex.{Parts, at_complex, entry_complex, set_complex}
 use Rattle.matrix.specs.Complex.{negated_complex, plus_complex, times_complex}
-use Rattle.matrix.specs.Substitution.{Side}
-use Rattle.matrix.specs.Linear.{real_side, divided, take_at, back}
-use Rattle.matrix.specs.LinearComplex.{complex_side, divided_complex, add_complex_at, back_complex}
-use Rattle.matrix.specs.Reordered.{Entries, real_entries, complex_entries}
+use Rattle.matrix.specs.Substitution.{exchanged, Side}
+use Rattle.matrix.specs.Linear.{real_side, divided, add_at, forward, take_at, back}
+use Rattle.matrix.specs.LinearComplex.{complex_side, divided_complex, add_complex_at, forward_complex, back_complex}
+use Rattle.matrix.specs.Reordered.{Entries, real_entries, complex_entries, gained_at, stepped}
 use Rattle.matrix.proofs.Interchange.{alike}
 
 -- ---- the two acts of the back phase
@@ -50,6 +52,7 @@ pub record Lawful {A B E : Type 0} (side : Side A B) (entries : Entries A B E) (
   -- the definition's acts are these
   pub divides : (a : A) (n k : ℕ) (b : B) → side.divided a n k b ≡ divided_at entries a n k b
   pub takes : (a : A) (n k : ℕ) (b : B) → side.back a n k b ≡ loop (taken_at entries a n k) 0 k b
+  pub steps : (a : A) (n k m : ℕ) (b : B) → P n b → k < n → side.forward a n k m b ≡ stepped entries a n k m b
 
 -- ---- real right sides
 
@@ -64,6 +67,16 @@ takes-real : (a : List Float) (n k : ℕ) (b : List Float) → back a n k b ≡ 
 unfolding back take_at taken_at
 takes-real a n k b = refl
 
+-- no turn writes entry k, so it is read once
+steps-real : (a : List Float) (n k m : ℕ) (b : List Float) → Full n b → k < n
+    → forward a n k m b ≡ stepped real_entries a n k m b
+unfolding forward add_at stepped gained_at exchanged
+steps-real a n k m b p h =
+    alike (λ (s : List Float). s ! k ≡ b ! m) (add_at a n k) (gained_at real_entries a n k (b ! m)) (k + 1) n
+    (omega arith) (λ i l₁ l₂ s q. get_or-set_other s i k _ nan (λ e. omega arith) ∙ q)
+    (λ i l₁ l₂ s q. ap (λ (x : Float). set s i (s ! i ⊕ at a n i k ⊗ x)) q) (set (set b m (b ! k)) k (b ! m))
+    (get_or-set_same (set b m (b ! k)) k (b ! m) nan (omega (arith, length-set b m (b ! k))))
+
 pub real-lawful : Lawful real_side real_entries Full
 real-lawful =
     record {
@@ -75,6 +88,7 @@ real-lawful =
       kept = λ b n i x p. length-set b i x ∙ p;
       divides = divides-real;
       takes = takes-real;
+      steps = steps-real;
     }
 
 -- ---- complex right sides, part by part
@@ -126,6 +140,11 @@ takes-complex a n k b =
     set_complex s i (plus_complex (entry_complex s i) (times_complex (at_complex a n i k) (negated_complex z))))
     (sym q)) b refl
 
+steps-complex : (a : Parts) (n k m : ℕ) (b : Parts) → BothFull n b → k < n
+    → forward_complex a n k m b ≡ stepped complex_entries a n k m b
+unfolding forward_complex add_complex_at stepped gained_at
+steps-complex a n k m b p h = refl
+
 pub complex-lawful : Lawful complex_side complex_entries BothFull
 complex-lawful =
     record {
@@ -137,4 +156,5 @@ complex-lawful =
       kept = kept-complex;
       divides = divides-complex;
       takes = takes-complex;
+      steps = steps-complex;
     }

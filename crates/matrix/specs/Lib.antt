@@ -9,3 +9,4 @@ pub mod Linear
 pub mod LinearComplex
 -- Of what follows no offered contract speaks: contracts of private functions cite it, and laws.
 pub mod Reordered
+pub mod Lent

@@ -1,11 +1,11 @@
 -- `lin_solve` (linear.rs:55-94): the arithmetic of a real right side, and the routine with its refusals.
-use Rattle.std.specs.Prelude.{ℕ, ◌+◌, ◌*◌, ◌&&◌, List, eqb, leb, length, set, Float}
+use Rattle.std.specs.Prelude.{ℕ, ◌+◌, ◌*◌, ◌&&◌, List, eqb, leb, length, set, Ok, Err, Float}
 use Rattle.std.specs.Float.Ieee.{neg}
 use Rattle.words.specs.Words.{◌⊕◌, ◌⊗◌, ◌⊘◌, ◌!◌}
 use Rattle.words.specs.Loop.{loop, pick}
 use Rattle.words.specs.Grid.{at}
 use Rattle.state.specs.Pivots.{stray}
-use Rattle.matrix.specs.declared.answers.Solved.TheVariants.{Done, RefusedOrder, RefusedLength, RefusedPivot}
+use Rattle.matrix.specs.declared.answers.SolveError.TheVariants as unsolved
 use Rattle.matrix.specs.Answers.{Solution, solution}
 use Rattle.matrix.specs.Substitution.{exchanged, Side, solved}
 
@@ -37,6 +37,6 @@ unfoldable pub lin_solve_of : ℕ → List Float → List Float → List ℕ →
 lin_solve_of n a b ip =
     pick (leb 1 n && leb n 32)
     (pick (eqb (length a) (n * n) && eqb (length b) n && eqb (length ip) n)
-    (pick (stray n ip) (solution RefusedPivot b) (solution Done (solved real_side a n ip b)))
-    (solution RefusedLength b))
-    (solution RefusedOrder b)
+    (pick (stray n ip) (solution (Err unsolved.Pivot) b) (solution (Ok tt) (solved real_side a n ip b)))
+    (solution (Err unsolved.Length) b))
+    (solution (Err unsolved.Order) b)

@@ -1,9 +1,9 @@
 -- `lin_solve_complex` (linear.rs:138-215): the arithmetic of a complex right side, and the routine with its refusals.
-use Rattle.std.specs.Prelude.{ℕ, ◌+◌, ◌*◌, ◌&&◌, List, eqb, leb, length}
+use Rattle.std.specs.Prelude.{ℕ, ◌+◌, ◌*◌, ◌&&◌, List, eqb, leb, length, Ok, Err}
 use Rattle.words.specs.Loop.{loop, pick}
 use Rattle.state.specs.Pivots.{stray}
 use Rattle.matrix.specs.declared.complex.Complex.{Complex}
-use Rattle.matrix.specs.declared.answers.Solved.TheVariants.{Done, RefusedOrder, RefusedLength, RefusedPivot}
+use Rattle.matrix.specs.declared.answers.SolveError.TheVariants as unsolved
 use Rattle.matrix.specs.Answers.{Solution, solution}
 use Rattle.matrix.specs.Complex.{Parts, at_complex, entry_complex, set_complex}
 use Rattle.matrix.specs.Complex.{negated_complex, plus_complex, times_complex, over_complex}
@@ -36,6 +36,6 @@ lin_solve_complex_of n a b ip =
     (pick
     (eqb (length a.re) (n * n) && eqb (length a.im) (n * n)
     && eqb (length b.re) n && eqb (length b.im) n && eqb (length ip) n)
-    (pick (stray n ip) (solution RefusedPivot b) (solution Done (solved complex_side a n ip b)))
-    (solution RefusedLength b))
-    (solution RefusedOrder b)
+    (pick (stray n ip) (solution (Err unsolved.Pivot) b) (solution (Ok tt) (solved complex_side a n ip b)))
+    (solution (Err unsolved.Length) b))
+    (solution (Err unsolved.Order) b)

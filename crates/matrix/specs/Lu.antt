@@ -1,12 +1,12 @@
 -- `lu_decomp` (lu.rs:37-127): the arithmetic of real entries, and the routine with its refusals.
-use Rattle.std.specs.Prelude.{ℕ, ◌+◌, ◌*◌, Bool, ◌&&◌, List, eqb, leb, length, Float}
+use Rattle.std.specs.Prelude.{ℕ, ◌+◌, ◌*◌, Bool, ◌&&◌, List, eqb, leb, length, Err, Float}
 use Rattle.std.specs.Float.Ieee.{neg, eq, ne}
 use Rattle.words.specs.Words.{◌⊕◌, ◌⊗◌, ◌⊘◌}
 use Rattle.words.specs.Constants.{«0·0», «1·0»}
 use Rattle.words.specs.Loop.{loop, pick}
 use Rattle.words.specs.Grid.{at, put}
 use Rattle.scalar.specs.Order.{abs_of}
-use Rattle.matrix.specs.declared.answers.Decomposed.TheVariants.{RefusedOrder, RefusedLength}
+use Rattle.matrix.specs.declared.answers.DecompositionError.TheVariants as undone
 use Rattle.matrix.specs.Answers.{Decomposition, decomposition}
 use Rattle.matrix.specs.Elimination.{Kind, worked, answered}
 
@@ -48,5 +48,5 @@ lu_decomp_of n a ip =
     pick (leb 1 n && leb n 32)
     (pick (eqb (length a) (n * n) && eqb (length ip) n)
     (answered real n (worked real n a ip))
-    (decomposition RefusedLength a ip))
-    (decomposition RefusedOrder a ip)
+    (decomposition (Err undone.Length) a ip))
+    (decomposition (Err undone.Order) a ip)

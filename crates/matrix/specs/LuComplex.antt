@@ -1,11 +1,11 @@
 -- `lu_decomp_complex` (lu.rs:180-306): the arithmetic of complex entries, and the routine with its refusals.
-use Rattle.std.specs.Prelude.{ℕ, ◌+◌, ◌*◌, Bool, ◌&&◌, List, eqb, leb, length, Float}
+use Rattle.std.specs.Prelude.{ℕ, ◌+◌, ◌*◌, Bool, ◌&&◌, List, eqb, leb, length, Err, Float}
 use Rattle.std.specs.Float.Ieee.{neg, eq, ne}
 use Rattle.words.specs.Words.{◌⊗◌}
 use Rattle.words.specs.Constants.{«0·0»}
 use Rattle.words.specs.Loop.{loop, pick}
 use Rattle.matrix.specs.declared.complex.Complex.{Complex}
-use Rattle.matrix.specs.declared.answers.Decomposed.TheVariants.{RefusedOrder, RefusedLength}
+use Rattle.matrix.specs.declared.answers.DecompositionError.TheVariants as undone
 use Rattle.matrix.specs.Answers.{Decomposition, decomposition}
 use Rattle.matrix.specs.Complex.{complex, Parts, at_complex, put_complex, size_complex}
 use Rattle.matrix.specs.Complex.{negated_complex, plus_complex, times_complex, reciprocal_complex}
@@ -63,5 +63,5 @@ lu_decomp_complex_of n a ip =
     pick (leb 1 n && leb n 32)
     (pick (eqb (length a.re) (n * n) && eqb (length a.im) (n * n) && eqb (length ip) n)
     (answered complex_kind n (worked complex_kind n a ip))
-    (decomposition RefusedLength a ip))
-    (decomposition RefusedOrder a ip)
+    (decomposition (Err undone.Length) a ip))
+    (decomposition (Err undone.Order) a ip)

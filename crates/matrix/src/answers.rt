@@ -1,27 +1,24 @@
-// What the routines answer. specs/Answers.antt gives document 01's number for each case.
+// Why the routines refuse. specs/Answers.antt gives document 01's number for each case.
 
-// The answer of a decomposition.
+// Why a decomposition is not done. Where it is, the matrix holds the factors, and the first n - 1 pivots (for n = 1 the
+// only one) the rows exchanged.
 #[derive(Clone, Copy)]
-pub enum Decomposed {
-    // The matrix holds the factors, and the first n - 1 pivots (for n = 1 the only one) the rows exchanged.
-    Done,
+pub enum DecompositionError {
     // n is not 1..32; nothing was written.
-    RefusedOrder,
+    Order,
     // A slice has another length than n * n or n; nothing was written.
-    RefusedLength,
+    Length,
     // The pivot of this column, counted from 0, is zero; matrix and pivots are left as far as the elimination came.
     Singular(usize),
 }
 
-// The answer of a solve.
+// Why nothing is solved. Where it is, the right side now holds the solution.
 #[derive(Clone, Copy)]
-pub enum Solved {
-    // The right side now holds the solution.
-    Done,
+pub enum SolveError {
     // n is not 1..32; nothing was written.
-    RefusedOrder,
+    Order,
     // A slice has another length than n * n or n; nothing was written.
-    RefusedLength,
+    Length,
     // One of the first n - 1 pivots is n or more; nothing was written.
-    RefusedPivot,
+    Pivot,
 }

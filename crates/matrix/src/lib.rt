@@ -5,17 +5,19 @@
 
 pub mod answers;
 mod complex;
+mod complex_entry;
 mod elimination;
-mod elimination_complex;
 mod entry;
+mod grid;
 pub mod linear;
 pub mod linear_complex;
 pub mod lu;
 pub mod lu_complex;
+mod order;
+mod real_entry;
 mod substitution;
-mod substitution_complex;
 
-pub use answers::{Decomposed, Solved};
+pub use answers::{DecompositionError, SolveError};
 pub use linear::lin_solve;
 pub use linear_complex::lin_solve_complex;
 pub use lu::lu_decomp;

@@ -2,11 +2,13 @@
 -- Theorems.antt.
 use Prim.Native.Nat.{ℕ, ◌*◌, ◌≤◌, ◌<◌}
 use mathlib.Core.Path.{◌≡◌, refl, sym, ◌∙◌}
+use mathlib.Core.Bool.{true}
 use mathlib.Core.List.{List}
 use lib.ListN.{length, get_or}
 use lib.Ieee.{Float}
 use Rattle.words.proofs.Branch.{pick_yes, pick_no, pick_all}
-use Rattle.model.specs.declared.answers.Derived.TheVariants.{Done}
+use Rattle.std.specs.Prelude.{Ok, Err}
+use Rattle.model.specs.declared.answers.DerivativeError.TheVariants as derivative_error
 use Rattle.model.specs.Answers.{Derivation, derivation}
 use Rattle.model.specs.Model.{derivative_of}
 use Rattle.model.specs.Derivative.{reactions_of, lengths_fit, unknown, derived_of}
@@ -21,18 +23,24 @@ module _ (reactions : ℕ) (y rates : List Float) (species : List ℕ) (dy : Lis
   fits = Fit reactions (length y) (length rates) (length species) (length dy)
 
   pub accepted-proof : fits → ((k : ℕ) → k < 4 * reactions → get_or species k 0 ≤ length y)
-      → outcome ≡ derivation Done (derivative_of y (reactions_of rates species reactions))
+      → outcome ≡ derivation (Ok tt) (derivative_of y (reactions_of rates species reactions))
   unfolding derived_of
   accepted-proof f known =
       pick_yes _ _ (fitting reactions (length y) (length rates) (length species) (length dy) f)
       ∙ pick_no _ _ (none-unknown (length y) species (4 * reactions) known)
 
-  pub refused-kept-proof : (outcome.answer ≡ Done → ⊥) → outcome.dy ≡ dy
+  pub unknown-proof : fits → unknown (length y) species (4 * reactions) ≡ true
+      → outcome ≡ derivation (Err derivative_error.Species) dy
+  unfolding derived_of
+  unknown-proof f e =
+      pick_yes _ _ (fitting reactions (length y) (length rates) (length species) (length dy) f) ∙ pick_yes _ _ e
+
+  pub refused-kept-proof : (outcome.answer ≡ Ok tt → ⊥) → outcome.dy ≡ dy
   unfolding derived_of
   refused-kept-proof =
-      pick_all (λ (o : Derivation). (o.answer ≡ Done → ⊥) → o.dy ≡ dy)
+      pick_all (λ (o : Derivation). (o.answer ≡ Ok tt → ⊥) → o.dy ≡ dy)
       (lengths_fit reactions (length y) (length rates) (length species) (length dy)) _ _
-      (λ _. pick_all (λ (o : Derivation). (o.answer ≡ Done → ⊥) → o.dy ≡ dy)
+      (λ _. pick_all (λ (o : Derivation). (o.answer ≡ Ok tt → ⊥) → o.dy ≡ dy)
       (unknown (length y) species (4 * reactions)) _ _ (λ _ _. refl) (λ _ refused. absurd (refused refl)))
       (λ _ _. refl)
 

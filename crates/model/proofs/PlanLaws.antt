@@ -1,16 +1,16 @@
 -- What a plan is made of, step by step, and that the sums by a plan are the derivative.
 use Prim.Native.Nat.{ℕ, zero, suc, ◌+◌, ◌-◌, ◌*◌, ◌/◌, ◌≤◌, ◌<◌}
-use mathlib.Core.Bool.{Bool, true, false, ◌&&◌}
+use mathlib.Core.Bool.{Bool, true, false}
 use mathlib.Core.Path.{◌≡◌, refl, sym, ap, ◌∙◌}
 use mathlib.Core.List.{List}
 use mathlib.Core.Logic.{⊎_elim}
 use native.Mathlib.Nat.{eq-or-lt_of_le}
 use native.Mathlib.Omega.{arith}
-use lib.Dec.{eqb, leb, ltb}
-use lib.ListN.{length, get_or, set, length-set, get_or-replicate}
-use lib.Seq.{get_or-set_same, get_or-set_other, ext_get_or}
+use lib.Dec.{eqb}
+use lib.ListN.{length, get_or, set, take, drop, length-set, length-drop, get_or-replicate}
+use lib.Seq.{get_or-set_same, get_or-set_other, ext_get_or, length-take-le, get_or-take, get_or-drop}
 use lib.Ieee.{Float, nan, neg, sub}
-use borrow.Author.Tests.{ltb-true, leb-true, eqb-true, eqb-false, eq-eqb, ne_eqb}
+use borrow.Author.Tests.{eqb-true, eqb-false, eq-eqb, ne_eqb}
 use Rattle.words.specs.Constants.{«0·0»}
 use Rattle.words.specs.Words.{◌⊕◌, ◌⊖◌, ◌!◌}
 use Rattle.words.specs.Loop.{loop, pick}
@@ -21,7 +21,6 @@ use Rattle.model.specs.Model.{Reaction, speed_of, lessened, raised, reacted, all
 use Rattle.model.specs.Derivative.{reaction_at, reactions_of}
 use Rattle.model.specs.Plan.{term_at, place_at, Changes, Listing, Lists, Listings, Planned}
 use Rattle.model.proofs.ReactionLaws.{one-more, lessened-length, raised-length, derivative-length}
-use Rattle.model.proofs.TestLaws.{both}
 
 -- ---- loops whose turns do the same leave the same
 
@@ -44,6 +43,20 @@ module _ {A : Type 0} (f g : ℕ → A → A) (lo : ℕ) (s : A) where
   loop-alike hi h same =
       let e : hi ≡ lo + (hi - lo) = omega arith in
       rw e (alike (hi - lo) (λ t a l b. same t a l (omega arith)))
+
+-- a loop that starts at `lo`, counted from 0
+module _ {A : Type 0} (f g : ℕ → A → A) (lo : ℕ) (s : A) where
+  pub loop-shifted : (d : ℕ) → ((t : ℕ) (a : A) → t < d → g t a ≡ f (lo + t) a) → loop g 0 d s ≡ loop f lo (lo + d) s
+  loop-shifted zero same =
+      let e : lo + 0 ≡ lo = omega arith in
+      rw e (loop-none g 0 s ∙ sym (loop-none f lo s))
+  loop-shifted (suc d) same =
+      let e : lo + suc d ≡ lo + d + 1 = omega arith in
+      let e' : suc d ≡ d + 1 = omega arith in
+      rw (e, e') (loop-more g 0 d s (omega arith)
+      ∙ ap (g d) (loop-shifted d (λ t a b. same t a (omega arith)))
+      ∙ same d (loop f lo (lo + d) s) (omega arith)
+      ∙ sym (loop-more f lo (lo + d) s (omega arith)))
 
 -- ---- a listing
 
@@ -217,11 +230,28 @@ module _ (species : List ℕ) (count : ℕ) where
           listed = listed-now;
         }
 
+-- A part of the numbers lists as much as they do.
+listed-part : (species : List ℕ) (count s : ℕ) (terms : List ℕ) (from to : ℕ) → count ≤ length species
+    → Listing (take count species) (length (take count species)) s terms from to → Listing species count s terms from to
+unfolding place_at
+listed-part species count s terms from to enough l =
+    let part = take count species in
+    let size : length part ≡ count = length-take-le count species enough in
+    record {
+      small = l.small;
+      sums = λ changes sum.
+          l.sums changes sum
+          ∙ ap (λ (k : ℕ). loop (place_at part s changes) 0 k sum) size
+          ∙ loop-alike (place_at part s changes) (place_at species s changes) 0 sum count (omega arith)
+          (λ t a low high.
+          ap (λ (q : ℕ). pick (eqb q s) (a ⊕ changes ! (t / 2)) a) (get_or-take count species t 0 high));
+    }
+
 -- The plan, once all are listed and there was room.
 pub all-planned : (n reactions : ℕ) (species starts terms : List ℕ) → n < 33 → reactions ≤ 64
     → 4 * reactions ≤ length species → ((k : ℕ) → k < 4 * reactions → get_or species k 0 ≤ n)
-    → Listings n species (4 * reactions) starts terms → get_or starts n 0 ≤ 256
-    → Planned n reactions species starts terms
+    → Listings n (take (4 * reactions) species) (length (take (4 * reactions) species)) starts terms
+    → get_or starts n 0 ≤ 256 → Planned n reactions species starts terms
 all-planned n reactions species starts terms few handful enough known l room =
     record {
       few = omega arith;
@@ -230,7 +260,9 @@ all-planned n reactions species starts terms few handful enough known l room =
       known = known;
       rising = l.rising;
       room = λ s h. omega (arith, l.below s h);
-      listed = l.listed room;
+      listed = λ s h.
+          listed-part species (4 * reactions) (s + 1) terms (get_or starts s 0) (get_or starts (s + 1) 0) enough
+          (l.listed room s h);
     }
 
 -- ---- an entry of the derivative
@@ -381,45 +413,25 @@ module _ (y rates : List Float) (species : List ℕ) where
 
 -- ---- the sums, species by species
 
+-- the sum of the changes that a part of the terms names
+pub part-sum : (terms : List ℕ) (changes : List Float) (from to : ℕ) (sum : Float) → from ≤ to → to ≤ length terms
+    → loop (term_at (take (to - from) (drop from terms)) changes) 0 (length (take (to - from) (drop from terms))) sum
+    ≡ loop (term_at terms changes) from to sum
+unfolding term_at
+part-sum terms changes from to sum rises room =
+    let part = take (to - from) (drop from terms) in
+    let size : length part ≡ to - from =
+    length-take-le (to - from) (drop from terms) (simp length-drop (omega arith)) in
+    let end : from + (to - from) ≡ to = omega arith in
+    ap (λ (k : ℕ). loop (term_at part changes) 0 k sum) size
+    ∙ loop-shifted (term_at terms changes) (term_at part changes) from sum (to - from)
+    (λ t a b. ap (λ (k : ℕ). a ⊕ changes ! k)
+    (get_or-take (to - from) (drop from terms) t 0 b ∙ get_or-drop from terms t 0))
+    ∙ ap (λ (k : ℕ). loop (term_at terms changes) from k sum) end
+
 pub sums-more : (f : ℕ → Float) (n : ℕ) (dy : List Float) (v : Float) → n < length dy → v ≡ f n
     → ((s : ℕ) → s < n → dy ! s ≡ f s) → (s : ℕ) → s < n + 1 → set dy n v ! s ≡ f s
 sums-more f n dy v room is before s h =
     ⊎_elim (λ (e : s ≡ n). rw e (get_or-set_same dy n v nan room ∙ is))
     (λ (b : s < n). get_or-set_other dy n s v nan (λ e. omega arith) ∙ before s b)
     (eq-or-lt_of_le (omega arith))
-
--- ---- what the tests show
-
-pub record Plannable (n reactions room : ℕ) : Type 0 where
-  pub few : n ≤ 32
-  pub handful : reactions ≤ 64
-  pub enough : 4 * reactions ≤ room
-
-pub plannable : (n reactions room : ℕ) → (ltb n 33 && leb reactions 64 && leb reactions (room / 4)) ≡ true
-    → Plannable n reactions room
-plannable n reactions room e =
-    let p = both (ltb n 33 && leb reactions 64) (leb reactions (room / 4)) e in
-    let q = both (ltb n 33) (leb reactions 64) p.0 in
-    let less : n < 33 = ltb-true n 33 q.0 in
-    let quarter : reactions ≤ room / 4 = leb-true reactions (room / 4) p.1 in
-    record { few = omega arith; handful = leb-true reactions 64 q.1; enough = omega arith }
-
-pub record Fitting (planned reactions y dy rates : ℕ) : Type 0 where
-  pub made : 0 < planned
-  pub amounts : y ≡ planned
-  pub target : dy ≡ planned
-  pub enough : reactions ≤ rates
-
-pub fitting-plan : (planned reactions y dy rates : ℕ)
-    → (ltb 0 planned && eqb y planned && eqb dy planned && leb reactions rates) ≡ true
-    → Fitting planned reactions y dy rates
-fitting-plan planned reactions y dy rates e =
-    let p = both (ltb 0 planned && eqb y planned && eqb dy planned) (leb reactions rates) e in
-    let q = both (ltb 0 planned && eqb y planned) (eqb dy planned) p.0 in
-    let r = both (ltb 0 planned) (eqb y planned) q.0 in
-    record {
-      made = ltb-true 0 planned r.0;
-      amounts = eqb-true y planned r.1;
-      target = eqb-true dy planned q.1;
-      enough = leb-true reactions rates p.1;
-    }

@@ -5,7 +5,7 @@ use mathlib.Core.List.{List, [], ◌∷◌, ◌++◌}
 use native.Mathlib.Numerals.{add-one}
 use lib.Dec.{eqb}
 use lib.ListN.{length, length-set, length-replicate}
-use lib.Ieee.{Float}
+use lib.Ieee.{Float, neg, sub}
 use Rattle.words.proofs.Branch.{pick_all}
 use Rattle.state.specs.Memory.{zeros}
 use Rattle.model.specs.Model.{Reaction, lessened, raised, reacted, all_reacted, derivative_of}
@@ -25,6 +25,11 @@ module _ (y : List Float) where
       now ∙ ap (reacted y (reaction_at rates species i)) before
       ∙ one-more (reactions_of rates species i) (reaction_at rates species i) dy₀
       ∙ ap (λ (k : ℕ). all_reacted y (reactions_of rates species k) dy₀) (sym (add-one i))
+
+-- to subtract is to add with the other sign
+pub raised-minus : (v : Float) (s : ℕ) (dy : List Float) → raised (neg v) s dy ≡ lessened v s dy
+unfolding raised lessened sub
+raised-minus v s dy = refl
 
 pub lessened-length : (v : Float) (s : ℕ) (dy : List Float) → length (lessened v s dy) ≡ length dy
 unfolding lessened

@@ -2,13 +2,16 @@
 use Prim.Native.Nat.{ℕ, zero, suc, ◌*◌, ◌/◌, ◌≤◌, ◌<◌}
 use mathlib.Core.Bool.{Bool, true, false, ◌&&◌, ◌||◌}
 use mathlib.Core.Path.{◌≡◌, refl, sym, subst, ap, ◌∙◌}
-use mathlib.Core.List.{List}
+use mathlib.Core.List.{List, [], ◌∷◌}
 use native.Mathlib.Numerals.{add-one}
 use native.Mathlib.Omega.{arith}
 use lib.Dec.{T, eqb, leb, ltb}
-use lib.ListN.{get_or}
+use lib.ListN.{length, get_or, take}
+use lib.Seq.{take-suc}
 use borrow.Author.Count.{below_more}
 use borrow.Author.Tests.{leb-true, eqb-true, ltb-false, eq-eqb, le-leb, le-ltb}
+use Rattle.std.specs.List.{list_any}
+use Rattle.std.proofs.lemmas.List.Folds.{list_any-append}
 use Rattle.words.specs.Loop.{loop}
 use Rattle.words.proofs.Loops.{loop-none, loop-more}
 use Rattle.model.specs.Derivative.{lengths_fit, unknown_at, unknown}
@@ -47,6 +50,10 @@ module _ (reactions y rates species dy : ℕ) where
 
 -- ---- species
 
+or-false : (b : Bool) → (b || false) ≡ b
+or-false true = refl
+or-false false = refl
+
 module _ (n : ℕ) (species : List ℕ) where
   more : (count : ℕ) → unknown n species (suc count) ≡ (unknown n species count || ltb n (get_or species count 0))
   unfolding unknown unknown_at
@@ -67,3 +74,19 @@ module _ (n : ℕ) (species : List ℕ) where
       more count
       ∙ ap (λ (b : Bool). b || ltb n (get_or species count 0)) (none-unknown count (λ k l. known k (omega arith)))
       ∙ le-ltb n (get_or species count 0) (known count (omega arith))
+
+  -- the library's test of the first numbers
+  pub unknown_is : (count : ℕ) → count ≤ length species
+      → list_any (λ s. ltb n s) (take count species) ≡ unknown n species count
+  unfolding unknown
+  unknown_is zero h = sym (loop-none (unknown_at n species) 0 false)
+  unknown_is (suc count) h =
+      let last = get_or species count 0 in
+      ap (list_any (λ s. ltb n s)) (take-suc species count 0 (omega arith))
+      ∙ list_any-append (λ s. ltb n s) (take count species) (last ∷ [])
+      ∙ rw (unknown_is count (omega arith)) (ap (λ (b : Bool). unknown n species count || b) (or-false (ltb n last)))
+      ∙ sym (more count)
+
+  pub none_above : (count : ℕ) → count ≤ length species → list_any (λ s. ltb n s) (take count species) ≡ false
+      → (k : ℕ) → k < count → get_or species k 0 ≤ n
+  none_above count h e = all_known count (sym (unknown_is count h) ∙ e)

@@ -4,7 +4,7 @@ use mathlib.Core.Path.{◌≡◌}
 use mathlib.Core.List.{List}
 use lib.ListN.{length, get_or}
 use lib.Ieee.{Float}
-use Rattle.model.specs.declared.answers.Derived.TheVariants.{Done}
+use Rattle.std.specs.Prelude.{Ok}
 use Rattle.model.specs.Answers.{derivation}
 use Rattle.model.specs.Model.{derivative_of}
 use Rattle.model.specs.Derivative.{reactions_of, derived_of}
@@ -16,11 +16,11 @@ module _ (reactions : ℕ) (y rates : List Float) (species : List ℕ) (dy : Lis
   pub accepted : Fit reactions (length y) (length rates) (length species) (length dy)
       → ((k : ℕ) → k < 4 * reactions → get_or species k 0 ≤ length y)
       → derived_of reactions y rates species dy
-      ≡ derivation Done (derivative_of y (reactions_of rates species reactions))
+      ≡ derivation (Ok tt) (derivative_of y (reactions_of rates species reactions))
   accepted = accepted-proof reactions y rates species dy
 
   -- What isn't done wrote nothing.
-  pub refused-kept : ((derived_of reactions y rates species dy).answer ≡ Done → ⊥)
+  pub refused-kept : ((derived_of reactions y rates species dy).answer ≡ Ok tt → ⊥)
       → (derived_of reactions y rates species dy).dy ≡ dy
   refused-kept = refused-kept-proof reactions y rates species dy
 

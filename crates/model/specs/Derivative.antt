@@ -1,10 +1,10 @@
 -- The model as it lies in lent memory, and what `derivative` answers and leaves: the refusals that this port adds, then
 -- the derivative of Model.antt.
 use Rattle.std.specs.Prelude.{ℕ, zero, suc, ◌+◌, ◌*◌, ◌/◌, Bool, false, ◌&&◌, ◌||◌, List, [], ◌∷◌, ◌++◌, eqb, leb, ltb}
-use Rattle.std.specs.Prelude.{length, get_or, Float}
+use Rattle.std.specs.Prelude.{length, get_or, Ok, Err, Float}
 use Rattle.words.specs.Words.{◌!◌}
 use Rattle.words.specs.Loop.{loop, pick}
-use Rattle.model.specs.declared.answers.Derived.TheVariants.{Done, RefusedLength, RefusedSpecies}
+use Rattle.model.specs.declared.answers.DerivativeError.TheVariants as derivative_error
 use Rattle.model.specs.Answers.{Derivation, derivation}
 use Rattle.model.specs.Model.{Reaction, reaction, derivative_of}
 
@@ -35,6 +35,6 @@ unfoldable pub derived_of : ℕ → List Float → List Float → List ℕ → L
 derived_of reactions y rates species dy =
     pick (lengths_fit reactions (length y) (length rates) (length species) (length dy))
     (pick (unknown (length y) species (4 * reactions))
-    (derivation RefusedSpecies dy)
-    (derivation Done (derivative_of y (reactions_of rates species reactions))))
-    (derivation RefusedLength dy)
+    (derivation (Err derivative_error.Species) dy)
+    (derivation (Ok tt) (derivative_of y (reactions_of rates species reactions))))
+    (derivation (Err derivative_error.Length) dy)

@@ -5,6 +5,7 @@ use Rattle.std.specs.Prelude.{ℕ, ◌+◌, ◌*◌, ◌/◌, ◌≤◌, ◌<◌
 use Rattle.std.specs.Float.Ieee.{neg}
 use Rattle.words.specs.Words.{◌⊕◌, ◌!◌}
 use Rattle.words.specs.Loop.{loop, pick}
+use Rattle.model.specs.declared.planned.Plan.{Plan}
 use Rattle.model.specs.Model.{speed_of}
 use Rattle.model.specs.Derivative.{reaction_at}
 
@@ -54,3 +55,6 @@ pub record Planned (n reactions : ℕ) (species starts terms : List ℕ) : Type 
   pub room : (s : ℕ) → s < n → get_or starts (s + 1) 0 ≤ 256
   pub listed : (s : ℕ) → s < n
       → Listing species (4 * reactions) (s + 1) terms (get_or starts s 0) (get_or starts (s + 1) 0)
+
+abbrev pub IsPlanOf : Plan → ℕ → List ℕ → Type 0
+IsPlanOf p reactions species = Planned p.n reactions species p.starts p.terms

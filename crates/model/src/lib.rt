@@ -8,5 +8,5 @@ pub mod planned;
 mod reactions;
 mod species;
 
-pub use answers::Derived;
+pub use answers::DerivativeError;
 pub use derivation::derivative;

@@ -3,7 +3,7 @@ ghost use Rattle.std.specs.Prelude.{◌≡◌, ℕ, ◌*◌, ◌<◌, ◌≤◌,
 ghost use Rattle.model.specs.Model.{reaction, reacted, all_reacted};
 ghost use Rattle.model.specs.Derivative.{reactions_of};
 
-use crate::species::{lessen, raise, times_amount};
+use crate::species::{raise, times_amount};
 
 // One reaction's share of the derivative.
 pub fn react(
@@ -24,8 +24,8 @@ pub fn react(
         ≡ reacted y.now (reaction rate reactant1 reactant2 product1 product2) dy.old }
 {
     let v = times_amount(y, reactant2, times_amount(y, reactant1, rate));
-    lessen(dy, reactant1, v);
-    lessen(dy, reactant2, v);
+    raise(dy, reactant1, -v);
+    raise(dy, reactant2, -v);
     raise(dy, product1, v);
     raise(dy, product2, v);
 }

@@ -7,8 +7,6 @@ use mathlib.Core.List.{List, []}
 use lib.Ieee.{Float}
 use Rattle.words.proofs.Branch.{pick_all}
 use Rattle.state.specs.declared.run.Run.{Run}
-use Rattle.state.specs.declared.talk.Opened.{Opened}
-use Rattle.state.specs.declared.talk.Opened.TheVariants as opened
 use Rattle.state.specs.declared.talk.Place.{Place}
 use Rattle.state.specs.declared.talk.Request.{Request}
 use Rattle.opening.specs.Rows.{Opening, opening_rows}
@@ -26,6 +24,8 @@ use Rattle.model_run.specs.Budget.{Answering, turn_of, last_of, Admits, NoneRefu
 use Rattle.model_run.specs.Budget.{host_for, memory_of, opening_of}
 use Rattle.model_run.proofs.HostFair.{host-fair}
 use Rattle.model_run.proofs.OpeningKept.{opening-kept}
+use Rattle.std.specs.Prelude.{Ok}
+use Rattle.state.specs.Talk.{Opened, call}
 
 module _ (reactions : ℕ) (rates : List Float) (species : List ℕ) (o : Opening) (none : NoneHolds (opening_rows o)) where
   abbrev host : Answering
@@ -59,7 +59,7 @@ module _ (reactions : ℕ) (rates : List Float) (species : List ℕ) (o : Openin
 -- ---- a task
 
 pub none-refused-proof : (t : Task) (rates : List Float) (species : List ℕ) {a : Opened}
-    (r : Run) (q : Request) (p : Place) → a ≡ (open_of (opening_of t)).answer → a ≡ opened.Asked r q p
+    (r : Run) (q : Request) (p : Place) → a ≡ (open_of (opening_of t)).answer → a ≡ Ok (call r q p)
     → NoneRefused (host_for t rates species) (point r q p (memory_of t))
 unfolding Starts
 none-refused-proof t rates species r q p answered same =

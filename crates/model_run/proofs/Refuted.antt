@@ -14,7 +14,6 @@ use Rattle.state.specs.declared.talk.Refusal.TheVariants.{Unfit}
 use Rattle.state.specs.declared.talk.Reply.TheVariants.{Filled, Continue}
 use Rattle.state.specs.declared.talk.Request.{Request}
 use Rattle.state.specs.declared.talk.Request.TheVariants.{Derivative, Report}
-use Rattle.state.specs.declared.talk.Verdict.TheVariants.{Passed, Refused}
 use Rattle.state.specs.Settings.{defaults_of}
 use Rattle.state.specs.Memory.{Memory, memory, amounts, newton, given, factors, differences}
 use Rattle.opening.specs.Rows.{verdict_of}
@@ -25,6 +24,8 @@ use Rattle.history.specs.History.{Point, point}
 use Rattle.words.specs.Loop.{pick}
 use Rattle.model_run.specs.Host.{source_at, reply_to, answered_by}
 use Rattle.model_run.specs.Budget.{last_of, NoneRefused}
+use Rattle.std.specs.Prelude.{Err}
+use Rattle.state.specs.Talk.{passed_all}
 
 -- every request is answered by 'filled', a report too
 pub always-filled : ((q : Request) → Filled ≡ reply_to q) → ⊥
@@ -61,6 +62,6 @@ nowhere =
 pub untested-anywhere : ((start : Point) → NoneRefused (answered_by 0 [] []) start) → ⊥
 unfolding verdict_of pick first_run shape_of last_of is_end
 untested-anywhere none =
-    let e : Refused Unfit ≡ Passed = none nowhere 0 refl in
+    let e : Err Unfit ≡ passed_all = none nowhere 0 refl in
     let z : ◌≡◌ {A = ℕ} 0 1 = cc in
     omega arith

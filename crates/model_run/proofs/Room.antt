@@ -14,17 +14,17 @@ use Rattle.words.specs.Words.{double}
 use Rattle.state.specs.Memory.{Memory, memory, amounts, newton, given, factors, differences, zeros, noughts}
 use Rattle.state.specs.declared.run.Run.{Run}
 use Rattle.state.specs.declared.run.Tolerances.TheVariants.{Scalars}
-use Rattle.state.specs.declared.talk.Opened.{Opened}
 use Rattle.state.specs.declared.talk.Place.{Place}
 use Rattle.state.specs.declared.talk.Request.{Request}
 use Rattle.opening.specs.Rows.{opening}
 use Rattle.opening.specs.Opening.{OpeningOutcome, opening_outcome, open_of}
 use Rattle.history.specs.History.{point}
-use Rattle.model_run.specs.declared.run.Finish.TheVariants as finish
 use Rattle.model_run.specs.declared.run.Task.{Task}
 use Rattle.model_run.specs.declared.run.TaskOutcome as run
 use Rattle.model_run.specs.Budget.{Standing, standing, standing_at, last_of, budget}
 use Rattle.model_run.specs.Budget.{room_of, memory_of, opening_of, host_for, ran_of, NoneRefused}
+use Rattle.state.specs.Talk.{Opened}
+use Rattle.std.specs.Prelude.{Ok}
 
 -- ---- an array that holds one value throughout
 
@@ -172,7 +172,7 @@ lent_is t s p0 p1 p2 p3 p4 p5 p6 p7 p8 p9 p10 p11 p12 p13 p14 p15 p16 p17 p18 p1
 
 -- the run, and the amounts with what was not lent behind them
 abbrev ended_at : Task → ℕ → Standing → run.TaskOutcome
-ended_at t n s = record { finish = finish.Ran s.run; amounts = s.memory.amounts.y ++ drop n t.amounts }
+ended_at t n s = record { finish = Ok s.run; amounts = s.memory.amounts.y ++ drop n t.amounts }
 
 pub opened-is : (t : Task) {m m' : Memory} {r : Opened} → m ≡ memory_of t
     → opening_outcome r m' ≡ open_of (opening t.settings t.n t.x0 t.xend (Scalars t.rtol t.atol) m)

@@ -5,8 +5,6 @@ use mathlib.Core.List.{List}
 use Prim.Native.Nat.{ℕ}
 use lib.Ieee.{Float}
 use Rattle.state.specs.declared.run.Run.{Run}
-use Rattle.state.specs.declared.talk.Opened.{Opened}
-use Rattle.state.specs.declared.talk.Opened.TheVariants as opened
 use Rattle.state.specs.declared.talk.Place.{Place}
 use Rattle.state.specs.declared.talk.Request.{Request}
 use Rattle.opening.specs.Opening.{open_of}
@@ -14,9 +12,11 @@ use Rattle.history.specs.History.{point}
 use Rattle.model_run.specs.declared.run.Task.{Task}
 use Rattle.model_run.specs.Budget.{NoneRefused, host_for, memory_of, opening_of}
 use Rattle.model_run.proofs.NoneRefused.{none-refused-proof}
+use Rattle.std.specs.Prelude.{Ok}
+use Rattle.state.specs.Talk.{Opened, call}
 
 -- No turn of a task that was opened, up to its end, is one that an advance would refuse.
 pub none-refused : (t : Task) (rates : List Float) (species : List ℕ) {a : Opened}
-    (r : Run) (q : Request) (p : Place) → a ≡ (open_of (opening_of t)).answer → a ≡ opened.Asked r q p
+    (r : Run) (q : Request) (p : Place) → a ≡ (open_of (opening_of t)).answer → a ≡ Ok (call r q p)
     → NoneRefused (host_for t rates species) (point r q p (memory_of t))
 none-refused = none-refused-proof

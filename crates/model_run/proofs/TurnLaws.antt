@@ -15,13 +15,9 @@ use lib.Ieee.{Float}
 use Rattle.words.specs.Loop.{pick}
 use Rattle.words.proofs.Branch.{pick_yes, pick_no}
 use Rattle.state.specs.declared.run.Run.{Run}
-use Rattle.state.specs.declared.talk.Answer.{Answer}
-use Rattle.state.specs.declared.talk.Answer.TheVariants.{Asked}
 use Rattle.state.specs.declared.talk.Place.{Place}
 use Rattle.state.specs.declared.talk.Reply.{Reply}
 use Rattle.state.specs.declared.talk.Request.{Request}
-use Rattle.state.specs.declared.talk.Verdict.{Verdict}
-use Rattle.state.specs.declared.talk.Verdict.TheVariants.{Passed}
 use Rattle.state.specs.Memory.{Memory}
 use Rattle.solve_blocks.specs.Advance.{AdvanceOutcome, advance_outcome, advance_by, advance_of}
 use Rattle.history.specs.Host.{is_end, wrote}
@@ -29,6 +25,8 @@ use Rattle.history.specs.History.{Point, point, next_point}
 use Rattle.model_run.specs.Host.{reply_to, answered_by}
 use Rattle.model_run.specs.Budget.{Answering, turn_of, last_of, standing_at, Admits, NoneRefused}
 use Rattle.model_run.proofs.HostLaws.{replies}
+use Rattle.std.specs.Prelude.{Ok}
+use Rattle.state.specs.Talk.{Verdict, Answer, call, passed_all}
 
 -- ---- one turn
 
@@ -58,16 +56,16 @@ pub turn-admitted : (reactions : ℕ) (rates : List Float) (species : List ℕ) 
     ≡ wrote here.request here.place
     (answered_by reactions rates species here.request here.place here.memory) here.memory
     → Admits (answered_by reactions rates species) here
-    → advance_outcome (Asked r q l) w ≡ (advance_by Passed here.run p m).core
+    → advance_outcome (Ok (call r q l)) w ≡ (advance_by passed_all here.run p m).core
     → point r q l w ≡ turn_of (answered_by reactions rates species) here
 unfolding turn_of next_point
 turn-admitted reactions rates species here {p} {m} said written admits led =
     let a = answered_by reactions rates species here.request here.place here.memory in
     ap (λ (o : AdvanceOutcome). next_point here o.answer o.memory)
     (led
-    ∙ ap (λ (x : Reply). (advance_by Passed here.run x m).core)
+    ∙ ap (λ (x : Reply). (advance_by passed_all here.run x m).core)
     (said ∙ sym (replies reactions rates species here.request here.place here.memory))
-    ∙ ap (λ (x : Memory). (advance_by Passed here.run a.reply x).core) written
+    ∙ ap (λ (x : Memory). (advance_by passed_all here.run a.reply x).core) written
     ∙ ap (λ (v : Verdict).
     (advance_by v here.run a.reply (wrote here.request here.place a here.memory)).core) (sym admits))
 

@@ -1,13 +1,11 @@
 -- A run that is answered by a host up to its end.
-use Rattle.std.specs.Prelude.{ℕ, zero, suc, ◌*◌, false, ◌≡◌, List, ◌++◌, leb, take, drop, Float}
+use Rattle.std.specs.Prelude.{ℕ, zero, suc, ◌*◌, false, ◌≡◌, List, ◌++◌, leb, take, drop, Float, Ok, Err, Result}
 use Rattle.words.specs.Loop.{pick}
 use Rattle.state.specs.declared.run.Run.{Run}
 use Rattle.state.specs.declared.run.Tolerances.TheVariants.{Scalars}
-use Rattle.state.specs.declared.talk.Opened.{Opened}
-use Rattle.state.specs.declared.talk.Opened.TheVariants as opened
 use Rattle.state.specs.declared.talk.Place.{Place}
+use Rattle.state.specs.declared.talk.Refusal.{Refusal}
 use Rattle.state.specs.declared.talk.Request.{Request}
-use Rattle.state.specs.declared.talk.Verdict.TheVariants.{Passed}
 use Rattle.opening.specs.Rows.{verdict_of}
 use Rattle.opening.specs.Admission.{admission_rows}
 use Rattle.state.specs.Memory.{Memory, memory, amounts, newton, given, factors, differences, zeros, noughts}
@@ -16,11 +14,10 @@ use Rattle.opening.specs.Opening.{open_of}
 use Rattle.solve_blocks.specs.Advance.{advance_of}
 use Rattle.history.specs.Host.{is_end, Action, wrote}
 use Rattle.history.specs.History.{Point, point, next_point}
-use Rattle.model_run.specs.declared.run.Finish.{Finish}
-use Rattle.model_run.specs.declared.run.Finish.TheVariants as finish
 use Rattle.model_run.specs.declared.run.Task.{Task}
 use Rattle.model_run.specs.declared.run.TaskOutcome.{TaskOutcome}
 use Rattle.model_run.specs.Host.{answered_by}
+use Rattle.state.specs.Talk.{Opened, call, passed_all}
 
 -- ---- turns
 
@@ -44,11 +41,15 @@ last_of host (suc k) here = last_of host k (pick (is_end here.request) here (tur
 abbrev pub Admits : Answering → Point → Type 0
 Admits host here =
     let a = host here.request here.place here.memory in
-    verdict_of (admission_rows here.run a.reply (wrote here.request here.place a here.memory)) ≡ Passed
+    verdict_of (admission_rows here.run a.reply (wrote here.request here.place a here.memory)) ≡ passed_all
 
 -- no turn is refused before the end
 abbrev pub NoneRefused : Answering → Point → Type 0
 NoneRefused host start = (k : ℕ) → is_end (last_of host k start).request ≡ false → Admits host (last_of host k start)
+
+-- how a task came out: the run as it stood at its end, or why its opening was refused
+abbrev pub Finish : Type 0
+Finish = Result Run Refusal
 
 -- the run and the memory at a point
 pub record Standing : Type 0 where
@@ -76,9 +77,9 @@ abbrev pub finished : Finish → Memory → Finished
 finished f m = record { finish = f; memory = m }
 
 unfoldable pub from_opened : Answering → Opened → Memory → Finished
-from_opened host (opened.Refused x) m = finished (finish.Refused x) m
-from_opened host (opened.Asked r q p) m =
-    let e = last_of host budget (point r q p m) in finished (finish.Ran e.run) e.memory
+from_opened host (Err x) m = finished (Err x) m
+from_opened host (Ok c) m =
+    let e = last_of host budget (point c.run c.request c.place m) in finished (Ok e.run) e.memory
 
 unfoldable pub whole_of : Answering → Opening → Finished
 whole_of host o = let x = open_of o in from_opened host x.answer x.memory
@@ -117,4 +118,4 @@ run_of t rates species =
 unfoldable pub ran_of : Task → List Float → List ℕ → Run → Request → Place → TaskOutcome
 ran_of t rates species r q p =
     let e = last_of (host_for t rates species) budget (point r q p (memory_of t)) in
-    record { finish = finish.Ran e.run; amounts = e.memory.amounts.y ++ drop (room_of t.n) t.amounts }
+    record { finish = Ok e.run; amounts = e.memory.amounts.y ++ drop (room_of t.n) t.amounts }

@@ -5,7 +5,7 @@ ghost use Rattle.history.specs.Host.{wrote};
 ghost use Rattle.model_run.specs.Host.{answered_by, reply_to};
 
 use crate::planned::answer_by_plan;
-use model::planned::{CHANGES, STARTS, TERMS};
+use model::planned::CHANGES;
 use state::talk::{Place, Reply, Request};
 
 // Does what a request asks, and replies.
@@ -44,8 +44,6 @@ pub fn answer(
         g f
         (differences y_perturbed.now f_perturbed.old f_origin.old)) }
 {
-    let starts = [0usize; STARTS];
-    let terms = [0usize; TERMS];
     let mut changes = [0.0; CHANGES];
     answer_by_plan(
         request,
@@ -63,9 +61,7 @@ pub fn answer(
         y_perturbed,
         f_perturbed,
         f_origin,
-        0,
-        &starts,
-        &terms,
+        None,
         &mut changes,
     )
 }

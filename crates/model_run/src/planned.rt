@@ -1,13 +1,13 @@
 // What the host does between two advances: asked for a derivative it fills in that of the model's reactions, and every
-// report it answers with 'continue'. It goes by the plan of the model, or without one where `planned` is 0.
-ghost use Rattle.std.specs.Prelude.{◌≡◌, List, ◌<◌, length, take, Float};
+// report it answers with 'continue'. It goes by the plan of the model, or without one where there is none.
+ghost use Rattle.std.specs.Prelude.{◌≡◌, List, take, Float, IfSome};
 ghost use Rattle.state.specs.Memory.{Given, Factors, memory, amounts, newton, differences};
 ghost use Rattle.history.specs.Host.{filled, wrote};
 ghost use Rattle.model.specs.Derivative.{derived_of};
-ghost use Rattle.model.specs.Plan.{Planned};
+ghost use Rattle.model.specs.Plan.{IsPlanOf};
 ghost use Rattle.model_run.specs.Host.{derived_at, answered_by, reply_to};
 
-use model::planned::{CHANGES, STARTS, TERMS, derivative_by_plan};
+use model::planned::{CHANGES, Plan, derivative_by_plan};
 use state::talk::{Place, Reply, Request};
 
 // The derivative of the amounts that are the first n entries of a part, or all of it where it is shorter.
@@ -18,34 +18,18 @@ fn derive_first(
     rates: &[f64],
     species: &[usize],
     part: &mut [f64],
-    planned: usize,
-    starts: &[usize; STARTS],
-    terms: &[usize; TERMS],
+    plan: Option<&Plan>,
     changes: &mut [f64; CHANGES],
 )
-    requires { (length changes.old ≡ 128)
-        × (0 < planned → Planned planned reactions species.now starts.now terms.now) }
-    ensures part_after { part.new
+    requires { IfSome plan (λ p. IsPlanOf p.now reactions species.now) }
+    ensures { part.new
         ≡ (derived_of reactions (take n cont.now) rates.now
         species.now part.old).dy }
-    ensures changes_len { length changes.new ≡ 128 }
 {
     if n < cont.len() {
-        derivative_by_plan(
-            planned,
-            starts,
-            terms,
-            changes,
-            reactions,
-            &cont[..n],
-            rates,
-            species,
-            part,
-        );
+        derivative_by_plan(plan, changes, reactions, &cont[..n], rates, species, part);
     } else {
-        derivative_by_plan(
-            planned, starts, terms, changes, reactions, cont, rates, species, part,
-        );
+        derivative_by_plan(plan, changes, reactions, cont, rates, species, part);
     }
 }
 
@@ -65,14 +49,11 @@ fn fill(
     y_perturbed: &[f64],
     f_perturbed: &mut [f64],
     f_origin: &mut [f64],
-    planned: usize,
-    starts: &[usize; STARTS],
-    terms: &[usize; TERMS],
+    plan: Option<&Plan>,
     changes: &mut [f64; CHANGES],
 )
-    requires { (length changes.old ≡ 128)
-        × (0 < planned → Planned planned reactions species.now starts.now terms.now) }
-    ensures f_origin_after { (scal f2 f3 : List Float) (g : Given) (f : Factors) → memory
+    requires { IfSome plan (λ p. IsPlanOf p.now reactions species.now) }
+    ensures { (scal f2 f3 : List Float) (g : Given) (f : Factors) → memory
         (amounts y.now f0.new scal cont.now)
         (newton z1.new z2.new z3.new f1.new f2 f3)
         g f
@@ -88,38 +69,23 @@ fn fill(
         (newton z1.old z2.old z3.old f1.old f2 f3)
         g f
         (differences y_perturbed.now f_perturbed.old f_origin.old)) }
-    ensures changes_len { length changes.new ≡ 128 }
 {
     let n = y.len();
     match place {
         Place::Nowhere => {}
         Place::YToF0 => {
-            derivative_by_plan(
-                planned, starts, terms, changes, reactions, y, rates, species, f0,
-            );
+            derivative_by_plan(plan, changes, reactions, y, rates, species, f0);
         }
-        Place::ContToZ1 => derive_first(
-            reactions, n, cont, rates, species, z1, planned, starts, terms, changes,
-        ),
-        Place::ContToZ2 => derive_first(
-            reactions, n, cont, rates, species, z2, planned, starts, terms, changes,
-        ),
-        Place::ContToZ3 => derive_first(
-            reactions, n, cont, rates, species, z3, planned, starts, terms, changes,
-        ),
-        Place::ContToF1 => derive_first(
-            reactions, n, cont, rates, species, f1, planned, starts, terms, changes,
-        ),
+        Place::ContToZ1 => derive_first(reactions, n, cont, rates, species, z1, plan, changes),
+        Place::ContToZ2 => derive_first(reactions, n, cont, rates, species, z2, plan, changes),
+        Place::ContToZ3 => derive_first(reactions, n, cont, rates, species, z3, plan, changes),
+        Place::ContToF1 => derive_first(reactions, n, cont, rates, species, f1, plan, changes),
         Place::YToFOrigin => {
-            derivative_by_plan(
-                planned, starts, terms, changes, reactions, y, rates, species, f_origin,
-            );
+            derivative_by_plan(plan, changes, reactions, y, rates, species, f_origin);
         }
         Place::YPerturbedToFPerturbed => {
             derivative_by_plan(
-                planned,
-                starts,
-                terms,
+                plan,
                 changes,
                 reactions,
                 y_perturbed,
@@ -148,13 +114,10 @@ pub fn answer_by_plan(
     y_perturbed: &[f64],
     f_perturbed: &mut [f64],
     f_origin: &mut [f64],
-    planned: usize,
-    starts: &[usize; STARTS],
-    terms: &[usize; TERMS],
+    plan: Option<&Plan>,
     changes: &mut [f64; CHANGES],
 ) -> Reply
-    requires { (length changes.old ≡ 128)
-        × (0 < planned → Planned planned reactions species.now starts.now terms.now) }
+    requires { IfSome plan (λ p. IsPlanOf p.now reactions species.now) }
     ensures value { result ≡ reply_to request }
     ensures f_origin_after { (scal f2 f3 : List Float) (g : Given) (f : Factors) → memory
         (amounts y.now f0.new scal cont.now)
@@ -172,7 +135,6 @@ pub fn answer_by_plan(
         (newton z1.old z2.old z3.old f1.old f2 f3)
         g f
         (differences y_perturbed.now f_perturbed.old f_origin.old)) }
-    ensures changes_len { length changes.new ≡ 128 }
 {
     match request {
         Request::Derivative(_) => {
@@ -191,9 +153,7 @@ pub fn answer_by_plan(
                 y_perturbed,
                 f_perturbed,
                 f_origin,
-                planned,
-                starts,
-                terms,
+                plan,
                 changes,
             );
             Reply::Filled

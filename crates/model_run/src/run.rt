@@ -5,11 +5,11 @@ ghost use Rattle.opening.specs.Opening.{open_of};
 ghost use Rattle.history.specs.History.{point};
 ghost use Rattle.model_run.specs.Budget.{NoneRefused, host_for, memory_of, room_of, opening_of, ran_of, run_of};
 
-use crate::lent::{Pending, to_end};
+use crate::lent::to_end;
 use opening::open;
 use state::run::{Run, Tolerances};
 use state::settings::Settings;
-use state::talk::{Opened, Refusal};
+use state::talk::{Call, Refusal};
 
 // What a run is opened with, the amounts by value, and how many reactions there are. Both tolerances are scalars.
 #[derive(Clone, Copy)]
@@ -24,16 +24,10 @@ pub struct Task {
     pub reactions: usize,
 }
 
-// The opening was refused, or the run as it stood at its end.
-#[derive(Clone, Copy)]
-pub enum Finish {
-    Refused(Refusal),
-    Ran(Run),
-}
-
 #[derive(Clone, Copy)]
 pub struct TaskOutcome {
-    pub finish: Finish,
+    // The run as it stood at its end, or why its opening was refused.
+    pub finish: Result<Run, Refusal>,
     pub amounts: [f64; 32],
 }
 
@@ -70,7 +64,7 @@ fn room(n: usize) -> usize
 
 // The answer to the opening. Its memory is not kept: what an accepted opening of a task leaves is the memory that it
 // was given, the amounts and +0.
-fn opened(task: Task, n: usize, n4: usize, nn: usize) -> Opened
+fn opened(task: Task, n: usize, n4: usize, nn: usize) -> Result<Call, Refusal>
     requires { (n ≤ 32) × (n ≡ room_of task.n) × (n4 ≡ 4 * n) × (nn ≡ n * n) }
     ensures { result ≡ (open_of (opening_of task)).answer }
 {
@@ -129,7 +123,7 @@ fn opened(task: Task, n: usize, n4: usize, nn: usize) -> Opened
 }
 
 // Opens the run of a task.
-pub fn start(task: Task) -> Opened
+pub fn start(task: Task) -> Result<Call, Refusal>
     ensures { result ≡ (open_of (opening_of task)).answer }
 {
     let n = room(task.n);
@@ -139,7 +133,7 @@ pub fn start(task: Task) -> Opened
 // The run that was opened, from its first request to its end.
 fn ran(
     task: Task,
-    pending: Pending,
+    pending: Call,
     n: usize,
     n4: usize,
     nn: usize,
@@ -203,7 +197,7 @@ fn ran(
         &mut f_origin[0..n],
     );
     TaskOutcome {
-        finish: Finish::Ran(run),
+        finish: Ok(run),
         amounts: y,
     }
 }
@@ -215,17 +209,10 @@ pub fn run(task: Task, rates: &[f64], species: &[usize]) -> TaskOutcome
     let n = room(task.n);
     let amounts = task.amounts;
     match opened(task, n, 4 * n, n * n) {
-        Opened::Refused(refusal) => TaskOutcome {
-            finish: Finish::Refused(refusal),
+        Err(refusal) => TaskOutcome {
+            finish: Err(refusal),
             amounts,
         },
-        Opened::Asked(run, request, place) => {
-            let pending = Pending {
-                run,
-                request,
-                place,
-            };
-            ran(task, pending, n, 4 * n, n * n, rates, species)
-        }
+        Ok(call) => ran(task, call, n, 4 * n, n * n, rates, species),
     }
 }

@@ -1,20 +1,27 @@
 -- Numbers that are read have at most sixteen digits.
-use Rattle.std.proofs.Common.{ℕ, zero, suc, ◌-◌, ◌<◌, ◌≤◌, Bool, eqb, ltb, leb, List, [], ◌∷◌, length, get_or, set}
+use Rattle.std.proofs.Common.{◌≡◌, ◌+◌, ◌*◌, Option, None, Some, sym, subst}
+use Rattle.std.proofs.Common.{ℕ, zero, suc, ◌-◌, ◌<◌, ◌≤◌, eqb, ltb, leb, List, [], ◌∷◌, length, get_or, set}
 use Rattle.std.proofs.Common.{replicate, arith, ltb-false, leb-false}
 use Rattle.words.proofs.Branch.{pick_all}
-use Rattle.night_totals.specs.Filling.{blank_of, spoilt_of, numbered_at, onward, valued_of, kept}
-use Rattle.night_totals.specs.Filling.{passed_of, digit_of, stored_of, behind_of, number_of, filled_of}
-use Rattle.night_totals.specs.Printed.{totals_numbers}
+use Rattle.night_totals.specs.Filling.{blank_of, numbered_at, onward, valued_of, kept, longer_of, grown}
+use Rattle.night_totals.specs.Filling.{passed_of, passed_from, digit_of, stored_of}
+use Rattle.night_totals.specs.Filling.{behind_from, behind_of, number_of, filled_of}
+use Rattle.night_totals.specs.Printed.{totals_numbers, totals_from}
 use Rattle.night_totals.specs.declared.filling.Filling.{Filling}
+use Rattle.night_totals.proofs.FormLaws.{opened, none-some}
 use Rattle.night_chain.specs.Texts.{Short}
-use Rattle.night_chain.specs.Chain.{totals_from}
 
 abbrev pub Small : List ℕ → Type 0
 Small vs = (k : ℕ) → get_or vs k 0 < 10000000000000000
 
 pub record Few (q : Filling) : Type 0 where
-  pub value : q.value < 10000000000000000
+  pub number : (v : ℕ) → q.number ≡ Some v → v < 10000000000000000
   pub values : Small q.values
+
+-- a text of a form, as far as it has come
+abbrev pub AllFew : Option Filling → Type 0
+AllFew None = Unit {0}
+AllFew (Some q) = Few q
 
 zeros : (n k : ℕ) → get_or (replicate n 0) k 0 < 10000000000000000
 zeros zero k = omega arith
@@ -28,52 +35,58 @@ set-small (x ∷ vs) zero v l h (suc k) = h (suc k)
 set-small (x ∷ vs) (suc i) v l h zero = h zero
 set-small (x ∷ vs) (suc i) v l h (suc k) = set-small vs i v l (λ j. h (suc j)) k
 
-pub blank-few : (wrong : Bool) → Few (blank_of wrong)
-blank-few wrong = record { value = omega arith; values = zeros 16 }
+no-number : (v : ℕ) → None ≡ Some v → v < 10000000000000000
+no-number v e = absurd (none-some e)
+
+pub blank-few : Few blank_of
+blank-few = record { number = no-number; values = zeros 16 }
 
 valued-few : (q : Filling) (v : ℕ) → v < 10000000000000000 → Few q → Few (valued_of q v)
-valued-few q v l x = record { value = l; values = x.values }
+valued-few q v l x = record {
+  number = λ w e. let z : v ≡ w = cc in omega arith;
+  values = x.values;
+}
 
-passed-few : (form : List ℕ) (q : Filling) (b : ℕ) → Few q → Few (passed_of form q b)
+passed-few : (form : List ℕ) (q : Filling) (b : ℕ) → Few q → AllFew (passed_of form q b)
 unfolding passed_of
 passed-few form q b x =
-    pick_all Few (leb (length form) q.at) spoilt_of _ (λ e. blank-few _)
-    (λ e. pick_all Few (eqb (get_or form q.at 0) b) (onward q) spoilt_of
-    (λ y. record { value = x.value; values = x.values }) (λ n. blank-few _))
+    pick_all AllFew (leb (length form) q.at) None _ (λ e. tt)
+    (λ e. pick_all AllFew (eqb (get_or form q.at 0) b) (Some (onward q)) None
+    (λ y. record { number = x.number; values = x.values }) (λ n. tt))
 
-stored-few : (q : Filling) → Few q → Few (stored_of q)
-unfolding stored_of
-stored-few q x =
-    pick_all Few (leb 16 q.filled) spoilt_of (kept q) (λ e. blank-few _)
-    (λ e. record { value = omega arith; values = set-small q.values q.filled q.value x.value x.values })
+pub kept-few : (q : Filling) (v : ℕ) → v < 10000000000000000 → Few q → Few (kept q v)
+kept-few q v l x = record { number = no-number; values = set-small q.values q.filled v l x.values }
 
-behind-few : (form : List ℕ) (q : Filling) (b : ℕ) → Few q → Few (behind_of form q b)
-unfolding behind_of
+behind-few : (form : List ℕ) (q : Filling) (b : ℕ) → Few q → AllFew (behind_of form q b)
+unfolding behind_of stored_of
 behind-few form q b x =
-    pick_all Few q.begun _ spoilt_of (λ e. passed-few form (stored_of q) b (stored-few q x)) (λ e. blank-few _)
+    let F = λ (o : Option ℕ). AllFew (behind_from form q o b) in
+    opened q.number (λ n. subst F (sym n) tt)
+    (λ v e. subst F (sym e) (pick_all (λ o. AllFew (passed_from form o b)) (leb 16 q.filled) None (Some (kept q v))
+    (λ e. tt) (λ n. passed-few form (kept q v) b (kept-few q v (x.number v e) x))))
 
-digit-few : (q : Filling) (d : ℕ) → d < 10 → Few q → Few (digit_of q d)
-unfolding digit_of
+digit-few : (q : Filling) (d : ℕ) → d < 10 → Few q → AllFew (digit_of q d)
+unfolding digit_of longer_of
 digit-few q d l x =
-    pick_all Few q.begun _ (valued_of q d)
-    (λ e. pick_all Few (eqb q.value 0) spoilt_of _ (λ e. blank-few _)
-    (λ e. pick_all Few (leb 1000000000000000 q.value) spoilt_of _ (λ e. blank-few _)
-    (λ e. let h : q.value < 1000000000000000 = leb-false _ _ e in valued-few q _ (omega arith) x)))
-    (λ e. valued-few q d (omega arith) x)
+    let F = λ (o : Option ℕ). AllFew (grown q (longer_of o d)) in
+    let G = λ (o : Option ℕ). AllFew (grown q o) in
+    opened q.number (λ n. subst F (sym n) (valued-few q d (omega arith) x))
+    (λ v e. subst F (sym e) (pick_all G (eqb v 0) None _ (λ e. tt)
+    (λ e. pick_all G (leb 1000000000000000 v) None _ (λ e. tt)
+    (λ e. let h : v < 1000000000000000 = leb-false _ _ e in valued-few q (v * 10 + d) (omega arith) x))))
 
-number-few : (form : List ℕ) (q : Filling) (b : ℕ) → Few q → Few (number_of form q b)
+number-few : (form : List ℕ) (q : Filling) (b : ℕ) → Few q → AllFew (number_of form q b)
 unfolding number_of
 number-few form q b x =
-    pick_all Few (ltb b 48) (behind_of form q b) _ (λ e. behind-few form q b x)
-    (λ low. pick_all Few (ltb 57 b) (behind_of form q b) _ (λ e. behind-few form q b x)
+    pick_all AllFew (ltb b 48) (behind_of form q b) _ (λ e. behind-few form q b x)
+    (λ low. pick_all AllFew (ltb 57 b) (behind_of form q b) _ (λ e. behind-few form q b x)
     (λ high. let u : b ≤ 57 = ltb-false _ _ high in digit-few q (b - 48) (omega arith) x))
 
-pub filled-few : (form : List ℕ) (q : Filling) (b : ℕ) → Few q → Few (filled_of form q b)
+pub filled-few : (form : List ℕ) (q : Filling) (b : ℕ) → Few q → AllFew (filled_of form q b)
 unfolding filled_of
 filled-few form q b x =
-    pick_all Few q.wrong spoilt_of _ (λ e. blank-few _)
-    (λ e. pick_all Few (eqb b 35) spoilt_of _ (λ e. blank-few _)
-    (λ e. pick_all Few (numbered_at form q.at) _ _ (λ e. number-few form q b x) (λ e. passed-few form q b x)))
+    pick_all AllFew (eqb b 35) None _ (λ e. tt)
+    (λ e. pick_all AllFew (numbered_at form q.at) _ _ (λ e. number-few form q b x) (λ e. passed-few form q b x))
 
 -- ---- the totals that such numbers make
 

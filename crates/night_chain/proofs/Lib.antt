@@ -1,7 +1,6 @@
 -- In order of reading: laws, then what users cite (Theorems).
 pub mod FedLaws
 pub mod ChainLaws
-pub mod PutLaws
 pub mod TextLaws
 pub mod FewLaws
 pub mod PrintedLaws

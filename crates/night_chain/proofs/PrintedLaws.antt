@@ -1,4 +1,5 @@
 -- What is printed of totals: its fourteen lines, and its numbers found again.
+use Rattle.std.proofs.Common.{Some}
 use Rattle.std.proofs.Common.{◌≡◌, ℕ, zero, suc, ◌+◌, ◌/◌, ◌%◌, ◌≤◌, true, false, eqb, ltb, List, [], ◌∷◌, ◌++◌, length}
 use Rattle.std.proofs.Common.{get_or, sym, refl, ap, ◌∙◌, append_assoc, append-nil, arith, ne_eqb, eqb-true}
 use Rattle.words.specs.Loop.{pick}
@@ -7,13 +8,12 @@ use Rattle.sheet.specs.Digits.{byte_of, power, digits}
 use Rattle.forecast_text.specs.Printed.{text, numeral_of}
 use Rattle.night_totals.specs.Form.{spelt}
 use Rattle.night_totals.specs.Filling.{blank_of}
-use Rattle.night_totals.specs.Printed.{totals_form, totals_numbers, printed_of}
+use Rattle.night_totals.specs.Printed.{totals_form, totals_numbers, totals_from, printed_of}
 use Rattle.night_totals.specs.declared.filling.Filling.{Filling}
 use Rattle.night_totals.specs.declared.totals.Totals.{Totals}
 use Rattle.night_totals.proofs.FormLaws.{split, slots_in, spelt-byte, spelt-number}
 use Rattle.night_totals.proofs.CompleteLaws.{fill_of, proper_from, set_in, state_at, filled-whole}
 use Rattle.night_chain.specs.Texts.{printed, Short, first_lines, Begins}
-use Rattle.night_chain.specs.Chain.{totals_from}
 use Rattle.night_chain.proofs.TextLaws.{ended, behind, first-behind, ended-append, first-append, behind-append}
 use Rattle.night_chain.proofs.TextLaws.{first-fewer, ends_line, behind-plain}
 
@@ -120,11 +120,11 @@ rests-same t u p q e = sym (printed-rest t p) ∙ ap (λ s. behind s 14) e ∙ p
 
 abbrev pub come_of : Totals → Filling
 come_of t =
-    state_at totals_form (slots_in totals_form) (set_in totals_form 0 (blank_of false).values (totals_numbers t))
+    state_at totals_form (slots_in totals_form) (set_in totals_form 0 blank_of.values (totals_numbers t))
 
-pub printed-filled : (t : Totals) → Short t → fill_of totals_form (blank_of false) (printed t) ≡ come_of t
+pub printed-filled : (t : Totals) → Short t → fill_of totals_form (Some blank_of) (printed t) ≡ Some (come_of t)
 printed-filled t h =
-    ap (fill_of totals_form (blank_of false)) (printed-is t)
+    ap (fill_of totals_form (Some blank_of)) (printed-is t)
     ∙ filled-whole (totals_numbers t) h totals_form form-proper (omega (arith, form-slots)) (omega (arith, form-length))
 
 come-totals : (t : Totals) → totals_from (come_of t).values ≡ t
@@ -133,10 +133,12 @@ come-totals t = refl
 
 pub printed-once : (t u : Totals) → Short t → Short u → printed t ≡ printed u → t ≡ u
 printed-once t u h k e =
-    sym (come-totals t)
-    ∙ ap (λ (q : Filling). totals_from q.values)
-    (sym (printed-filled t h) ∙ ap (fill_of totals_form (blank_of false)) e ∙ printed-filled u k)
-    ∙ come-totals u
+    let z : come_of t ≡ come_of u =
+    some-same (sym (printed-filled t h) ∙ ap (fill_of totals_form (Some blank_of)) e ∙ printed-filled u k) in
+    sym (come-totals t) ∙ ap (λ (q : Filling). totals_from q.values) z ∙ come-totals u
+  where
+    some-same : {p q : Filling} → Some p ≡ Some q → p ≡ q
+    some-same h = cc
 
 -- ---- a text that begins as totals do
 

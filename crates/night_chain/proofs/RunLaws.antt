@@ -1,89 +1,88 @@
 -- Bytes that begin totals: what they say of the lines that came, and of those that can still come.
+use Rattle.std.proofs.Common.{◌^◌, Option, None, Some, subst}
 use Rattle.std.proofs.Common.{◌≡◌, ℕ, zero, suc, ◌+◌, ◌<◌, ◌≤◌, true, false, eqb, List, [], ◌∷◌, ◌++◌, length, take}
-use Rattle.std.proofs.Common.{drop, sym, refl, ap, ◌∙◌, true≢false, append_assoc, append-nil, arith, take-append-drop}
+use Rattle.std.proofs.Common.{drop, sym, refl, ap, ◌∙◌, append_assoc, append-nil, arith, take-append-drop}
 use Rattle.std.proofs.Common.{take_all}
 use borrow.Author.Tests.{eqb-false}
 use Rattle.words.specs.Loop.{pick}
-use Rattle.words.proofs.Branch.{pick_yes, pick_no, pick_all}
-use Rattle.forecast_text.specs.Printed.{text, numeral_of}
+use Rattle.forecast_text.specs.Printed.{text}
 use Rattle.night_totals.specs.Form.{spelt}
 use Rattle.night_totals.specs.Filling.{blank_of, numbered_at, kept, filled_of}
-use Rattle.night_totals.specs.Printed.{totals_form, printed_of}
+use Rattle.night_totals.specs.Printed.{totals_form, totals_from, printed_of}
 use Rattle.night_totals.specs.declared.filling.Filling.{Filling}
 use Rattle.night_totals.specs.declared.totals.Totals.{Totals}
-use Rattle.night_totals.proofs.FormLaws.{split, slots_in, slots-append, spelt-append}
-use Rattle.night_totals.proofs.SoundLaws.{past, Sound, blank-sound, blank-past, filled_next}
+use Rattle.night_totals.proofs.FormLaws.{opened, slots_in, slots-append, spelt-append}
+use Rattle.night_totals.proofs.SoundLaws.{begun, past, Sound, Next, blank-sound, blank-past, idle-off, filled_next}
 use Rattle.night_totals.proofs.SoundLaws.{kept-past}
-use Rattle.night_totals.proofs.CompleteLaws.{fill_of, fill-append}
+use Rattle.night_totals.proofs.CompleteLaws.{filled_from, fill_of, fill-append}
+use Rattle.night_totals.proofs.LineLaws.{ends-wrong}
 use Rattle.night_chain.specs.Texts.{printed, Short, first_lines, Begins}
-use Rattle.night_chain.specs.Chain.{totals_from}
 use Rattle.night_chain.proofs.TextLaws.{ended, behind, first-behind, ended-append, first-append, ended-first}
 use Rattle.night_chain.proofs.TextLaws.{early-lines, Meet, longer, shorter, meet, first_byte}
-use Rattle.night_chain.proofs.FewLaws.{Few, blank-few, filled-few, set-small, totals-short}
+use Rattle.night_chain.proofs.FewLaws.{Few, AllFew, blank-few, kept-few, filled-few, totals-short}
 use Rattle.night_chain.proofs.PrintedLaws.{numeral-plain, ended-spelt, form-length, form-slots, form-ended}
 use Rattle.night_chain.proofs.PrintedLaws.{form-ends, printed_ended, printed-filled}
 
 -- the bytes of totals that have begun, and are not whole yet
 pub record Run (come : List ℕ) (q : Filling) : Type 0 where
-  pub by : fill_of totals_form (blank_of false) come ≡ q
-  pub right : q.wrong ≡ false
+  pub by : fill_of totals_form (Some blank_of) come ≡ Some q
   pub early : eqb q.at 138 ≡ false
   pub sound : Sound totals_form q
   pub few : Few q
   pub is : past totals_form q ≡ come
 
-pub run-blank : Run [] (blank_of false)
+pub run-blank : Run [] blank_of
 unfolding fill_of
 run-blank = record {
   by = refl;
-  right = refl;
   early = refl;
   sound = blank-sound totals_form;
-  few = blank-few false;
+  few = blank-few;
   is = blank-past totals_form;
 }
 
-module _ (come : List ℕ) (q : Filling) (b : ℕ) (x : Run come q)
-    (right : (filled_of totals_form q b).wrong ≡ false) where
-  abbrev r : Filling
-  r = filled_of totals_form q b
+module _ (come : List ℕ) (q : Filling) (b : ℕ) (x : Run come q) (r : Filling)
+    (next : filled_of totals_form q b ≡ Some r) where
+  short : length totals_form < 2 ^ 32
+  short = omega (arith, form-length)
+
+  of-next : Next totals_form short (past totals_form q) b (Some r)
+  of-next = subst (Next totals_form short (past totals_form q) b) next (filled_next totals_form short q x.sound b)
 
   pub next-sound : Sound totals_form r
-  next-sound = (filled_next totals_form (omega (arith, form-length)) q x.sound b right).0
+  next-sound = of-next.0
 
   pub next_past : past totals_form r ≡ come ++ (b ∷ [])
-  next_past =
-      (filled_next totals_form (omega (arith, form-length)) q x.sound b right).1 ∙ ap (λ l. l ++ (b ∷ [])) x.is
+  next_past = of-next.1 ∙ ap (λ l. l ++ (b ∷ [])) x.is
+
+  pub next-few : Few r
+  next-few = subst AllFew next (filled-few totals_form q b x.few)
 
   pub run_more : eqb r.at 138 ≡ false → Run (come ++ (b ∷ [])) r
   unfolding fill_of
   run_more n = record {
     by =
-        fill-append totals_form (blank_of false) come (b ∷ [])
-        ∙ ap (λ (p : Filling). filled_of totals_form p b) x.by;
-    right = right;
+        fill-append totals_form (Some blank_of) come (b ∷ [])
+        ∙ ap (λ (o : Option Filling). filled_from totals_form o b) x.by ∙ next;
     early = n;
     sound = next-sound;
-    few = filled-few totals_form q b x.few;
+    few = next-few;
     is = next_past;
   }
 
 -- ---- at the end of the form, and at its beginning
 
 end-plain : numbered_at totals_form 138 ≡ false
-unfolding numbered_at text pick
+unfolding numbered_at text
 end-plain = refl
 
 start_plain : numbered_at totals_form 0 ≡ false
-unfolding numbered_at text pick
+unfolding numbered_at text
 start_plain = refl
 
-idle : (q : Filling) → Sound totals_form q → numbered_at totals_form q.at ≡ false → q.begun ≡ false
-idle q s off = split q.begun (λ y. absurd (true≢false (sym (s.here y) ∙ off))) (λ n. n)
-
-past-idle : (q : Filling) → q.begun ≡ false → past totals_form q ≡ spelt (take q.at totals_form) 0 q.values
+past-idle : (q : Filling) → q.number ≡ None → past totals_form q ≡ spelt (take q.at totals_form) 0 q.values
 unfolding past
-past-idle q off = ap (λ l. spelt (take q.at totals_form) 0 q.values ++ l) (pick_no _ _ off) ∙ append-nil _
+past-idle q off = ap (λ o. spelt (take q.at totals_form) 0 q.values ++ begun o) off ∙ append-nil _
 
 printed-from : (vs : List ℕ) → spelt totals_form 0 vs ≡ printed (totals_from vs)
 unfolding spelt text pick printed_of
@@ -91,14 +90,14 @@ printed-from vs = refl
 
 pub past-whole : (q : Filling) → Sound totals_form q → q.at ≡ 138 → past totals_form q ≡ printed (totals_from q.values)
 past-whole q s e =
-    past-idle q (idle q s (ap (numbered_at totals_form) e ∙ end-plain))
+    past-idle q (idle-off totals_form q s (ap (numbered_at totals_form) e ∙ end-plain))
     ∙ ap (λ f. spelt f 0 q.values) (take_all q.at totals_form (omega (arith, form-length)))
     ∙ printed-from q.values
 
 pub past-none : (q : Filling) → Sound totals_form q → q.at ≡ 0 → past totals_form q ≡ []
 unfolding spelt
 past-none q s e =
-    past-idle q (idle q s (ap (numbered_at totals_form) e ∙ start_plain))
+    past-idle q (idle-off totals_form q s (ap (numbered_at totals_form) e ∙ start_plain))
     ∙ ap (λ k. spelt (take k totals_form) 0 q.values) e
 
 -- the form begins with an l
@@ -123,12 +122,16 @@ begun-some come q x n = some_or_none come (λ e. eqb-false _ _ n (none-zero q (x
 
 -- ---- fewer than fourteen lines have come
 
+begun-plain : (o : Option ℕ) → ended (begun o) ≡ 0
+unfolding ended
+begun-plain None = refl
+begun-plain (Some v) = numeral-plain v
+
 past-ended : (q : Filling) → ended (past totals_form q) ≡ ended (take q.at totals_form)
 unfolding past ended
 past-ended q =
     ended-append (spelt (take q.at totals_form) 0 q.values) _
-    ∙ let z : ended (pick q.begun (numeral_of q.value) []) ≡ 0 =
-    pick_all (λ l. ended l ≡ 0) q.begun (numeral_of q.value) [] (λ e. numeral-plain q.value) (λ e. refl) in
+    ∙ let z : ended (begun q.number) ≡ 0 = begun-plain q.number in
     omega (arith, ended-spelt (take q.at totals_form) 0 q.values)
 
 less : (a b : ℕ) → a ≤ b → (a ≡ b → ⊥) → a < b
@@ -151,7 +154,7 @@ record Ahead (come : List ℕ) : Type 0 where
   rest : List ℕ
   is : come ++ rest ≡ printed t
 
-ahead-idle : (q : Filling) → Few q → q.begun ≡ false → Ahead (past totals_form q)
+ahead-idle : (q : Filling) → Few q → q.number ≡ None → Ahead (past totals_form q)
 ahead-idle q f off =
     let front = take q.at totals_form in
     let back = drop q.at totals_form in
@@ -176,16 +179,12 @@ slots-left at slot =
 
 ahead : (come : List ℕ) (q : Filling) → Run come q → Ahead come
 ahead come q x =
-    rw (← x.is) (split q.begun
-    (λ y. let slot = x.sound.here y in
+    rw (← x.is) (opened q.number
+    (λ off. ahead-idle q x.few off)
+    (λ v y. let slot = x.sound.here v y in
     let n : q.filled < 16 = omega (arith, x.sound.counted, slots-left q.at slot) in
-    let p = kept-past totals_form (omega (arith, form-length)) q x.sound slot y n in
-    let f : Few (kept q) = record {
-      value = omega arith;
-      values = set-small q.values q.filled q.value x.few.value x.few.values;
-    } in
-    rw (← p) (ahead-idle (kept q) f refl))
-    (λ off. ahead-idle q x.few off))
+    let p = kept-past totals_form (omega (arith, form-length)) q x.sound slot v y n in
+    rw (← p) (ahead-idle (kept q v) (kept-few q v (x.few.number v y) x.few) refl)))
 
 pub run-begins : (come : List ℕ) (q : Filling) (more : List ℕ) → Run come q → Begins (ended come) (come ++ more)
 run-begins come q more x =
@@ -214,26 +213,16 @@ run-no-more come q x y =
     let e : ended come ≡ ended s + ended y.rest = ap ended y.is ∙ ended-append s y.rest in
     omega (arith, front-ended y.t (ended come) l)
 
-wrong-next : (form : List ℕ) (q : Filling) (b : ℕ) → q.wrong ≡ true → (filled_of form q b).wrong ≡ true
-unfolding filled_of
-wrong-next form q b w = ap (λ (r : Filling). r.wrong) (pick_yes {A = Filling} {b = q.wrong} _ _ w)
-
-wrong_stays : (form s : List ℕ) (q : Filling) → q.wrong ≡ true → (fill_of form q s).wrong ≡ true
-unfolding fill_of
-wrong_stays form [] q w = w
-wrong_stays form (b ∷ s) q w = wrong_stays form s (filled_of form q b) (wrong-next form q b w)
-
 module _ (come : List ℕ) (q : Filling) (b : ℕ) (more : List ℕ) (x : Run come q)
-    (bad : (filled_of totals_form q b).wrong ≡ true) where
+    (bad : filled_of totals_form q b ≡ None) where
   -- no totals go on with such a byte
   no_front : (u : Totals) → Short u → (s : List ℕ) → printed u ≡ come ++ (b ∷ s) → ⊥
   unfolding fill_of
   no_front u h s e =
-      let z : fill_of totals_form (blank_of false) (printed u) ≡ fill_of totals_form (filled_of totals_form q b) s =
-      ap (fill_of totals_form (blank_of false)) e ∙ fill-append totals_form (blank_of false) come (b ∷ s)
-      ∙ ap (λ (p : Filling). fill_of totals_form p (b ∷ s)) x.by in
-      true≢false (sym (wrong_stays totals_form s (filled_of totals_form q b) bad)
-      ∙ ap (λ (p : Filling). p.wrong) (sym z ∙ printed-filled u h))
+      let z : fill_of totals_form (Some blank_of) (printed u) ≡ fill_of totals_form (filled_of totals_form q b) s =
+      ap (fill_of totals_form (Some blank_of)) e ∙ fill-append totals_form (Some blank_of) come (b ∷ s)
+      ∙ ap (λ (o : Option Filling). fill_of totals_form o (b ∷ s)) x.by in
+      ends-wrong totals_form (filled_of totals_form q b) s bad (sym z ∙ printed-filled u h)
 
   module _ (y : Begins (suc (ended come)) (come ++ (b ∷ more))) where
     abbrev front : List ℕ

@@ -1,24 +1,25 @@
 -- Where the record stands after any bytes.
+use Rattle.std.proofs.Common.{Result, Option, None, Some}
 use Rattle.std.proofs.Common.{◌≡◌, ℕ, ◌+◌, ◌*◌, ◌%◌, ◌^◌, true, false, eqb, List, [], ◌∷◌, ◌++◌, length, sym, refl, ap}
 use Rattle.std.proofs.Common.{◌∙◌, append_assoc, append-nil, arith, length-append, eqb-true}
 use native.Mathlib.Nat.{mod-add-mod}
 use Rattle.words.specs.Loop.{pick}
 use Rattle.words.proofs.Branch.{pick_yes, pick_no}
-use Rattle.night_totals.specs.Filling.{blank_of, spoilt_of, filled_of}
-use Rattle.night_totals.specs.Printed.{totals_form}
+use Rattle.night_totals.specs.Filling.{blank_of, filled_of}
+use Rattle.night_totals.specs.Printed.{totals_form, totals_from}
 use Rattle.night_totals.specs.declared.filling.Filling.{Filling}
 use Rattle.night_totals.specs.declared.totals.Totals.{Totals}
-use Rattle.night_totals.proofs.FormLaws.{split}
+use Rattle.night_totals.proofs.FormLaws.{split, opened}
 use Rattle.night_join.specs.Join.{then_join}
-use Rattle.night_join.specs.declared.joining.Joining.{Joining}
+use Rattle.night_join.specs.declared.joining.JoinError.{JoinError}
 use Rattle.night_chain.specs.Texts.{printed, Short, AllShort, nothing, another, printed_all}
 use Rattle.night_chain.specs.Reads.{joined_from, joined_of}
-use Rattle.night_chain.specs.Chain.{chain_at, totals_from, start_of, lines_of, taken_of, step_of, fed_of}
+use Rattle.night_chain.specs.Chain.{chain_at, start_of, lines_of, taken_of, step_of, fed_of}
 use Rattle.night_chain.specs.declared.chain.Chain.{Chain}
 use Rattle.night_chain.proofs.TextLaws.{ended, ended-append}
-use Rattle.night_chain.proofs.FewLaws.{filled-few, totals-short}
+use Rattle.night_chain.proofs.FewLaws.{totals-short}
 use Rattle.night_chain.proofs.PrintedLaws.{printed_ended}
-use Rattle.night_chain.proofs.RunLaws.{Run, run-blank, next-sound, next_past, run_more, past-whole}
+use Rattle.night_chain.proofs.RunLaws.{Run, run-blank, next-sound, next_past, next-few, run_more, past-whole}
 
 -- the number of lines as a word
 abbrev pub lines_at : List Totals → List ℕ → ℕ
@@ -31,7 +32,7 @@ pub record Going (s : List ℕ) (c : Chain) : Type 0 where
   pub q : Filling
   pub is : s ≡ printed_all ts ++ come
   pub short : AllShort ts
-  pub at : c ≡ chain_at q (lines_at ts come) (joined_of ts)
+  pub at : c ≡ chain_at (Some q) (lines_at ts come) (joined_of ts)
   pub run : Run come q
 
 -- behind a byte with which no totals go on
@@ -43,9 +44,9 @@ pub record Wrong (s : List ℕ) (c : Chain) : Type 0 where
   pub more : List ℕ
   pub is : s ≡ printed_all ts ++ (come ++ (b ∷ more))
   pub short : AllShort ts
-  pub at : c ≡ chain_at spoilt_of (lines_at ts come) (joined_of ts)
+  pub at : c ≡ chain_at None (lines_at ts come) (joined_of ts)
   pub run : Run come q
-  pub bad : (filled_of totals_form q b).wrong ≡ true
+  pub bad : filled_of totals_form q b ≡ None
 
 pub data Stand (s : List ℕ) (c : Chain) : Type 0 where
   going : Going s c → Stand s c
@@ -53,7 +54,7 @@ pub data Stand (s : List ℕ) (c : Chain) : Type 0 where
 
 -- ---- totals more
 
-joined-more : (j : Joining) (ts : List Totals) (t : Totals)
+joined-more : (j : Result Totals JoinError) (ts : List Totals) (t : Totals)
     → joined_from j (ts ++ (t ∷ [])) ≡ then_join (joined_from j ts) t
 unfolding joined_from
 joined-more j [] t = refl
@@ -97,36 +98,33 @@ lines-whole ts t come e =
 
 -- ---- one byte more
 
-module _ (n : ℕ) (j : Joining) (r : Filling) (b : ℕ) where
-  taken-wrong : r.wrong ≡ true → taken_of n j r b ≡ chain_at spoilt_of n j
+module _ (n : ℕ) (j : Result Totals JoinError) (r : Filling) (b : ℕ) where
+  taken-on : eqb r.at 138 ≡ false → taken_of n j (Some r) b ≡ chain_at (Some r) (lines_of n b) j
   unfolding taken_of
-  taken-wrong w = pick_yes _ _ w
+  taken-on e = pick_no _ _ e
 
-  taken-on : r.wrong ≡ false → eqb r.at 138 ≡ false → taken_of n j r b ≡ chain_at r (lines_of n b) j
+  taken-whole : eqb r.at 138 ≡ true
+      → taken_of n j (Some r) b ≡ chain_at (Some blank_of) (lines_of n b) (then_join j (totals_from r.values))
   unfolding taken_of
-  taken-on w e = pick_no _ _ w ∙ pick_no _ _ e
-
-  taken-whole : r.wrong ≡ false → eqb r.at 138 ≡ true
-      → taken_of n j r b ≡ chain_at (blank_of false) (lines_of n b) (then_join j (totals_from r.values))
-  unfolding taken_of
-  taken-whole w e = pick_no _ _ w ∙ pick_yes _ _ e
+  taken-whole e = pick_yes _ _ e
 
 module _ (s : List ℕ) (c : Chain) (b : ℕ) where
   abbrev After : Chain → Type 0
   After d = Stand (s ++ (b ∷ [])) d
 
   module _ (x : Going s c) where
-    abbrev r : Filling
-    r = filled_of totals_form x.q b
-
     longer : s ++ (b ∷ []) ≡ printed_all x.ts ++ (x.come ++ (b ∷ []))
     longer = ap (λ l. l ++ (b ∷ [])) x.is ∙ append_assoc (printed_all x.ts) x.come (b ∷ [])
 
-    taken_is : step_of c b ≡ taken_of (lines_at x.ts x.come) (joined_of x.ts) r b
+    taken_is : (o : Option Filling) → filled_of totals_form x.q b ≡ o
+        → step_of c b ≡ taken_of (lines_at x.ts x.come) (joined_of x.ts) o b
     unfolding step_of
-    taken_is = ap (λ (d : Chain). step_of d b) x.at ∙ pick_no _ _ x.run.right
+    taken_is o e =
+        ap (λ (d : Chain). step_of d b) x.at
+        ∙ ap (λ p. taken_of (lines_at x.ts x.come) (joined_of x.ts) p b) e
 
-    spoils : r.wrong ≡ true → After (step_of c b)
+    spoils : filled_of totals_form x.q b ≡ None → After (step_of c b)
+    unfolding taken_of
     spoils w = wrong (record {
       ts = x.ts;
       come = x.come;
@@ -135,52 +133,52 @@ module _ (s : List ℕ) (c : Chain) (b : ℕ) where
       more = [];
       is = longer;
       short = x.short;
-      at = taken_is ∙ taken-wrong _ _ r b w;
+      at = taken_is None w;
       run = x.run;
       bad = w;
     })
 
-    goes-on : r.wrong ≡ false → eqb r.at 138 ≡ false → After (step_of c b)
-    goes-on w e = going (record {
-      ts = x.ts;
-      come = x.come ++ (b ∷ []);
-      q = r;
-      is = longer;
-      short = x.short;
-      at =
-          taken_is ∙ taken-on _ _ r b w e
-          ∙ ap (λ n. chain_at r n (joined_of x.ts)) (lines-on x.ts x.come b);
-      run = run_more x.come x.q b x.run w e;
-    })
+    module _ (r : Filling) (w : filled_of totals_form x.q b ≡ Some r) where
+      goes-on : eqb r.at 138 ≡ false → After (step_of c b)
+      goes-on e = going (record {
+        ts = x.ts;
+        come = x.come ++ (b ∷ []);
+        q = r;
+        is = longer;
+        short = x.short;
+        at =
+            taken_is (Some r) w ∙ taken-on _ _ r b e
+            ∙ ap (λ n. chain_at (Some r) n (joined_of x.ts)) (lines-on x.ts x.come b);
+        run = run_more x.come x.q b x.run r w e;
+      })
 
-    ends : r.wrong ≡ false → eqb r.at 138 ≡ true → After (step_of c b)
-    ends w e =
-        let t = totals_from r.values in
-        let whole : x.come ++ (b ∷ []) ≡ printed t =
-        sym (next_past x.come x.q b x.run w)
-        ∙ past-whole r (next-sound x.come x.q b x.run w) (eqb-true _ _ e) in
-        going (record {
-          ts = x.ts ++ (t ∷ []);
-          come = [];
-          q = blank_of false;
-          is =
-              longer ∙ ap (λ l. printed_all x.ts ++ l) whole ∙ sym (printed-more x.ts t)
-              ∙ sym (append-nil (printed_all (x.ts ++ (t ∷ []))));
-          short =
-              short-more t x.short
-              (totals-short r.values (filled-few totals_form x.q b x.run.few).values);
-          at =
-              taken_is ∙ taken-whole _ _ r b w e
-              ∙ ap (λ n. chain_at (blank_of false) n (then_join (joined_of x.ts) t))
-              (lines-on x.ts x.come b ∙ lines-whole x.ts t (x.come ++ (b ∷ [])) whole)
-              ∙ ap (λ (j : Joining). chain_at (blank_of false) (lines_at (x.ts ++ (t ∷ [])) []) j)
-              (sym (joined-more _ x.ts t));
-          run = run-blank;
-        })
+      ends : eqb r.at 138 ≡ true → After (step_of c b)
+      ends e =
+          let t = totals_from r.values in
+          let whole : x.come ++ (b ∷ []) ≡ printed t =
+          sym (next_past x.come x.q b x.run r w)
+          ∙ past-whole r (next-sound x.come x.q b x.run r w) (eqb-true _ _ e) in
+          going (record {
+            ts = x.ts ++ (t ∷ []);
+            come = [];
+            q = blank_of;
+            is =
+                longer ∙ ap (λ l. printed_all x.ts ++ l) whole ∙ sym (printed-more x.ts t)
+                ∙ sym (append-nil (printed_all (x.ts ++ (t ∷ []))));
+            short = short-more t x.short (totals-short r.values (next-few x.come x.q b x.run r w).values);
+            at =
+                taken_is (Some r) w ∙ taken-whole _ _ r b e
+                ∙ ap (λ n. chain_at (Some blank_of) n (then_join (joined_of x.ts) t))
+                (lines-on x.ts x.come b ∙ lines-whole x.ts t (x.come ++ (b ∷ [])) whole)
+                ∙ ap (λ (j : Result Totals JoinError). chain_at (Some blank_of) (lines_at (x.ts ++ (t ∷ [])) []) j)
+                (sym (joined-more _ x.ts t));
+            run = run-blank;
+          })
 
     steps : After (step_of c b)
     steps =
-        split r.wrong spoils (λ w. split (eqb r.at 138) (λ e. ends w e) (λ e. goes-on w e))
+        opened (filled_of totals_form x.q b) spoils
+        (λ r w. split (eqb r.at 138) (λ e. ends r w e) (λ e. goes-on r w e))
 
 pub stand-step : (s : List ℕ) (c : Chain) (b : ℕ) → Stand s c → Stand (s ++ (b ∷ [])) (step_of c b)
 unfolding step_of
@@ -197,7 +195,7 @@ stand-step s c b (wrong x) =
           ∙ append_assoc (printed_all x.ts) (x.come ++ (x.b ∷ x.more)) (b ∷ [])
           ∙ ap (λ l. printed_all x.ts ++ l) (append_assoc x.come (x.b ∷ x.more) (b ∷ []));
       short = x.short;
-      at = ap (λ (d : Chain). step_of d b) x.at ∙ pick_yes _ _ refl;
+      at = ap (λ (d : Chain). step_of d b) x.at;
       run = x.run;
       bad = x.bad;
     })
@@ -214,7 +212,7 @@ stand s =
     stand-all s [] start_of (going (record {
       ts = [];
       come = [];
-      q = blank_of false;
+      q = blank_of;
       is = refl;
       short = nothing;
       at = refl;

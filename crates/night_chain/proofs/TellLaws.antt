@@ -1,21 +1,21 @@
 -- What is told of a text is what it comes to, and nothing else is.
+use Rattle.std.proofs.Common.{Result, Err, None, Some}
 use Rattle.std.proofs.Common.{◌≡◌, ℕ, suc, ◌+◌, ◌*◌, ◌%◌, ◌^◌, ◌<◌, ◌≤◌, true, false, eqb, ltb, ◌↔◌, List, [], ◌∷◌}
 use Rattle.std.proofs.Common.{◌++◌, length, sym, refl, ap, ◌∙◌, append_assoc, append-nil, arith, ltb-false, ltb-true}
 use Rattle.std.proofs.Common.{eqb-true}
 use native.Mathlib.Nat.{mod-add-mod}
 use Rattle.words.proofs.Branch.{pick_yes, pick_no}
-use Rattle.night_totals.specs.Filling.{spoilt_of}
 use Rattle.night_totals.specs.Night.{plus}
 use Rattle.night_totals.specs.declared.filling.Filling.{Filling}
 use Rattle.night_totals.specs.declared.totals.Totals.{Totals}
 use Rattle.night_totals.proofs.FormLaws.{split}
-use Rattle.night_join.specs.declared.joining.Joining.{Joining}
+use Rattle.night_join.specs.declared.joining.JoinError.{JoinError}
 use Rattle.night_chain.specs.Texts.{printed, Short, AllShort, another, printed_all, Begins}
 use Rattle.night_chain.specs.Reads.{joined_of, answer_of, Reads, joined, malformed}
 use Rattle.night_chain.specs.Chain.{chain_at, start_of, fed_of, told_of}
 use Rattle.night_chain.specs.declared.chain.Chain.{Chain}
-use Rattle.night_chain.specs.declared.chain.Answer.{Answer}
-use Rattle.night_chain.specs.declared.chain.Answer.TheVariants as answer
+use Rattle.night_chain.specs.declared.chain.ChainError.{ChainError}
+use Rattle.night_chain.specs.declared.chain.ChainError.TheVariants as chain_error
 use Rattle.night_chain.proofs.TextLaws.{ended, ended-append}
 use Rattle.night_chain.proofs.PrintedLaws.{printed_ended, fronts-same, rests-same, printed-once}
 use Rattle.night_chain.proofs.PrintedLaws.{begins-all, begins-fewer}
@@ -31,18 +31,19 @@ next-line ts come =
     let z : 14 * length ts + ended come + 1 ≡ 14 * length ts + suc (ended come) = omega arith in
     mod-add-mod (14 * length ts + ended come) (2 ^ 64) 1 ∙ ap (λ n. n % 2 ^ 64) z
 
-module _ (q : Filling) (n : ℕ) (j : Joining) where
-  told-joined : q.wrong ≡ false → eqb q.at 0 ≡ true → told_of (chain_at q n j) ≡ answer_of j
+module _ (q : Filling) (n : ℕ) (j : Result Totals JoinError) where
+  told-joined : eqb q.at 0 ≡ true → told_of (chain_at (Some q) n j) ≡ answer_of j
   unfolding told_of
-  told-joined w e = pick_no _ _ w ∙ pick_yes _ _ e
+  told-joined e = pick_yes _ _ e
 
-  told-open : q.wrong ≡ false → eqb q.at 0 ≡ false → told_of (chain_at q n j) ≡ answer.Malformed (plus n 1)
+  told-open : eqb q.at 0 ≡ false → told_of (chain_at (Some q) n j) ≡ Err (chain_error.Malformed (plus n 1))
   unfolding told_of
-  told-open w e = pick_no _ _ w ∙ pick_no _ _ e
+  told-open e = pick_no _ _ e
 
-told-wrong : (n : ℕ) (j : Joining) → told_of (chain_at spoilt_of n j) ≡ answer.Malformed (plus n 1)
+told-wrong : (n : ℕ) (j : Result Totals JoinError) → told_of (chain_at None n j)
+    ≡ Err (chain_error.Malformed (plus n 1))
 unfolding told_of
-told-wrong n j = pick_yes _ _ refl
+told-wrong n j = refl
 
 -- ---- what is told is right
 
@@ -53,12 +54,12 @@ some_more (x ∷ come) b more = omega arith
 reads-going : (s : List ℕ) (c : Chain) → Going s c → Reads s (told_of c)
 reads-going s c x =
     split (eqb x.q.at 0)
-    (λ y. rw (x.at, told-joined x.q (lines_at x.ts x.come) (joined_of x.ts) x.run.right y)
+    (λ y. rw (x.at, told-joined x.q (lines_at x.ts x.come) (joined_of x.ts) y)
     (joined x.ts (x.is ∙ ap (λ l. printed_all x.ts ++ l)
     (sym x.run.is ∙ past-none x.q x.run.sound (eqb-true _ _ y)) ∙ append-nil _) x.short))
     (λ n. rw (
       x.at,
-      told-open x.q (lines_at x.ts x.come) (joined_of x.ts) x.run.right n,
+      told-open x.q (lines_at x.ts x.come) (joined_of x.ts) n,
       next-line x.ts x.come,
     )
     (malformed x.ts x.come (ended x.come) x.is x.short (begun-some x.come x.q x.run n)
@@ -142,7 +143,7 @@ module _ (c : List ℕ) (n : ℕ) (some : 0 < length c) (stops : Stops n c) wher
       (λ f. let u : m < n = ltb-true _ _ f in absurd (ends (begins-fewer (suc m) n c u (omega arith) x)))
       (λ f. let u : n ≤ m = ltb-false _ _ f in omega arith))
 
-pub one-outcome-proof : (s : List ℕ) (a b : Answer) → Reads s a → Reads s b → a ≡ b
+pub one-outcome-proof : (s : List ℕ) (a b : Result Totals ChainError) → Reads s a → Reads s b → a ≡ b
 one-outcome-proof s a b (joined ts e g) (joined us f h) =
     ap (λ l. answer_of (joined_of l)) (joined_once ts us g h (sym e ∙ f))
 one-outcome-proof s a b (joined ts e g) (malformed us c n f h some l x stops) =
@@ -154,9 +155,9 @@ one-outcome-proof s a b (malformed ts c n e g some l x stops) (malformed us d m 
     let i : c ≡ d = z.1 in
     let p : n ≡ m = same_line c n some stops m l k x (rw i y) (λ w. ends (rw (← i) w)) in
     let q : 14 * length ts + suc n ≡ 14 * length us + suc m = omega (arith, z.0) in
-    ap (λ r. answer.Malformed (r % 2 ^ 64)) q
+    ap (λ r. Err (chain_error.Malformed (r % 2 ^ 64))) q
 
-pub told-exactly-proof : (s : List ℕ) (a : Answer) → (told_of (fed_of start_of s) ≡ a) ↔ Reads s a
+pub told-exactly-proof : (s : List ℕ) (a : Result Totals ChainError) → (told_of (fed_of start_of s) ≡ a) ↔ Reads s a
 told-exactly-proof s a = (
   λ e. rw e at (told-right s),
   λ x. one-outcome-proof s (told_of (fed_of start_of s)) a (told-right s) x,

@@ -1,13 +1,12 @@
 -- What is read (02, [13]): totals as `totals` prints them, one after another, each number with at most 16 digits.
-use Rattle.std.specs.Prelude.{◌≡◌, ℕ, zero, suc, ◌<◌, List, [], ◌∷◌, ◌++◌, ◌==◌, slice_index}
+use Rattle.std.specs.Prelude.{◌≡◌, ℕ, zero, suc, ◌<◌, List, [], ◌∷◌, ◌++◌, ◌==◌, slice_index, Ok}
 use Rattle.words.specs.Loop.{pick}
 use Rattle.sheet.specs.Sheet.{line_feed}
 use Rattle.night_totals.specs.Printed.{totals_numbers, printed_of}
 use Rattle.night_totals.specs.declared.totals.Totals.{Totals}
-use Rattle.night_totals.specs.declared.night.Outcome.TheVariants as told
 
 abbrev pub printed : Totals → List ℕ
-printed t = printed_of (told.Totals t)
+printed t = printed_of (Ok t)
 
 -- no number has more than 16 digits
 abbrev pub Short : Totals → Type 0

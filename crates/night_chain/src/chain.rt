@@ -1,69 +1,41 @@
 // Printed totals, taken in pieces of any size: a record goes in by value, and the next comes back.
 ghost use Rattle.std.specs.Prelude.{◌≡◌};
 ghost use Rattle.night_join.specs.Join.{then_join};
-ghost use Rattle.night_chain.specs.Chain.{chain_at, start_of, lines_of, totals_from, taken_of, step_of, fed_of};
-ghost use Rattle.night_chain.specs.Chain.{told_of};
+ghost use Rattle.night_chain.specs.Chain.{start_of, lines_of, taken_of, step_of, fed_of, told_of};
+ghost use Rattle.night_chain.specs.declared.chain.ChainError.TheVariants.{Join};
 
 use night_join::join;
-use night_join::joining::Joining;
+use night_join::joining::JoinError;
 use night_totals::filling::Filling;
-use night_totals::form::{blank, filled, spoilt};
+use night_totals::form::{blank, filled};
+use night_totals::printed::TOTALS_FORM;
 use night_totals::totals::Totals;
 use std::num::wrapping_add_u64;
-
-// How long the form of totals is.
-const FORM: usize = 138;
 
 const LINE_END: u8 = 10;
 
 #[derive(Clone, Copy)]
 pub struct Chain {
-    // The totals that have begun.
-    pub filling: Filling,
+    // The totals that have begun, unless a line is wrong.
+    pub filling: Option<Filling>,
     // The lines before.
     pub lines: u64,
     // The totals before, joined.
-    pub joined: Joining,
+    pub joined: Result<Totals, JoinError>,
 }
 
-// What became of all totals: they are joined, or the first wrong line, or a refused join.
+// Why totals have no sum: the first line that is wrong or missing, or a refused join.
 #[derive(Clone, Copy)]
-pub enum Answer {
-    Joined(Totals),
+pub enum ChainError {
     Malformed(u64),
-    Unfit,
-    TooMany,
+    Join(JoinError),
 }
 
-fn made(filling: Filling, lines: u64, joined: Joining) -> Chain
-    ensures { result ≡ chain_at filling lines joined }
-{
-    Chain {
-        filling: filling,
-        lines: lines,
-        joined: joined,
-    }
-}
+impl From<JoinError> for ChainError {
+    ghost from_gives = { λ refused given. given ≡ Join refused };
 
-fn totals_from(values: [u64; 16]) -> Totals
-    ensures { result ≡ totals_from values }
-{
-    Totals {
-        lines: values[0],
-        status0: values[1],
-        status1: values[2],
-        status2: values[3],
-        status3: values[4],
-        status5: values[5],
-        status7: values[6],
-        accepted: values[7],
-        rejected: values[8],
-        total: values[9],
-        ode: values[10],
-        jac: values[11],
-        lu: values[12],
-        largest: values[13],
-        place: values[14],
+    fn from(refused: JoinError) -> ChainError {
+        ChainError::Join(refused)
     }
 }
 
@@ -71,9 +43,14 @@ fn totals_from(values: [u64; 16]) -> Totals
 pub fn start() -> Chain
     ensures { result ≡ start_of }
 {
-    made(blank(), 0, Joining::Joined(totals_from([0u64; 16])))
+    Chain {
+        filling: Some(blank()),
+        lines: 0,
+        joined: Ok(Totals::from([0u64; 16])),
+    }
 }
 
+#[tactic(auto, unfolding(crate::specs::Chain::lines_of, words::specs::Loop::pick))]
 fn lines_of(lines: u64, byte: u8) -> u64
     ensures { result ≡ lines_of lines byte }
 {
@@ -84,49 +61,50 @@ fn lines_of(lines: u64, byte: u8) -> u64
 }
 
 // The first refused join ends it.
-fn then_join(joined: Joining, next: Totals) -> Joining
+#[tactic(auto, unfolding(night_join::specs::Join::then_join))]
+fn then_join(joined: Result<Totals, JoinError>, next: Totals) -> Result<Totals, JoinError>
     ensures { result ≡ then_join joined next }
 {
-    match joined {
-        Joining::Joined(before) => join(before, next),
-        Joining::Unfit => Joining::Unfit,
-        Joining::TooMany => Joining::TooMany,
-    }
+    join(joined?, next)
 }
 
 // What a byte led to.
-fn taken(lines: u64, joined: Joining, next: Filling, byte: u8) -> Chain
+#[tactic(auto, unfolding(crate::specs::Chain::taken_of, words::specs::Loop::pick))]
+fn taken(lines: u64, joined: Result<Totals, JoinError>, next: Option<Filling>, byte: u8) -> Chain
     ensures { result ≡ taken_of lines joined next byte }
 {
-    let values = next.values;
-    if next.wrong {
-        return made(spoilt(), lines, joined);
+    let Some(filling) = next else {
+        return Chain {
+            filling: None,
+            lines: lines,
+            joined: joined,
+        };
+    };
+    if filling.at != TOTALS_FORM.len() {
+        return Chain {
+            filling: Some(filling),
+            lines: lines_of(lines, byte),
+            joined: joined,
+        };
     }
-    if next.at != FORM {
-        return made(next, lines_of(lines, byte), joined);
+    Chain {
+        filling: Some(blank()),
+        lines: lines_of(lines, byte),
+        joined: then_join(joined, Totals::from(filling.values)),
     }
-    made(
-        blank(),
-        lines_of(lines, byte),
-        then_join(joined, totals_from(values)),
-    )
 }
 
+#[tactic(auto, unfolding(crate::specs::Chain::step_of))]
 fn step(chain: Chain, byte: u8) -> Chain
     ensures { result ≡ step_of chain byte }
 {
-    let filling = chain.filling;
-    let joined = chain.joined;
-    if filling.wrong {
-        return chain;
+    match chain.filling {
+        Some(filling) => {
+            let next = filled(TOTALS_FORM, filling, byte);
+            taken(chain.lines, chain.joined, next, byte)
+        }
+        None => chain,
     }
-    let next = filled(
-        b"lines #\nstatus 0 #\nstatus 1 #\nstatus 2 #\nstatus 3 #\nstatus 5 #\nstatus 7 #\naccepted #\nrejected #\n\
-        total #\node #\njac #\nlu #\nlargest # line #\n",
-        filling,
-        byte,
-    );
-    taken(chain.lines, joined, next, byte)
 }
 
 // Takes a piece.
@@ -134,27 +112,19 @@ pub fn fed(chain: Chain, piece: &[u8]) -> Chain
     ensures { result ≡ fed_of chain piece.now }
 {
     let mut next = chain;
-    for i in 0..piece.len() {
-        next = step(next, piece[i]);
+    for byte in piece {
+        next = step(next, *byte);
     }
     next
 }
 
-// What became of all that was taken, where nothing more comes.
-pub fn told(chain: Chain) -> Answer
+// All totals that were taken, joined, where nothing more comes.
+#[tactic(auto, unfolding(crate::specs::Chain::told_of, crate::specs::Reads::answer_of, words::specs::Loop::pick))]
+pub fn told(chain: Chain) -> Result<Totals, ChainError>
     ensures { result ≡ told_of chain }
 {
-    let filling = chain.filling;
-    let joined = chain.joined;
-    if filling.wrong {
-        return Answer::Malformed(wrapping_add_u64(chain.lines, 1));
-    }
-    if filling.at != 0 {
-        return Answer::Malformed(wrapping_add_u64(chain.lines, 1));
-    }
-    match joined {
-        Joining::Joined(totals) => Answer::Joined(totals),
-        Joining::Unfit => Answer::Unfit,
-        Joining::TooMany => Answer::TooMany,
+    match chain.filling {
+        Some(filling) if filling.at == 0 => Ok(chain.joined?),
+        _ => Err(ChainError::Malformed(wrapping_add_u64(chain.lines, 1))),
     }
 }

@@ -1,9 +1,11 @@
--- Joining is associative, refusals included; totals of no lines are neutral; exchanged sides differ in the place alone.
+-- Joining is associative, refusals included; totals of no lines are neutral; exchanged sides differ in the place
+-- alone.
+use Rattle.std.proofs.Common.{Ok, Err}
 use Rattle.std.proofs.Common.{◌≡◌, ℕ, ◌+◌, ◌<◌, ◌≤◌, max, ltb, sym, ap, ◌∙◌, arith, ltb-false, ltb-true, le-ltb, lt-ltb}
 use Rattle.words.specs.Loop.{pick}
 use Rattle.night_totals.specs.declared.totals.Totals.{Totals}
 use Rattle.night_totals.proofs.FormLaws.{split}
-use Rattle.night_join.specs.declared.joining.Joining.TheVariants as joining
+use Rattle.night_join.specs.declared.joining.JoinError.TheVariants as join_error
 use Rattle.night_join.specs.Join.{Fit, place_of_both, sum_totals, join_of, then_join, join_then}
 use Rattle.night_join.proofs.JoinLaws.{good, left-many, join-few}
 use Rattle.night_join.proofs.JoinLaws.{each, sum-good, sum-fit}
@@ -41,14 +43,14 @@ module _ (a b c : Totals) (f : Fit a) (g : Fit b) (h : Fit c) where
         largest-same : (u v w : ℕ) → max (max u v) w ≡ max u (max v w)
         largest-same u v w = omega arith
 
-    left-few : then_join (join_of a b) c ≡ joining.Joined (sum_totals (sum_totals a b) c)
+    left-few : then_join (join_of a b) c ≡ Ok (sum_totals (sum_totals a b) c)
     unfolding then_join sum_totals
     left-few =
         ap (λ j. then_join j c) (join-few a b f g (le-ltb 65535 (a.lines + b.lines) (omega arith)))
         ∙ join-few (sum_totals a b) c (sum-fit a b f g (omega arith)) h
         (le-ltb 65535 (a.lines + b.lines + c.lines) few)
 
-    right-few : join_then a (join_of b c) ≡ joining.Joined (sum_totals a (sum_totals b c))
+    right-few : join_then a (join_of b c) ≡ Ok (sum_totals a (sum_totals b c))
     unfolding join_then sum_totals
     right-few =
         ap (λ j. join_then a j) (join-few b c g h (le-ltb 65535 (b.lines + c.lines) (omega arith)))
@@ -57,7 +59,7 @@ module _ (a b c : Totals) (f : Fit a) (g : Fit b) (h : Fit c) where
 
   -- where there are too many
   module _ (many : 65535 < a.lines + b.lines + c.lines) where
-    left_over : then_join (join_of a b) c ≡ joining.TooMany
+    left_over : then_join (join_of a b) c ≡ Err join_error.TooMany
     unfolding then_join sum_totals
     left_over =
         split (ltb 65535 (a.lines + b.lines))
@@ -66,7 +68,7 @@ module _ (a b c : Totals) (f : Fit a) (g : Fit b) (h : Fit c) where
         ∙ sym (left-many (sum_totals a b) c (sum-fit a b f g (ltb-false _ _ t)) h
         (lt-ltb 65535 (a.lines + b.lines + c.lines) many)))
 
-    right-over : join_then a (join_of b c) ≡ joining.TooMany
+    right-over : join_then a (join_of b c) ≡ Err join_error.TooMany
     unfolding join_then sum_totals
     right-over =
         split (ltb 65535 (b.lines + c.lines))
@@ -79,4 +81,4 @@ module _ (a b c : Totals) (f : Fit a) (g : Fit b) (h : Fit c) where
   associative-proof =
       split (ltb 65535 (a.lines + b.lines + c.lines))
       (λ t. let m = ltb-true _ _ t in left_over m ∙ sym (right-over m))
-      (λ t. let m = ltb-false _ _ t in left-few m ∙ ap joining.Joined (sums_same m) ∙ sym (right-few m))
+      (λ t. let m = ltb-false _ _ t in left-few m ∙ ap Ok (sums_same m) ∙ sym (right-few m))

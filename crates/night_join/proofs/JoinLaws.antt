@@ -1,16 +1,16 @@
 -- What fit totals have, and the laws of joining them.
-use Rattle.std.proofs.Common.{◌≡◌, ℕ, ◌+◌, ◌*◌, ◌^◌, ◌<◌, ◌≤◌, max, Bool, true, false, eqb, ltb, sym, ap, ◌∙◌}
-use Rattle.std.proofs.Common.{mod-eq_of_lt, arith, ltb-false, le-ltb, eq-eqb, eqb-true, le-leb, leb-true}
-use mathlib.Core.Bool.{false≢true}
+use Rattle.std.proofs.Common.{Ok, Err, ◌||◌, ltb-true}
+use Rattle.std.proofs.lemmas.Bool.{and_parts, and_from}
+use Rattle.std.proofs.Common.{◌≡◌, ℕ, ◌+◌, ◌*◌, ◌^◌, ◌<◌, ◌≤◌, max, true, false, eqb, ltb, sym, ap, ◌∙◌}
+use Rattle.std.proofs.Common.{mod-eq_of_lt, arith, ltb-false, eq-eqb, eqb-true, le-leb, leb-true}
 use borrow.Author.Tests.{eqb-false}
 use Rattle.words.specs.Loop.{pick}
 use Rattle.words.proofs.Branch.{pick_yes, pick_no, pick_all}
-use Rattle.night_totals.specs.Night.{plus}
+use Rattle.night_totals.specs.Counts.{plus, counts_within}
 use Rattle.night_totals.specs.declared.totals.Totals.{Totals}
 use Rattle.night_totals.proofs.FormLaws.{split}
-use Rattle.night_totals.proofs.CompleteLaws.{both_true}
-use Rattle.night_join.specs.declared.joining.Joining.TheVariants as joining
-use Rattle.night_join.specs.Join.{runs_in, sum_within, place_in, fit_totals, Fit}
+use Rattle.night_join.specs.declared.joining.JoinError.TheVariants as join_error
+use Rattle.night_join.specs.Join.{runs_in, place_in, fit_totals, Fit}
 use Rattle.night_join.specs.Join.{place_of_both, sum_totals, join_of}
 use Rattle.night_join.specs.Words.{place_word, sum_words}
 
@@ -19,18 +19,22 @@ abbrev pub each : ((Totals → ℕ) → ℕ) → ℕ → ℕ → Totals
 each made largest place =
     record {
       lines = made (λ t. t.lines);
-      status0 = made (λ t. t.status0);
-      status1 = made (λ t. t.status1);
-      status2 = made (λ t. t.status2);
-      status3 = made (λ t. t.status3);
-      status5 = made (λ t. t.status5);
-      status7 = made (λ t. t.status7);
-      accepted = made (λ t. t.accepted);
-      rejected = made (λ t. t.rejected);
-      total = made (λ t. t.total);
-      ode = made (λ t. t.ode);
-      jac = made (λ t. t.jac);
-      lu = made (λ t. t.lu);
+      runs = record {
+        status0 = made (λ t. t.runs.status0);
+        status1 = made (λ t. t.runs.status1);
+        status2 = made (λ t. t.runs.status2);
+        status3 = made (λ t. t.runs.status3);
+        status5 = made (λ t. t.runs.status5);
+        status7 = made (λ t. t.runs.status7);
+      };
+      counts = record {
+        accepted = made (λ t. t.counts.accepted);
+        rejected = made (λ t. t.counts.rejected);
+        total = made (λ t. t.counts.total);
+        ode = made (λ t. t.counts.ode);
+        jac = made (λ t. t.counts.jac);
+        lu = made (λ t. t.counts.lu);
+      };
       largest = largest;
       place = place;
     }
@@ -40,71 +44,65 @@ each made largest place =
 pub record Good (t : Totals) : Type 0 where
   pub lines : t.lines ≤ 65535
   pub runs : runs_in t ≡ t.lines
-  pub accepted : t.accepted ≤ 10000000000 * t.lines
-  pub rejected : t.rejected ≤ 10000000000 * t.lines
-  pub total : t.total ≤ 10000000000 * t.lines
-  pub ode : t.ode ≤ 10000000000 * t.lines
-  pub jac : t.jac ≤ 10000000000 * t.lines
-  pub lu : t.lu ≤ 10000000000 * t.lines
-  pub largest : t.largest ≤ t.ode
+  pub accepted : t.counts.accepted ≤ 10000000000 * t.lines
+  pub rejected : t.counts.rejected ≤ 10000000000 * t.lines
+  pub total : t.counts.total ≤ 10000000000 * t.lines
+  pub ode : t.counts.ode ≤ 10000000000 * t.lines
+  pub jac : t.counts.jac ≤ 10000000000 * t.lines
+  pub lu : t.counts.lu ≤ 10000000000 * t.lines
+  pub largest : t.largest ≤ t.counts.ode
   pub place : t.place ≤ t.lines
   pub somewhere : t.place ≡ 0 → t.lines ≡ 0
 
-not-picked : {b c : Bool} → pick b false c ≡ true → (b ≡ false) × (c ≡ true)
-not-picked {b} {c} h =
-    split b (λ t. absurd (false≢true (sym (pick_yes _ _ t) ∙ h))) (λ f. (f, sym (pick_no _ _ f) ∙ h))
-
-within-is : (lines sum : ℕ) → sum_within lines sum ≡ true → sum ≤ 10000000000 * lines
-unfolding sum_within
-within-is lines sum h = leb-true sum (10000000000 * lines) h
-
-somewhere-is : (lines place : ℕ) → pick (eqb place 0) (eqb lines 0) true ≡ true → place ≡ 0 → lines ≡ 0
-somewhere-is lines place h z = eqb-true lines 0 (sym (pick_yes _ _ (eq-eqb place 0 z)) ∙ h)
+somewhere-is : (lines place : ℕ) → (eqb lines 0 || ltb 0 place) ≡ true → place ≡ 0 → lines ≡ 0
+somewhere-is lines place h z =
+    split (eqb lines 0) (λ y. eqb-true _ _ y)
+    (λ n. absurd (let l : 0 < place = ltb-true _ _ (sym (ap (λ c. c || ltb 0 place) n) ∙ h) in omega arith))
 
 pub good : (t : Totals) → Fit t → Good t
-unfolding fit_totals place_in
+unfolding fit_totals place_in counts_within
 good t h =
-    let a = not-picked h in
-    let b = both_true _ _ a.1 in
-    let c = both_true _ _ b.0 in
-    let d = both_true _ _ c.1 in
-    let e = both_true _ _ d.1 in
-    let f = both_true _ _ e.1 in
-    let g = both_true _ _ f.1 in
-    let i = both_true _ _ g.1 in
-    let j = both_true _ _ b.1 in
-    let k = not-picked j.1 in
+    let a = and_parts _ _ h in
+    let b = and_parts _ _ a.1 in
+    let c = and_parts _ _ b.1 in
+    let d = and_parts _ _ c.0 in
+    let e = and_parts _ _ d.1 in
+    let f = and_parts _ _ e.1 in
+    let g = and_parts _ _ f.1 in
+    let i = and_parts _ _ g.1 in
+    let j = and_parts _ _ c.1 in
+    let k = and_parts _ _ j.1 in
     record {
-      lines = ltb-false 65535 t.lines a.0;
-      runs = eqb-true _ _ c.0;
-      accepted = within-is _ _ d.0;
-      rejected = within-is _ _ e.0;
-      total = within-is _ _ f.0;
-      ode = within-is _ _ g.0;
-      jac = within-is _ _ i.0;
-      lu = within-is _ _ i.1;
+      lines = leb-true _ _ a.0;
+      runs = eqb-true _ _ b.0;
+      accepted = leb-true _ _ d.0;
+      rejected = leb-true _ _ e.0;
+      total = leb-true _ _ f.0;
+      ode = leb-true _ _ g.0;
+      jac = leb-true _ _ i.0;
+      lu = leb-true _ _ i.1;
       largest = leb-true _ _ j.0;
-      place = ltb-false _ _ k.0;
+      place = leb-true _ _ k.0;
       somewhere = somewhere-is _ _ k.1;
     }
 
-is_within : (lines sum : ℕ) → sum ≤ 10000000000 * lines → sum_within lines sum ≡ true
-unfolding sum_within
-is_within lines sum h = le-leb sum (10000000000 * lines) h
+is-somewhere : (lines place : ℕ) → (place ≡ 0 → lines ≡ 0) → (eqb lines 0 || ltb 0 place) ≡ true
+is-somewhere lines place h =
+    split (eqb lines 0) (λ y. ap (λ c. c || ltb 0 place) y)
+    (λ n. ap (λ c. c || ltb 0 place) n
+    ∙ split (ltb 0 place) (λ y. y) (λ m. absurd (eqb-false _ _ n (h (let z : place
+    ≡ 0 = omega (arith, ltb-false _ _ m) in z)))))
 
 pub fit : (t : Totals) → Good t → Fit t
-unfolding fit_totals place_in
+unfolding fit_totals place_in counts_within
 fit t g =
-    pick_no _ _ (le-ltb 65535 t.lines g.lines)
-    ∙ pick_yes _ _ (pick_yes _ _ (eq-eqb _ _ g.runs)
-    ∙ pick_yes _ _ (is_within _ _ g.accepted) ∙ pick_yes _ _ (is_within _ _ g.rejected)
-    ∙ pick_yes _ _ (is_within _ _ g.total) ∙ pick_yes _ _ (is_within _ _ g.ode)
-    ∙ pick_yes _ _ (is_within _ _ g.jac) ∙ is_within _ _ g.lu)
-    ∙ pick_yes _ _ (le-leb _ _ g.largest)
-    ∙ pick_no _ _ (le-ltb _ _ g.place)
-    ∙ split (eqb t.place 0)
-    (λ y. pick_yes _ _ y ∙ eq-eqb _ _ (g.somewhere (eqb-true _ _ y)))
-    (λ n. pick_no _ _ n)
+    and_from _ _ (le-leb _ _ g.lines) (and_from _ _ (eq-eqb _ _ g.runs)
+    (and_from _ _
+    (and_from _ _ (le-leb _ _ g.accepted) (and_from _ _ (le-leb _ _ g.rejected)
+    (and_from _ _ (le-leb _ _ g.total) (and_from _ _ (le-leb _ _ g.ode)
+    (and_from _ _ (le-leb _ _ g.jac) (le-leb _ _ g.lu))))))
+    (and_from _ _ (le-leb _ _ g.largest)
+    (and_from _ _ (le-leb _ _ g.place) (is-somewhere _ _ g.somewhere)))))
 
 -- ---- the code's sums
 
@@ -112,7 +110,7 @@ exact : (a b : ℕ) → a + b < 2 ^ 64 → plus a b ≡ a + b
 exact a b h = mod-eq_of_lt h
 
 module _ (a b : Totals) (f : Fit a) (g : Fit b) where
-  place-exact : place_word a.lines a.largest a.place b.largest b.place ≡ place_of_both a b
+  place-exact : place_word a b ≡ place_of_both a b
   unfolding place_word place_of_both
   place-exact =
       let x = good a f in
@@ -131,18 +129,22 @@ module _ (a b : Totals) (f : Fit a) (g : Fit b) where
       λ i.
       record {
         lines = exact a.lines b.lines (omega (arith, l, m)) i;
-        status0 = exact a.status0 b.status0 (omega (arith, l, m, x.runs, y.runs)) i;
-        status1 = exact a.status1 b.status1 (omega (arith, l, m, x.runs, y.runs)) i;
-        status2 = exact a.status2 b.status2 (omega (arith, l, m, x.runs, y.runs)) i;
-        status3 = exact a.status3 b.status3 (omega (arith, l, m, x.runs, y.runs)) i;
-        status5 = exact a.status5 b.status5 (omega (arith, l, m, x.runs, y.runs)) i;
-        status7 = exact a.status7 b.status7 (omega (arith, l, m, x.runs, y.runs)) i;
-        accepted = exact a.accepted b.accepted (omega (arith, l, m, x.accepted, y.accepted)) i;
-        rejected = exact a.rejected b.rejected (omega (arith, l, m, x.rejected, y.rejected)) i;
-        total = exact a.total b.total (omega (arith, l, m, x.total, y.total)) i;
-        ode = exact a.ode b.ode (omega (arith, l, m, x.ode, y.ode)) i;
-        jac = exact a.jac b.jac (omega (arith, l, m, x.jac, y.jac)) i;
-        lu = exact a.lu b.lu (omega (arith, l, m, x.lu, y.lu)) i;
+        runs = record {
+          status0 = exact a.runs.status0 b.runs.status0 (omega (arith, l, m, x.runs, y.runs)) i;
+          status1 = exact a.runs.status1 b.runs.status1 (omega (arith, l, m, x.runs, y.runs)) i;
+          status2 = exact a.runs.status2 b.runs.status2 (omega (arith, l, m, x.runs, y.runs)) i;
+          status3 = exact a.runs.status3 b.runs.status3 (omega (arith, l, m, x.runs, y.runs)) i;
+          status5 = exact a.runs.status5 b.runs.status5 (omega (arith, l, m, x.runs, y.runs)) i;
+          status7 = exact a.runs.status7 b.runs.status7 (omega (arith, l, m, x.runs, y.runs)) i;
+        };
+        counts = record {
+          accepted = exact a.counts.accepted b.counts.accepted (omega (arith, l, m, x.accepted, y.accepted)) i;
+          rejected = exact a.counts.rejected b.counts.rejected (omega (arith, l, m, x.rejected, y.rejected)) i;
+          total = exact a.counts.total b.counts.total (omega (arith, l, m, x.total, y.total)) i;
+          ode = exact a.counts.ode b.counts.ode (omega (arith, l, m, x.ode, y.ode)) i;
+          jac = exact a.counts.jac b.counts.jac (omega (arith, l, m, x.jac, y.jac)) i;
+          lu = exact a.counts.lu b.counts.lu (omega (arith, l, m, x.lu, y.lu)) i;
+        };
         largest = max a.largest b.largest;
         place = place-exact i;
       }
@@ -150,27 +152,27 @@ module _ (a b : Totals) (f : Fit a) (g : Fit b) where
 -- ---- the ways of a join
 
 module _ (a b : Totals) where
-  pub left-first : fit_totals a ≡ false → joining.Unfit ≡ join_of a b
+  pub left-first : fit_totals a ≡ false → Err join_error.Unfit ≡ join_of a b
   unfolding join_of
   left-first f = sym (pick_no _ _ f)
 
-  pub left-second : fit_totals a ≡ true → fit_totals b ≡ false → joining.Unfit ≡ join_of a b
+  pub left-second : fit_totals a ≡ true → fit_totals b ≡ false → Err join_error.Unfit ≡ join_of a b
   unfolding join_of
   left-second f g = sym (pick_yes _ _ f ∙ pick_no _ _ g)
 
   pub left-many : fit_totals a ≡ true → fit_totals b ≡ true → ltb 65535 (a.lines + b.lines) ≡ true
-      → joining.TooMany ≡ join_of a b
+      → Err join_error.TooMany ≡ join_of a b
   unfolding join_of
   left-many f g h = sym (pick_yes _ _ f ∙ pick_yes _ _ g ∙ pick_yes _ _ h)
 
   pub join-few : fit_totals a ≡ true → fit_totals b ≡ true → ltb 65535 (a.lines + b.lines) ≡ false
-      → join_of a b ≡ joining.Joined (sum_totals a b)
+      → join_of a b ≡ Ok (sum_totals a b)
   unfolding join_of
   join-few f g h = pick_yes _ _ f ∙ pick_yes _ _ g ∙ pick_no _ _ h
 
   pub left-joined : {t : Totals} → fit_totals a ≡ true → fit_totals b ≡ true → ltb 65535 (a.lines + b.lines) ≡ false
-      → t ≡ sum_words a b → joining.Joined t ≡ join_of a b
-  left-joined f g h e = ap joining.Joined (e ∙ sum-exact a b f g) ∙ sym (join-few f g h)
+      → t ≡ sum_words a b → Ok t ≡ join_of a b
+  left-joined f g h e = ap Ok (e ∙ sum-exact a b f g) ∙ sym (join-few f g h)
 
 -- ---- joined totals are fit
 

@@ -1,6 +1,6 @@
 -- Texts of a form, part by part.
 use Rattle.std.proofs.Common.{◌≡◌, ℕ, suc, ◌+◌, ◌<◌, ◌≤◌, Bool, true, false, eqb, List, [], ◌∷◌, ◌++◌, get_or, set, sym}
-use Rattle.std.proofs.Common.{refl, ap, ◌∙◌, append_assoc, arith, get_or-set_other}
+use Rattle.std.proofs.Common.{Option, None, Some, refl, ap, ◌∙◌, append_assoc, arith, get_or-set_other}
 use Rattle.words.specs.Loop.{pick}
 use Rattle.words.proofs.Branch.{pick_yes, pick_no}
 use Rattle.forecast_text.specs.Printed.{numeral_of}
@@ -10,6 +10,15 @@ module _ {G : Type 0} where
   pub split : (b : Bool) → (b ≡ true → G) → (b ≡ false → G) → G
   split true p q = p refl
   split false p q = q refl
+
+-- what stands in an option, where something does
+module _ {A G : Type 0} where
+  pub opened : (o : Option A) → (o ≡ None → G) → ((x : A) → o ≡ Some x → G) → G
+  opened None p q = p refl
+  opened (Some x) p q = q x refl
+
+pub none-some : {A : Type 0} {x : A} → None ≡ Some x → ⊥
+none-some e = let z : ◌≡◌ {A = ℕ} 0 1 = cc in omega arith
 
 -- how many numbers a form has
 unfoldable pub slots_in : List ℕ → ℕ

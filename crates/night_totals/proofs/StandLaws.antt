@@ -1,8 +1,9 @@
 -- Where the record stands after any bytes behind whole lines.
+use Rattle.std.proofs.Common.{Option, Some, Bool, subst, eq-eqb}
+use Rattle.std.proofs.lemmas.Bool.{and_parts, and_from}
 use Rattle.std.proofs.Common.{◌≡◌, ℕ, zero, suc, ◌+◌, ◌<◌, ◌≤◌, true, false, eqb, leb, List, [], ◌∷◌, ◌++◌, length}
 use Rattle.std.proofs.Common.{take, sym, refl, ap, ◌∙◌, true≢false, append_assoc, append-nil, le_antisymm, arith}
 use Rattle.std.proofs.Common.{length-append, take_all, eqb-true, leb-false, leb-true}
-use mathlib.Core.Bool.{false≢true}
 use borrow.Author.Tests.{eqb-false}
 use Rattle.words.specs.Loop.{pick}
 use Rattle.words.proofs.Branch.{pick_yes, pick_no, pick_all}
@@ -10,17 +11,18 @@ use Rattle.forecast_text.specs.Printed.{text}
 use Rattle.night_totals.specs.Form.{spelt}
 use Rattle.night_totals.specs.Entries.{line_form, line_of, written, fit_entry, Fit, AllFit}
 use Rattle.night_totals.specs.Totals.{totals_of}
-use Rattle.night_totals.specs.Filling.{blank_of, spoilt_of, numbered_at, filled_of}
-use Rattle.night_totals.specs.Night.{added_of, entry_from, night_at, full_of, judged_of, step_of, fed_of}
+use Rattle.night_totals.specs.Filling.{blank_of, numbered_at, filled_of}
+use Rattle.night_totals.specs.Night.{added_of, entry_from, night_at, wrong_at, full_of, judged_of, step_of, fed_of}
 use Rattle.night_totals.specs.declared.entry.Entry.{Entry}
 use Rattle.night_totals.specs.declared.filling.Filling.{Filling}
 use Rattle.night_totals.specs.declared.totals.Totals.{Totals}
 use Rattle.night_totals.specs.declared.night.Night.{Night}
+use Rattle.night_totals.specs.declared.night.Stand.TheVariants as stands
 use Rattle.night_totals.proofs.FedLaws.{fed_then}
-use Rattle.night_totals.proofs.SoundLaws.{past, Sound, blank-sound, blank-past, filled_next}
-use Rattle.night_totals.proofs.FormLaws.{split}
+use Rattle.night_totals.proofs.SoundLaws.{begun, past, Sound, Next, blank-sound, blank-past, idle-off, filled_next}
+use Rattle.night_totals.proofs.FormLaws.{split, opened}
 use Rattle.night_totals.proofs.TotalsLaws.{added_is}
-use Rattle.night_totals.proofs.LineLaws.{line-length, step-judged, at_line, fit-one, line-fed}
+use Rattle.night_totals.proofs.LineLaws.{line-length, not_full, step-judged, at_line, fit-one, line-fed}
 
 -- the bytes behind the lines es are the lines fs, and then those of c
 pub record Split (es : List Entry) (s : List ℕ) : Type 0 where
@@ -33,24 +35,23 @@ pub record Split (es : List Entry) (s : List ℕ) : Type 0 where
 pub record Going (es : List Entry) (s : List ℕ) (n : Night) : Type 0 where
   pub by : Split es s
   pub q : Filling
-  pub at : n ≡ night_at q (totals_of (es ++ by.fs)) false
+  pub at : n ≡ night_at stands.Open q (totals_of (es ++ by.fs))
   pub few : length (es ++ by.fs) ≤ 65535
   pub sound : Sound line_form q
-  pub right : q.wrong ≡ false
   pub early : eqb q.at 56 ≡ false
   pub come : past line_form q ≡ by.c
   pub inside : 0 < length by.c → length (es ++ by.fs) < 65535
 
 pub record Wrong (es : List Entry) (s : List ℕ) (n : Night) : Type 0 where
   pub by : Split es s
-  pub at : n ≡ night_at spoilt_of (totals_of (es ++ by.fs)) false
+  pub at : n ≡ wrong_at (totals_of (es ++ by.fs))
   pub few : length (es ++ by.fs) < 65535
   pub some : 0 < length by.c
 
 pub record Beyond (es : List Entry) (s : List ℕ) (n : Night) : Type 0 where
   pub by : Split es s
   pub q : Filling
-  pub at : n ≡ night_at q (totals_of (es ++ by.fs)) true
+  pub at : n ≡ night_at stands.Beyond q (totals_of (es ++ by.fs))
   pub all : length (es ++ by.fs) ≡ 65535
   pub some : 0 < length by.c
 
@@ -77,21 +78,18 @@ numbers-kept : (vs : List ℕ) → spelt line_form 0 vs ≡ line_of (entry_from 
 unfolding spelt text pick
 numbers-kept vs = refl
 
-not-begun : (q : Filling) → Sound line_form q → numbered_at line_form q.at ≡ false → q.begun ≡ false
-not-begun q s off = split q.begun (λ y. absurd (true≢false (sym (s.here y) ∙ off))) (λ n. n)
-
 past-idle : (q : Filling) → Sound line_form q → numbered_at line_form q.at ≡ false
     → past line_form q ≡ spelt (take q.at line_form) 0 q.values
 unfolding past
 past-idle q s off =
-    ap (λ l. spelt (take q.at line_form) 0 q.values ++ l) (pick_no _ _ (not-begun q s off)) ∙ append-nil _
+    ap (λ o. spelt (take q.at line_form) 0 q.values ++ begun o) (idle-off line_form q s off) ∙ append-nil _
 
 end-plain : numbered_at line_form 56 ≡ false
-unfolding numbered_at text pick
+unfolding numbered_at text
 end-plain = refl
 
 start_plain : numbered_at line_form 0 ≡ false
-unfolding numbered_at text pick
+unfolding numbered_at text
 start_plain = refl
 
 past-whole : (q : Filling) → Sound line_form q → q.at ≡ 56 → past line_form q ≡ line_of (entry_from q.values)
@@ -137,13 +135,13 @@ module _ (es : List Entry) (s : List ℕ) (b : ℕ) where
     abbrev t : Totals
     t = totals_of (es ++ x.fs)
 
-    spoils : After (night_at spoilt_of t false)
+    spoils : After (wrong_at t)
     unfolding longer
     spoils = wrong (record { by = longer b x; at = refl; few = few; some = longer-some x.c b })
 
-    module _ (q r : Filling) (come : past line_form q ≡ x.c) (right : r.wrong ≡ false) (sound : Sound line_form r)
+    module _ (q r : Filling) (come : past line_form q ≡ x.c) (sound : Sound line_form r)
         (more : past line_form r ≡ past line_form q ++ (b ∷ [])) where
-      goes-on : eqb r.at 56 ≡ false → After (night_at r t false)
+      goes-on : eqb r.at 56 ≡ false → After (night_at stands.Open r t)
       unfolding longer
       goes-on n =
           going (record {
@@ -152,14 +150,13 @@ module _ (es : List Entry) (s : List ℕ) (b : ℕ) where
             at = refl;
             few = omega arith;
             sound = sound;
-            right = right;
             early = n;
             come = more ∙ ap (λ l. l ++ (b ∷ [])) come;
             inside = λ y. few;
           })
 
       adds : r.at ≡ 56 → (e : Entry) → e ≡ entry_from r.values → Fit e
-          → After (night_at (blank_of false) (added_of t e) false)
+          → After (night_at stands.Open blank_of (added_of t e))
       adds end e same f =
           let is : x.c ++ (b ∷ []) ≡ line_of e =
           ap (λ l. l ++ (b ∷ [])) (sym come) ∙ sym more ∙ past-whole r sound end ∙ ap line_of (sym same) in
@@ -173,52 +170,44 @@ module _ (es : List Entry) (s : List ℕ) (b : ℕ) where
                   ∙ ap (λ l. written x.fs ++ l) is ∙ sym (written_one x.fs e);
               fit = rw one (fit-one e x.fit f);
             };
-            q = blank_of false;
-            at = ap (λ u. night_at (blank_of false) u false) (added_is (es ++ x.fs) x.fit few e f ∙ ap totals_of
+            q = blank_of;
+            at = ap (λ u. night_at stands.Open blank_of u) (added_is (es ++ x.fs) x.fit few e f ∙ ap totals_of
                 (sym one));
             few = rw one (omega (arith, length-append (es ++ x.fs) (e ∷ [])));
             sound = blank-sound line_form;
-            right = refl;
             early = refl;
             come = blank-past line_form;
             inside = λ y. absurd (let z : ⊥ = omega arith in z);
           })
 
-      judges : After (judged_of t r)
+      judges : After (judged_of t (Some r))
       unfolding judged_of
       judges =
-          pick_all After r.wrong _ _ (λ w. absurd (true≢false (sym w ∙ right)))
-          (λ w. pick_all After (eqb r.at 56) _ _
+          pick_all After (eqb r.at 56) _ _
           (λ y. pick_all After (fit_entry (entry_from r.values)) _ _
           (λ f. adds (eqb-true _ _ y) (entry_from r.values) refl f) (λ f. spoils))
-          (λ n. goes-on n))
+          (λ n. goes-on n)
 
-    wrongs : (r : Filling) → r.wrong ≡ true → After (judged_of t r)
+    steps : (q : Filling) → past line_form q ≡ x.c → Sound line_form q → After (step_of (night_at stands.Open q t) b)
     unfolding judged_of
-    wrongs r w = rw (pick_yes {A = Night} {b = r.wrong} _ _ w) spoils
-
-    steps : (q : Filling) → past line_form q ≡ x.c → Sound line_form q → After (step_of (night_at q t false) b)
     steps q come sound =
-        let r = filled_of line_form q b in
+        let o = filled_of line_form q b in
+        let F = λ (p : Option Filling). After (judged_of t p) in
         rw (step-judged t few q b)
-        (split r.wrong (λ w. wrongs r w)
-        (λ w. let k = filled_next line_form (omega (arith, line-length)) q sound b w in judges q r come w k.0 k.1))
-
-spoilt-wrong : (b : ℕ) → (filled_of line_form spoilt_of b).wrong ≡ true
-unfolding filled_of
-spoilt-wrong b = ap (λ (r : Filling). r.wrong) (pick_yes {A = Filling} {b = true} _ _ refl)
+        (opened o (λ none. subst F (sym none) spoils)
+        (λ r is. let k = subst (Next line_form (omega (arith, line-length)) (past line_form q) b) is
+        (filled_next line_form (omega (arith, line-length)) q sound b) in
+        subst F (sym is) (judges q r come k.0 k.1)))
 
 full-lines : (q : Filling) (t : Totals) → full_of q t ≡ true → 65535 ≤ t.lines
 unfolding full_of
-full-lines q t =
-    pick_all (λ b. b ≡ true → 65535 ≤ t.lines) (eqb q.at 0) (leb 65535 t.lines) false
-    (λ y e. leb-true _ _ e) (λ y e. absurd (false≢true e))
+full-lines q t h = leb-true _ _ (and_parts _ _ h).1
 
 room-lines : (q : Filling) (t : Totals) → full_of q t ≡ false → q.at ≡ 0 → t.lines < 65535
 unfolding full_of
-room-lines q t =
-    pick_all (λ b. b ≡ false → q.at ≡ 0 → t.lines < 65535) (eqb q.at 0) (leb 65535 t.lines) false
-    (λ y e z. leb-false _ _ e) (λ y e z. absurd (eqb-false _ _ y z))
+room-lines q t h z =
+    split (leb 65535 t.lines) (λ y. absurd (true≢false (sym (and_from _ _ (eq-eqb _ _ z) y)
+    ∙ h))) (λ n. leb-false _ _ n)
 
 some_or_none : (c : List ℕ) → (c ≡ [] → ⊥) → 0 < length c
 some_or_none [] h = absurd (h refl)
@@ -236,6 +225,11 @@ room-left {es} x room =
     split (eqb x.q.at 0) (λ y. room-lines x.q (totals_of (es ++ x.by.fs)) room (eqb-true _ _ y))
     (λ n. x.inside (begun-some x n))
 
+pub same-either : {A : Type 0} (b : Bool) (x : A) → pick b x x ≡ x
+unfolding pick
+same-either true x = refl
+same-either false x = refl
+
 pub stand-step : (es : List Entry) (s : List ℕ) (n : Night) (b : ℕ) → Stand es s n → Stand es (s ++ (b ∷ [])) (step_of
     n b)
 unfolding longer step_of full_of
@@ -243,19 +237,18 @@ stand-step es s n b (beyond x) =
     beyond (record {
       by = longer b x.by;
       q = x.q;
-      at = ap (λ (m : Night). step_of m b) x.at ∙ pick_yes _ _ refl;
+      at = ap (λ (m : Night). step_of m b) x.at ∙ same-either _ _;
       all = x.all;
       some = longer-some x.by.c b;
     })
 stand-step es s n b (wrong x) =
-    rw x.at (rw (step-judged (totals_of (es ++ x.by.fs)) x.few spoilt_of b)
-    (wrongs es s b x.by x.few (filled_of line_form spoilt_of b) (spoilt-wrong b)))
+    rw (x.at, pick_no {A = Night} _ _ (not_full blank_of (totals_of (es ++ x.by.fs)) x.few)) (spoils es s b x.by x.few)
 stand-step es s n b (going x) =
     rw x.at (split (full_of x.q (totals_of (es ++ x.by.fs)))
     (λ full. beyond (record {
       by = longer b x.by;
       q = x.q;
-      at = pick_no _ _ refl ∙ pick_yes _ _ full;
+      at = pick_yes _ _ full;
       all = le_antisymm x.few (full-lines x.q (totals_of (es ++ x.by.fs)) full);
       some = longer-some x.by.c b;
     }))
@@ -274,11 +267,10 @@ stand es h l s =
     stand-all es s [] (at_line es)
     (going (record {
       by = record { fs = []; c = []; is = refl; fit = rw e h };
-      q = blank_of false;
+      q = blank_of;
       at = rw e refl;
       few = rw e l;
       sound = blank-sound line_form;
-      right = refl;
       early = refl;
       come = blank-past line_form;
       inside = λ y. absurd (let z : ⊥ = omega arith in z);

@@ -5,12 +5,14 @@ use Rattle.std.proofs.Common.{ltb-true, eq-eqb, ne_eqb, eqb-true, leb-true}
 use borrow.Author.Tests.{eqb-false}
 use Rattle.words.specs.Loop.{pick}
 use Rattle.words.proofs.Branch.{pick_yes, pick_no, pick_all}
-use Rattle.night_totals.specs.Entries.{known_status, small_count, fit_entry, Fit, AllFit, and}
+use Rattle.night_totals.specs.Entries.{known_status, fit_entry, Fit, AllFit, and}
 use Rattle.night_totals.specs.Totals.{sum_of, runs_of, largest_of, first_of, totals_of}
-use Rattle.night_totals.specs.Night.{plus, raised_of, leads_of, added_of}
+use Rattle.night_totals.specs.Counts.{counts_within, plus, raised_of}
+use Rattle.night_totals.specs.Night.{leads_of, added_of}
 use Rattle.night_totals.specs.declared.entry.Entry.{Entry}
 use Rattle.night_totals.proofs.FormLaws.{split}
-use Rattle.night_totals.proofs.CompleteLaws.{both_true}
+use Rattle.std.proofs.lemmas.Bool.{and_parts}
+use Rattle.std.proofs.Common.{◌||◌}
 
 -- ---- one after the other
 
@@ -35,7 +37,7 @@ unfolding largest_of first_of
 first_absent v [] b h = let z : first_of v b ≡ 0 + first_of v b = omega arith in z
 first_absent v (e ∷ a) b h =
     let l : largest_of a < v = omega arith in
-    let n : eqb e.ode v ≡ false = ne_eqb e.ode v (λ q. omega arith) in
+    let n : eqb e.counts.ode v ≡ false = ne_eqb e.counts.ode v (λ q. omega arith) in
     pick_no _ _ n ∙ omega (arith, first_absent v a b l)
 
 other : (x y v : ℕ) → max x y ≡ v → (x ≡ v → ⊥) → y ≡ v
@@ -48,13 +50,15 @@ first-present : (v : ℕ) (a b : List Entry) → largest_of a ≡ v → 0 < leng
 unfolding largest_of first_of
 first-present v [] b h l = absurd (omega arith)
 first-present v (e ∷ []) b h l =
-    let y : e.ode ≡ v = omega arith in
-    pick_all (λ x. pick (eqb e.ode v) 1 (first_of v b + 1) ≡ x) (eqb e.ode v) 1 (0 + 1) (λ t. pick_yes _ _ t)
+    let y : e.counts.ode ≡ v = omega arith in
+    pick_all (λ x. pick (eqb e.counts.ode v) 1 (first_of v b + 1)
+    ≡ x) (eqb e.counts.ode v) 1 (0 + 1) (λ t. pick_yes _ _ t)
     (λ f. absurd (eqb-false _ _ f y))
 first-present v (e ∷ f ∷ a) b h l =
-    pick_all (λ x. pick (eqb e.ode v) 1 (first_of v (f ∷ a ++ b) + 1) ≡ x) (eqb e.ode v) 1 (first_of v (f ∷ a) + 1)
+    pick_all (λ x. pick (eqb e.counts.ode v) 1 (first_of v (f
+    ∷ a ++ b) + 1) ≡ x) (eqb e.counts.ode v) 1 (first_of v (f ∷ a) + 1)
     (λ t. pick_yes _ _ t)
-    (λ n. pick_no _ _ n ∙ ap (λ x. x + 1) (first-present v (f ∷ a) b (other e.ode (largest_of (f ∷ a)) v h
+    (λ n. pick_no _ _ n ∙ ap (λ x. x + 1) (first-present v (f ∷ a) b (other e.counts.ode (largest_of (f ∷ a)) v h
     (eqb-false _ _ n)) (omega arith)))
 
 abbrev pub place_of : List Entry → ℕ
@@ -81,34 +85,30 @@ place-append (e ∷ a) b =
 
 pub record Counted (e : Entry) : Type 0 where
   pub status : known_status e.status ≡ true
-  pub accepted : e.accepted ≤ 10000000000
-  pub rejected : e.rejected ≤ 10000000000
-  pub total : e.total ≤ 10000000000
-  pub ode : e.ode ≤ 10000000000
-  pub jac : e.jac ≤ 10000000000
-  pub lu : e.lu ≤ 10000000000
-
-small_is : (n : ℕ) → small_count n ≡ true → n ≤ 10000000000
-unfolding small_count
-small_is n e = leb-true n 10000000000 e
+  pub accepted : e.counts.accepted ≤ 10000000000
+  pub rejected : e.counts.rejected ≤ 10000000000
+  pub total : e.counts.total ≤ 10000000000
+  pub ode : e.counts.ode ≤ 10000000000
+  pub jac : e.counts.jac ≤ 10000000000
+  pub lu : e.counts.lu ≤ 10000000000
 
 pub counted : (e : Entry) → Fit e → Counted e
-unfolding fit_entry
+unfolding fit_entry counts_within
 counted e h =
-    let a = both_true _ _ h in
-    let b = both_true _ _ a.1 in
-    let c = both_true _ _ b.1 in
-    let d = both_true _ _ c.1 in
-    let f = both_true _ _ d.1 in
-    let g = both_true _ _ f.1 in
+    let a = and_parts _ _ h in
+    let b = and_parts _ _ a.1 in
+    let c = and_parts _ _ b.1 in
+    let d = and_parts _ _ c.1 in
+    let f = and_parts _ _ d.1 in
+    let g = and_parts _ _ f.1 in
     record {
       status = a.0;
-      accepted = small_is _ b.0;
-      rejected = small_is _ c.0;
-      total = small_is _ d.0;
-      ode = small_is _ f.0;
-      jac = small_is _ g.0;
-      lu = small_is _ g.1;
+      accepted = leb-true _ _ b.0;
+      rejected = leb-true _ _ c.0;
+      total = leb-true _ _ d.0;
+      ode = leb-true _ _ f.0;
+      jac = leb-true _ _ g.0;
+      lu = leb-true _ _ g.1;
     }
 
 module _ (P : ℕ → Type 0) (p₀ : P 0) (p₁ : P 1) (p₂ : P 2) (p₃ : P 3) (p₅ : P 5) (p₇ : P 7) where
@@ -125,7 +125,8 @@ module _ (P : ℕ → Type 0) (p₀ : P 0) (p₁ : P 1) (p₂ : P 2) (p₃ : P 3
   known-cases s h =
       split (leb s 3) (λ t. low-cases s (leb-true _ _ t))
       (λ f. split (eqb s 5) (λ t. rw (eqb-true s 5 t) p₅)
-      (λ g. rw (eqb-true s 7 (sym (pick_no _ _ f ∙ pick_no _ _ g) ∙ h)) p₇))
+      (λ g. rw (eqb-true s 7
+      (sym (ap (λ c. c || (eqb s 5 || eqb s 7)) f ∙ ap (λ c. c || eqb s 7) g) ∙ h)) p₇))
 
 abbrev one : ℕ → ℕ → ℕ
 one s of = pick (eqb s of) 1 0
@@ -159,7 +160,7 @@ runs-few s (e ∷ es) =
 
 -- ---- one line more
 
-leads-either : (b c : Bool) (A : Type 0) (x y : A) → pick (pick b true c) x y ≡ pick b x (pick c x y)
+leads-either : (b c : Bool) (A : Type 0) (x y : A) → pick (b || c) x y ≡ pick b x (pick c x y)
 unfolding pick
 leads-either true c A x y = refl
 leads-either false c A x y = refl
@@ -191,12 +192,12 @@ module _ (es : List Entry) (fit : AllFit es) (few : length es < 65535) (e : Entr
       let z : sum_of count more ≡ sum_of count es + (count e + 0) = sum-append count es (e ∷ []) in
       mod-eq_of_lt (omega (arith, sum-few count small es fit, small e line)) ∙ omega arith
 
-  leads-by : (A : Type 0) (x y : A) → pick (leads_of (totals_of es) e.ode) x y
-      ≡ pick (eqb (length es) 0) x (pick (ltb (largest_of es) e.ode) x y)
+  leads-by : (A : Type 0) (x y : A) → pick (leads_of (totals_of es) e.counts.ode) x y
+      ≡ pick (eqb (length es) 0) x (pick (ltb (largest_of es) e.counts.ode) x y)
   unfolding leads_of
-  leads-by A x y = leads-either (eqb (length es) 0) (ltb (largest_of es) e.ode) A x y
+  leads-by A x y = leads-either (eqb (length es) 0) (ltb (largest_of es) e.counts.ode) A x y
 
-  largest-one : largest_of (e ∷ []) ≡ e.ode
+  largest-one : largest_of (e ∷ []) ≡ e.counts.ode
   unfolding largest_of
   largest-one = omega arith
 
@@ -204,18 +205,18 @@ module _ (es : List Entry) (fit : AllFit es) (few : length es < 65535) (e : Entr
   unfolding first_of
   place-one = pick_yes _ _ (eq-eqb _ _ (sym largest-one))
 
-  largest-more : pick (leads_of (totals_of es) e.ode) e.ode (largest_of es) ≡ largest_of more
+  largest-more : pick (leads_of (totals_of es) e.counts.ode) e.counts.ode (largest_of es) ≡ largest_of more
   largest-more =
-      let m : largest_of more ≡ max (largest_of es) e.ode =
+      let m : largest_of more ≡ max (largest_of es) e.counts.ode =
       largest-append es (e ∷ []) ∙ ap (λ x. max (largest_of es) x) largest-one in
-      leads-by ℕ e.ode (largest_of es)
-      ∙ pick_all (λ x. x ≡ largest_of more) (eqb (length es) 0) e.ode _
+      leads-by ℕ e.counts.ode (largest_of es)
+      ∙ pick_all (λ x. x ≡ largest_of more) (eqb (length es) 0) e.counts.ode _
       (λ t. none-largest es (eqb-true _ _ t) m)
-      (λ t. pick_all (λ x. x ≡ largest_of more) (ltb (largest_of es) e.ode) e.ode (largest_of es)
-      (λ u. let l : largest_of es < e.ode = ltb-true _ _ u in omega arith)
-      (λ u. let l : e.ode ≤ largest_of es = ltb-false _ _ u in omega arith))
+      (λ t. pick_all (λ x. x ≡ largest_of more) (ltb (largest_of es) e.counts.ode) e.counts.ode (largest_of es)
+      (λ u. let l : largest_of es < e.counts.ode = ltb-true _ _ u in omega arith)
+      (λ u. let l : e.counts.ode ≤ largest_of es = ltb-false _ _ u in omega arith))
 
-  place-more : pick (leads_of (totals_of es) e.ode) (plus (length es) 1) (place_of es) ≡ place_of more
+  place-more : pick (leads_of (totals_of es) e.counts.ode) (plus (length es) 1) (place_of es) ≡ place_of more
   place-more =
       let p : plus (length es) 1 ≡ length es + 1 = mod-eq_of_lt (omega arith) in
       leads-by ℕ (plus (length es) 1) (place_of es)
@@ -224,8 +225,9 @@ module _ (es : List Entry) (fit : AllFit es) (few : length es < 65535) (e : Entr
       es)))
       place-one
       ∙ ap (λ x. pick (eqb (length es) 0) 1 (pick (ltb (largest_of es) x) (length es + 1) (place_of es))) largest-one
-      ∙ ap (λ x. pick (eqb (length es) 0) 1 (pick (ltb (largest_of es) e.ode) x (place_of es))) (sym p)
-      ∙ pick_all (λ x. pick (eqb (length es) 0) 1 (pick (ltb (largest_of es) e.ode) (plus (length es) 1) (place_of
+      ∙ ap (λ x. pick (eqb (length es) 0) 1 (pick (ltb (largest_of es) e.counts.ode) x (place_of es))) (sym p)
+      ∙ pick_all (λ x. pick (eqb (length es) 0) 1 (pick (ltb (largest_of es) e.counts.ode) (plus
+      (length es) 1) (place_of
       es)) ≡ x)
       (eqb (length es) 0) (plus (length es) 1) _
       (λ t. pick_yes _ _ t ∙ (let z : length es ≡ 0 = eqb-true _ _ t in omega arith))
@@ -242,11 +244,11 @@ module _ (es : List Entry) (fit : AllFit es) (few : length es < 65535) (e : Entr
         runs-more 3,
         runs-more 5,
         runs-more 7,
-        sum_more (λ e. e.accepted) (λ e f. (counted e f).accepted),
-        sum_more (λ e. e.rejected) (λ e f. (counted e f).rejected),
-        sum_more (λ e. e.total) (λ e f. (counted e f).total),
-        sum_more (λ e. e.ode) (λ e f. (counted e f).ode),
-        sum_more (λ e. e.jac) (λ e f. (counted e f).jac),
-        sum_more (λ e. e.lu) (λ e f. (counted e f).lu),
+        sum_more (λ e. e.counts.accepted) (λ e f. (counted e f).accepted),
+        sum_more (λ e. e.counts.rejected) (λ e f. (counted e f).rejected),
+        sum_more (λ e. e.counts.total) (λ e f. (counted e f).total),
+        sum_more (λ e. e.counts.ode) (λ e f. (counted e f).ode),
+        sum_more (λ e. e.counts.jac) (λ e f. (counted e f).jac),
+        sum_more (λ e. e.counts.lu) (λ e f. (counted e f).lu),
         largest-more,
       )

@@ -1,14 +1,15 @@
 -- A text of a form put piece by piece.
-use Rattle.std.proofs.Common.{◌≡◌, ℕ, ◌+◌, ◌<◌, ◌≤◌, eqb, List, [], ◌∷◌, ◌++◌, length, get_or, take, set, refl, ap, ◌∙◌}
+use Rattle.std.proofs.Common.{Result, Err, ◌*◌, length-append}
+use Rattle.std.proofs.Common.{◌≡◌, ℕ, ◌+◌, ◌<◌, ◌≤◌, eqb, List, [], ◌∷◌, ◌++◌, length, get_or, take, ap, ◌∙◌}
 use Rattle.std.proofs.Common.{append-nil, add-one, arith, take-suc}
 use Rattle.words.specs.Loop.{pick}
-use Rattle.forecast_text.specs.Printed.{numeral_of}
-use Rattle.forecast_text.specs.Put.{Put}
-use Rattle.forecast_text.proofs.PutLaws.{put-over}
-use Rattle.sheet.specs.Reader.{over}
+use Rattle.words.proofs.Branch.{pick_all}
+use Rattle.forecast_text.specs.Printed.{numeral_of, width_in}
+use Rattle.sheet.proofs.Inverse.{length_digits}
+use Rattle.forecast_text.proofs.DigitLaws.{width_few}
 use Rattle.night_totals.specs.Form.{spelt}
-use Rattle.night_totals.specs.Printed.{printed_of}
-use Rattle.night_totals.specs.declared.night.Outcome.{Outcome}
+use Rattle.night_totals.specs.declared.totals.Totals.{Totals}
+use Rattle.night_totals.specs.declared.night.NightError.{NightError}
 use Rattle.night_totals.proofs.FormLaws.{slots_in, slots-append, spelt-append}
 
 module _ (form : List ℕ) (i : ℕ) (h : i < length form) where
@@ -31,11 +32,21 @@ module _ (form : List ℕ) (i : ℕ) (h : i < length form) where
   unfolding slots_in
   slots-more = ap slots_in one-more ∙ omega (arith, slots-append (take i form) (x ∷ []))
 
--- a byte
-pub byte_put : (at b : ℕ) (m : List ℕ) → Put at (b ∷ []) m (set m at b) (at + 1)
-byte_put at b m = record { ends = refl; is = refl }
+-- a number has no more than twenty digits
+numeral-few : (v : ℕ) → length (numeral_of v) ≤ 20
+numeral-few v = omega (arith, length_digits 10 (width_in 19 v) v, width_few 19 v)
 
--- what `print` is to ensure, where the bytes were put from the start
-pub printed-put : (o o' : Outcome) {m₀ m₁ : List ℕ} {r : ℕ} → o ≡ o' → Put 0 (printed_of o') m₀ m₁ r → r ≤ 4096
-    → (m₁ ≡ over (printed_of o) m₀) × ((r ≡ length (printed_of o)) × (r ≤ 4096))
-printed-put o o' is p h = rw is (put-over p, (omega arith, h))
+pub spelt-few : (form : List ℕ) (k : ℕ) (vs : List ℕ) → length (spelt form k vs) ≤ 20 * length form
+unfolding spelt
+spelt-few [] k vs = omega arith
+spelt-few (x ∷ form) k vs =
+    let piece = pick (eqb x 35) (numeral_of (get_or vs k 0)) (x ∷ []) in
+    let rest = spelt form (k + pick (eqb x 35) 1 0) vs in
+    let l : length piece ≤ 20 =
+    pick_all (λ (p : List ℕ). length p ≤ 20) (eqb x 35) (numeral_of (get_or vs k 0)) (x ∷ [])
+    (λ e. numeral-few (get_or vs k 0)) (λ e. omega arith) in
+    omega (arith, length-append piece rest, spelt-few form (k + pick (eqb x 35) 1 0) vs)
+
+-- an error within, by what it is
+pub error_is : {o : Result Totals NightError} {e e' : NightError} → o ≡ Err e → e ≡ e' → o ≡ Err e'
+error_is p q = rw (← q) p

@@ -1,9 +1,9 @@
 -- The lines that are read (02, [12]): status lines as `decay` prints them, with a status of 0, 1, 2, 3, 5, 7 and counts
 -- of no more than 10,000,000,000.
-use Rattle.std.specs.Prelude.{◌≡◌, ℕ, Bool, true, false, List, [], ◌∷◌, ◌++◌, ◌==◌, nat_le}
-use Rattle.words.specs.Loop.{pick}
+use Rattle.std.specs.Prelude.{◌≡◌, ℕ, Bool, true, List, [], ◌∷◌, ◌++◌, ◌==◌, nat_le, ◌&&◌, ◌||◌}
 use Rattle.forecast_text.specs.Printed.{text}
 use Rattle.night_totals.specs.Form.{spelt}
+use Rattle.night_totals.specs.Counts.{counts_within}
 use Rattle.night_totals.specs.declared.entry.Entry.{Entry}
 
 abbrev pub line_form : List ℕ
@@ -11,7 +11,7 @@ line_form = text "status # accepted # rejected # total # ode # jac # lu #\n"
 
 abbrev pub numbers_of : Entry → List ℕ
 numbers_of e =
-    e.status ∷ e.accepted ∷ e.rejected ∷ e.total ∷ e.ode ∷ e.jac ∷ e.lu ∷ []
+    e.status ∷ e.counts.accepted ∷ e.counts.rejected ∷ e.counts.total ∷ e.counts.ode ∷ e.counts.jac ∷ e.counts.lu ∷ []
 
 -- a line, with its LF
 abbrev pub line_of : Entry → List ℕ
@@ -22,11 +22,8 @@ unfoldable pub written : List Entry → List ℕ
 written [] = []
 written (e ∷ es) = line_of e ++ written es
 
-abbrev pub both_of : Bool → Bool → Bool
-both_of a b = pick a b false
-
 unfoldable pub known_status : ℕ → Bool
-known_status s = pick (nat_le s 3) true (pick (s == 5) true (s == 7))
+known_status s = nat_le s 3 || ((s == 5) || (s == 7))
 
 -- no count of a line is above it
 abbrev pub most_count : ℕ
@@ -36,16 +33,8 @@ most_count = 10000000000
 abbrev pub most_lines : ℕ
 most_lines = 65535
 
-unfoldable pub small_count : ℕ → Bool
-small_count count = nat_le count most_count
-
 unfoldable pub fit_entry : Entry → Bool
-fit_entry e =
-    both_of (known_status e.status)
-    (both_of (small_count e.accepted)
-    (both_of (small_count e.rejected)
-    (both_of (small_count e.total)
-    (both_of (small_count e.ode) (both_of (small_count e.jac) (small_count e.lu))))))
+fit_entry e = known_status e.status && counts_within e.counts most_count
 
 abbrev pub Fit : Entry → Type 0
 Fit e = fit_entry e ≡ true

@@ -1,4 +1,5 @@
 // What a status line says.
+use crate::counts::Counts;
 
 // No count of a line is above it.
 pub const MOST_COUNT: u64 = 10_000_000_000;
@@ -6,10 +7,5 @@ pub const MOST_COUNT: u64 = 10_000_000_000;
 #[derive(Clone, Copy)]
 pub struct Entry {
     pub status: u64,
-    pub accepted: u64,
-    pub rejected: u64,
-    pub total: u64,
-    pub ode: u64,
-    pub jac: u64,
-    pub lu: u64,
+    pub counts: Counts,
 }

@@ -3,12 +3,9 @@
 pub struct Filling {
     // The place in the form.
     pub at: usize,
-    // A number has begun there, and this is its value so far.
-    pub begun: bool,
-    pub value: u64,
+    // The number that has begun there, so far.
+    pub number: Option<u64>,
     // The numbers before that place, and how many they are.
     pub filled: usize,
     pub values: [u64; 16],
-    // The text is not of the form.
-    pub wrong: bool,
 }

@@ -3,7 +3,7 @@
 #![tactic(auto)]
 
 mod adding;
-mod digits;
+pub mod counts;
 pub mod entry;
 pub mod filling;
 pub mod form;

@@ -1,101 +1,116 @@
 // The lines of a night, taken in pieces of any size: a record goes in by value, and the next comes back.
 ghost use Rattle.std.specs.Prelude.{◌≡◌};
-ghost use Rattle.night_totals.specs.Night.{start_of, full_of, judged_of, step_of, fed_of, told_of};
+ghost use Rattle.night_totals.specs.Night.{night_at, start_of, full_of, wrong_at, judged_of, step_of, fed_of, told_of};
 
 use crate::adding::{added, none};
+use crate::entry::Entry;
 use crate::filling::Filling;
-use crate::form::{blank, filled, spoilt};
-use crate::lines::{entry_from, fit};
+use crate::form::{blank, filled};
+use crate::lines::fit;
 use crate::totals::Totals;
 use std::num::wrapping_add_u64;
 
 // The most lines of a night.
 pub const MOST_LINES: u64 = 65_535;
 
-// How long the form of a status line is.
-const FORM: usize = 56;
+const FORM: &[u8; 56] = b"status # accepted # rejected # total # ode # jac # lu #\n";
+
+// How the line stands that has begun.
+#[derive(Clone, Copy)]
+pub enum Stand {
+    Open,
+    Wrong,
+    // It is one too many.
+    Beyond,
+}
 
 #[derive(Clone, Copy)]
 pub struct Night {
+    pub stand: Stand,
     // The line that has begun.
     pub filling: Filling,
     // The totals of the lines before it.
     pub totals: Totals,
-    // A line came beyond the last that is taken.
-    pub beyond: bool,
 }
 
-// What became of the lines: their totals, the first wrong line, or that there are too many.
+// Why lines have no totals: the number of the first wrong one, or that there are too many.
 #[derive(Clone, Copy)]
-pub enum Outcome {
-    Totals(Totals),
+pub enum NightError {
     Malformed(u64),
     TooMany,
-}
-
-fn made(filling: Filling, totals: Totals, beyond: bool) -> Night
-    ensures { result ≡ record { filling = filling; totals = totals; beyond = beyond } }
-{
-    Night {
-        filling: filling,
-        totals: totals,
-        beyond: beyond,
-    }
 }
 
 // No bytes yet.
 pub fn start() -> Night
     ensures { result ≡ start_of }
 {
-    made(blank(), none(), false)
+    Night {
+        stand: Stand::Open,
+        filling: blank(),
+        totals: none(),
+    }
 }
 
 // Whether a byte would begin a line too many.
+#[tactic(auto, unfolding(crate::specs::Night::full_of))]
 fn full(filling: Filling, totals: Totals) -> bool
     ensures { result ≡ full_of filling totals }
 {
-    if filling.at == 0 {
-        MOST_LINES <= totals.lines
-    } else {
-        false
+    filling.at == 0 && MOST_LINES <= totals.lines
+}
+
+// Behind a wrong line nothing more can come.
+fn wrong(totals: Totals) -> Night
+    ensures { result ≡ wrong_at totals }
+{
+    Night {
+        stand: Stand::Wrong,
+        filling: blank(),
+        totals: totals,
     }
 }
 
 // A line that has come whole is judged.
-fn judged(totals: Totals, filling: Filling) -> Night
-    ensures { result ≡ judged_of totals filling }
+#[tactic(auto, unfolding(crate::specs::Night::judged_of, words::specs::Loop::pick))]
+fn judged(totals: Totals, line: Option<Filling>) -> Night
+    ensures { result ≡ judged_of totals line }
 {
-    let values = filling.values;
-    if filling.wrong {
-        return made(spoilt(), totals, false);
+    let Some(filling) = line else {
+        return wrong(totals);
+    };
+    if filling.at != FORM.len() {
+        return Night {
+            stand: Stand::Open,
+            filling: filling,
+            totals: totals,
+        };
     }
-    if filling.at != FORM {
-        return made(filling, totals, false);
+    let entry = Entry::from(filling.values);
+    if !fit(entry) {
+        return wrong(totals);
     }
-    let entry = entry_from(values);
-    if fit(entry) {
-        return made(blank(), added(totals, entry), false);
+    Night {
+        stand: Stand::Open,
+        filling: blank(),
+        totals: added(totals, entry),
     }
-    made(spoilt(), totals, false)
 }
 
+#[tactic(auto, unfolding(crate::specs::Night::step_of, words::specs::Loop::pick))]
 fn step(night: Night, byte: u8) -> Night
     ensures { result ≡ step_of night byte }
 {
-    let filling = night.filling;
-    let totals = night.totals;
-    if night.beyond {
-        return night;
+    if full(night.filling, night.totals) {
+        return Night {
+            stand: Stand::Beyond,
+            ..night
+        };
     }
-    if full(filling, totals) {
-        return made(filling, totals, true);
+    match night.stand {
+        Stand::Open => judged(night.totals, filled(FORM, night.filling, byte)),
+        Stand::Wrong => wrong(night.totals),
+        Stand::Beyond => night,
     }
-    let next = filled(
-        b"status # accepted # rejected # total # ode # jac # lu #\n",
-        filling,
-        byte,
-    );
-    judged(totals, next)
 }
 
 // Takes a piece.
@@ -103,26 +118,20 @@ pub fn fed(night: Night, piece: &[u8]) -> Night
     ensures { result ≡ fed_of night piece.now }
 {
     let mut next = night;
-    for i in 0..piece.len() {
-        next = step(next, piece[i]);
+    for byte in piece {
+        next = step(next, *byte);
     }
     next
 }
 
-// What became of all that was taken, where nothing more comes.
-pub fn told(night: Night) -> Outcome
+// The totals of all that was taken, where nothing more comes.
+#[tactic(auto, unfolding(crate::specs::Night::told_of, words::specs::Loop::pick))]
+pub fn told(night: Night) -> Result<Totals, NightError>
     ensures { result ≡ told_of night }
 {
-    let filling = night.filling;
-    let totals = night.totals;
-    if night.beyond {
-        return Outcome::TooMany;
+    match night.stand {
+        Stand::Open if night.filling.at == 0 => Ok(night.totals),
+        Stand::Beyond => Err(NightError::TooMany),
+        _ => Err(NightError::Malformed(wrapping_add_u64(night.totals.lines, 1))),
     }
-    if filling.wrong {
-        return Outcome::Malformed(wrapping_add_u64(totals.lines, 1));
-    }
-    if filling.at != 0 {
-        return Outcome::Malformed(wrapping_add_u64(totals.lines, 1));
-    }
-    Outcome::Totals(totals)
 }

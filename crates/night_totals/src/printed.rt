@@ -1,33 +1,70 @@
 // What is printed of a night.
 ghost use Rattle.std.specs.Prelude.{◌≡◌, ◌≤◌, length};
 ghost use Rattle.sheet.specs.Reader.{over};
-ghost use Rattle.night_totals.specs.Printed.{totals_numbers, one_number, printed_of};
+ghost use Rattle.night_totals.specs.Printed.{totals_numbers, totals_from, one_number, printed_of};
 
-use crate::night::Outcome;
+use crate::counts::{Counts, Runs};
+use crate::night::NightError;
 use crate::totals::Totals;
-use crate::written::put_form;
+use crate::written::{ROOM, spelled};
+use forecast_text::texts::Text;
 
-fn numbers_of(totals: Totals) -> [u64; 16]
-    ensures { result ≡ totals_numbers totals }
-{
-    [
-        totals.lines,
-        totals.status0,
-        totals.status1,
-        totals.status2,
-        totals.status3,
-        totals.status5,
-        totals.status7,
-        totals.accepted,
-        totals.rejected,
-        totals.total,
-        totals.ode,
-        totals.jac,
-        totals.lu,
-        totals.largest,
-        totals.place,
-        0,
-    ]
+// The form of printed totals.
+pub const TOTALS_FORM: &[u8; 138] =
+    b"lines #\nstatus 0 #\nstatus 1 #\nstatus 2 #\nstatus 3 #\nstatus 5 #\nstatus 7 #\naccepted #\nrejected #\n\
+    total #\node #\njac #\nlu #\nlargest # line #\n";
+
+impl From<Totals> for [u64; 16] {
+    ghost from_gives = { λ totals numbers. numbers ≡ totals_numbers totals };
+
+    fn from(totals: Totals) -> [u64; 16] {
+        [
+            totals.lines,
+            totals.runs.status0,
+            totals.runs.status1,
+            totals.runs.status2,
+            totals.runs.status3,
+            totals.runs.status5,
+            totals.runs.status7,
+            totals.counts.accepted,
+            totals.counts.rejected,
+            totals.counts.total,
+            totals.counts.ode,
+            totals.counts.jac,
+            totals.counts.lu,
+            totals.largest,
+            totals.place,
+            0,
+        ]
+    }
+}
+
+impl From<[u64; 16]> for Totals {
+    ghost from_gives = { λ numbers totals. totals ≡ totals_from numbers };
+
+    fn from(numbers: [u64; 16]) -> Totals {
+        Totals {
+            lines: numbers[0],
+            runs: Runs {
+                status0: numbers[1],
+                status1: numbers[2],
+                status2: numbers[3],
+                status3: numbers[4],
+                status5: numbers[5],
+                status7: numbers[6],
+            },
+            counts: Counts {
+                accepted: numbers[7],
+                rejected: numbers[8],
+                total: numbers[9],
+                ode: numbers[10],
+                jac: numbers[11],
+                lu: numbers[12],
+            },
+            largest: numbers[13],
+            place: numbers[14],
+        }
+    }
 }
 
 fn one_number(number: u64) -> [u64; 16]
@@ -36,19 +73,24 @@ fn one_number(number: u64) -> [u64; 16]
     [number, 0, 0, 0, 0, 0, 0, 0, 0, 0, 0, 0, 0, 0, 0, 0]
 }
 
+// The text that is printed.
+
+fn text_of(outcome: Result<Totals, NightError>) -> Text<ROOM>
+    ensures { result ≡ printed_of outcome }
+{
+    match outcome {
+        Ok(totals) => spelled(TOTALS_FORM, totals.into()),
+        Err(NightError::Malformed(line)) => spelled(b"refused 20 #\n", one_number(line)),
+        Err(NightError::TooMany) => spelled(b"refused 26\n", one_number(0)),
+    }
+}
+
 // Puts the bytes over the first of `out` and returns how many they are. The others stay as they were.
-pub fn print(outcome: Outcome, out: &mut [u8; 4096]) -> usize
+pub fn print(outcome: Result<Totals, NightError>, out: &mut [u8; 4096]) -> usize
     ensures out_after { out.new ≡ over (printed_of outcome) out.old }
     ensures value { (result ≡ length (printed_of outcome)) × (result ≤ 4096) }
 {
-    match outcome {
-        Outcome::Totals(totals) => put_form(
-            out,
-            b"lines #\nstatus 0 #\nstatus 1 #\nstatus 2 #\nstatus 3 #\nstatus 5 #\nstatus 7 #\naccepted #\nrejected #\n\
-            total #\node #\njac #\nlu #\nlargest # line #\n",
-            numbers_of(totals),
-        ),
-        Outcome::Malformed(line) => put_form(out, b"refused 20 #\n", one_number(line)),
-        Outcome::TooMany => put_form(out, b"refused 26\n", one_number(0)),
-    }
+    let text = text_of(outcome);
+    text.copy_over(out);
+    text.len()
 }

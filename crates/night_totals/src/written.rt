@@ -1,12 +1,15 @@
-// A text of a form, put into lent memory.
+// A text of a form.
 ghost use Rattle.std.specs.Prelude.{◌≡◌, ◌+◌, ◌≤◌, [], ◌∷◌, length, ◌==◌, slice_index};
 ghost use Rattle.words.specs.Loop.{pick};
 ghost use Rattle.forecast_text.specs.Printed.{numeral_of};
-ghost use Rattle.forecast_text.specs.Put.{Put};
+ghost use Rattle.forecast_text.specs.Put.{put};
 ghost use Rattle.night_totals.specs.Form.{slot, spelt};
 
-use crate::digits::{ROOM, put_number};
 use crate::form::SLOT;
+use forecast_text::texts::Text;
+
+// More bytes than anything is printed with.
+pub const ROOM: usize = 4096;
 
 fn value_at(values: [u64; 16], place: usize) -> u64
     ensures { result ≡ slice_index values place }
@@ -15,20 +18,19 @@ fn value_at(values: [u64; 16], place: usize) -> u64
 }
 
 // A byte of the form, or the number that stands there.
-fn put_piece(out: &mut [u8; ROOM], at: usize, byte: u8, value: u64) -> usize
-    requires { at + 20 ≤ 4096 }
-    ensures put { Put at (pick (byte == slot) (numeral_of value) (byte ∷ []))
-        out.old out.new result }
-    ensures upper_bound { result ≤ at + 20 }
+#[tactic(auto, unfolding(words::specs::Loop::pick))]
+fn put_piece(text: &mut Text<ROOM>, byte: u8, value: u64)
+    ensures { text.new ≡ put 4096 text.old (pick (byte == slot) (numeral_of value) (byte ∷ [])) }
 {
     if byte == SLOT {
-        return put_number(out, at, value);
+        text.put_number(value);
+        return;
     }
-    out[at] = byte;
-    at + 1
+    text.put(&[byte]);
 }
 
 // How many numbers have been put.
+#[tactic(auto, unfolding(words::specs::Loop::pick))]
 fn counted(byte: u8, numbers: usize) -> usize
     requires { numbers ≤ 200 }
     ensures value { result ≡ numbers + pick (byte == slot) 1 0 }
@@ -37,17 +39,16 @@ fn counted(byte: u8, numbers: usize) -> usize
     if byte == SLOT { numbers + 1 } else { numbers }
 }
 
-pub fn put_form(out: &mut [u8; ROOM], form: &[u8], values: [u64; 16]) -> usize
+// The form with numbers in place of its slots.
+pub fn spelled(form: &[u8], values: [u64; 16]) -> Text<ROOM>
     requires { length form.now ≤ 200 }
-    ensures put { Put 0 (spelt form.now 0 values) out.old out.new result }
-    ensures upper_bound { result ≤ 4096 }
+    ensures { result ≡ spelt form.now 0 values }
 {
-    let mut at = 0;
+    let mut text = Text::new();
     let mut numbers = 0;
-    for i in 0..form.len() {
-        let byte = form[i];
-        at = put_piece(out, at, byte, value_at(values, numbers));
-        numbers = counted(byte, numbers);
+    for byte in form {
+        put_piece(&mut text, *byte, value_at(values, numbers));
+        numbers = counted(*byte, numbers);
     }
-    at
+    text
 }

@@ -14,10 +14,8 @@ use Rattle.state.specs.declared.talk.Refusal.{Refusal}
 use Rattle.state.specs.declared.talk.Refusal.TheVariants as refusal
 use Rattle.state.specs.declared.talk.Request.TheVariants.{Derivative}
 use Rattle.state.specs.declared.talk.Place.TheVariants.{YToF0}
-use Rattle.state.specs.declared.talk.Opened.TheVariants as opened
-use Rattle.state.specs.declared.talk.Verdict.{Verdict}
-use Rattle.state.specs.declared.talk.Verdict.TheVariants.{Passed, Refused}
 use Rattle.opening.specs.declared.tolerances.Conversion.{Conversion}
+use Rattle.state.specs.Lent.{newton_fits, factors_fits, differences_fits}
 use Rattle.state.specs.Memory.{memory, Amounts, amounts, Newton, newton, Given, given}
 use Rattle.state.specs.Memory.{Factors, factors, Differences, differences, amounts_fit, newton_fit}
 use Rattle.state.specs.Memory.{given_fit, factors_fit, differences_fit, lengths_fit, zeros, noughts}
@@ -26,6 +24,8 @@ use Rattle.opening.specs.Rows.{value_rows, mass_given, rtol_given, atol_given}
 use Rattle.opening.specs.Tolerances.{Converted, converted, converted_of}
 use Rattle.opening.specs.Opening.{Working, working, mass_kept, cleared_of, first_run}
 use Rattle.opening.specs.Opening.{opening_outcome, accepted_of, by_verdict, open_of}
+use Rattle.std.specs.Prelude.{Ok, Err}
+use Rattle.state.specs.Talk.{Verdict, call, passed_all}
 
 -- ---- the rows behind the sizes
 
@@ -37,12 +37,12 @@ later_verdict o =
     (atol_given o.tolerances o.memory.given.atol))
 
 module _ (o : Opening) where
-  pub open_order : outside 1 32 o.n ≡ true → opening_outcome (opened.Refused refusal.Order) o.memory ≡ open_of o
+  pub open_order : outside 1 32 o.n ≡ true → opening_outcome (Err refusal.Order) o.memory ≡ open_of o
   unfolding open_of by_verdict verdict_of
   open_order h = ap (λ (v : Verdict). by_verdict v o) (sym (pick_yes _ _ h))
 
   pub open-length : outside 1 32 o.n ≡ false → lengths_fit o.n o.memory ≡ false
-      → opening_outcome (opened.Refused refusal.Length) o.memory ≡ open_of o
+      → opening_outcome (Err refusal.Length) o.memory ≡ open_of o
   unfolding open_of by_verdict verdict_of
   open-length h g = ap (λ (v : Verdict). by_verdict v o) (sym (pick_no _ _ h ∙ pick_yes _ _ (ap not g)))
 
@@ -57,13 +57,13 @@ module _ (o : Opening) where
   open-later h g = ap (λ (v : Verdict). by_verdict v o) (later h g)
 
   pub open-refused : (r : Refusal) → outside 1 32 o.n ≡ false → lengths_fit o.n o.memory ≡ true
-      → later_verdict o ≡ Refused r
-      → opening_outcome (opened.Refused r) o.memory ≡ open_of o
+      → later_verdict o ≡ Err r
+      → opening_outcome (Err r) o.memory ≡ open_of o
   unfolding by_verdict
   open-refused r h g e = ap (λ (v : Verdict). by_verdict v o) (sym e) ∙ sym (open-later h g)
 
   pub open-accepted : outside 1 32 o.n ≡ false → lengths_fit o.n o.memory ≡ true
-      → later_verdict o ≡ Passed → accepted_of o ≡ open_of o
+      → later_verdict o ≡ passed_all → accepted_of o ≡ open_of o
   unfolding by_verdict
   open-accepted h g e = ap (λ (v : Verdict). by_verdict v o) (sym e) ∙ sym (open-later h g)
 
@@ -185,6 +185,16 @@ fits-are n a z g f d p q u r s t h i v j k l =
     (vectors_fit n z.z1 z.z2 z.z3)
     (eqb (length z.f1) n) (eqb (length z.f2) n) (eqb (length z.f3) n)))
 
+-- the same, of groups that test themselves
+pub fits-of : (n : ℕ) (a : Amounts) (z : Newton) (g : Given) (f : Factors) (d : Differences) (p q r s t : Bool)
+    → p ≡ amounts_fit n (length a.y) (length a.f0) (length a.scal) (length a.cont)
+    → q ≡ newton_fits n z
+    → r ≡ given_fit n (length g.rtol) (length g.atol) (length g.mass) (length g.jac)
+    → s ≡ factors_fits n f
+    → t ≡ differences_fits n d
+    → lengths_fit n (memory a z g f d) ≡ (p && q && r && s && t)
+fits-of n a z g f d p q r s t h i j k l = rw (h, i, j, k, l)
+
 neither : (a b : Bool) → (a || b) ≡ false → (a ≡ false) × (b ≡ false)
 neither true b e = absurd (true≢false e)
 neither false b e = (refl, e)
@@ -216,7 +226,7 @@ module _ (s : Settings) (n : ℕ) (x0 xend : Float) (t : Tolerances) (a : Amount
       (zeros (length d.f_origin))
       → m ≡ mass_kept s.mass (length g.mass) g.mass
       → converted c rtol atol ≡ converted_of s.rule n t g.rtol g.atol
-      → opening_outcome (opened.Asked (first_run s n x0 xend c) (Derivative x0) YToF0)
+      → opening_outcome (Ok (call (first_run s n x0 xend c) (Derivative x0) YToF0))
       (memory (amounts a.y w.f0 w.scal w.cont) z' (given rtol atol m w.jac) f' d')
       ≡ accepted_of (opening s n x0 xend t (memory a z g f d))
   unfolding accepted_of cleared_of
@@ -249,7 +259,7 @@ module _ (s : Settings) (n : ℕ) (x0 xend : Float) (t : Tolerances) (a : Amount
         dl.2,
       )
       (ap (λ (k : Converted).
-      opening_outcome (opened.Asked (first_run s n x0 xend k.conversion) (Derivative x0) YToF0)
+      opening_outcome (Ok (call (first_run s n x0 xend k.conversion) (Derivative x0) YToF0))
       (memory
       (amounts a.y (zeros n) (zeros n) (zeros (4 * n)))
       (newton (zeros n) (zeros n) (zeros n) (zeros n) (zeros n) (zeros n))

@@ -13,20 +13,16 @@ use Rattle.words.specs.Constants.{«0·0», «1·0», «2·0»}
 use Rattle.words.specs.Loop.{pick}
 use Rattle.scalar.specs.Order.{abs_of}
 use Rattle.state.specs.declared.settings.Settings.{Settings}
-use Rattle.state.specs.declared.settings.Number.{Number}
-use Rattle.state.specs.declared.settings.Number.TheVariants as number
-use Rattle.state.specs.declared.settings.Whole.{Whole}
-use Rattle.state.specs.declared.settings.Whole.TheVariants as whole
 use Rattle.state.specs.declared.run.Tolerances.TheVariants.{Scalars}
 use Rattle.state.specs.declared.talk.Refusal.TheVariants as refusal
-use Rattle.state.specs.declared.talk.Verdict.{Verdict}
-use Rattle.state.specs.declared.talk.Verdict.TheVariants.{Passed, Refused}
-use Rattle.state.specs.Settings.{defaults_of, or_else, or_none}
+use Rattle.state.specs.Settings.{defaults_of}
 use Rattle.state.specs.Numbers.{refusal_number}
 use Rattle.state.specs.Memory.{Memory, memory, amounts, newton, given, factors, differences}
 use Rattle.state.specs.Memory.{amounts_fit, newton_fit, given_fit, factors_fit, differences_fit}
 use Rattle.opening.specs.Rows.{Opening, opening, opening_rows, verdict_of, bad_number, place_of}
 use Rattle.opening.specs.Rows.{mass_given, rtol_given, atol_given, partition_fails, given_zero, given_below}
+use Rattle.std.specs.Prelude.{None, Some, Option, Ok, Err}
+use Rattle.state.specs.Talk.{Verdict, passed_all}
 
 -- ---- openings of one amount, from 0 to 1
 
@@ -48,23 +44,23 @@ ranged steps round safety smallest rounds =
       safety_factor = safety;
       scale_min = smallest;
       scale_max = defaults_of.scale_max;
-      max_step = number.Absent;
-      min_step = number.Absent;
+      max_step = None;
+      min_step = None;
       newton_maxiter = rounds;
-      newton_tol = number.Absent;
+      newton_tol = None;
       predictive = defaults_of.predictive;
-      nind1 = whole.Absent;
-      nind2 = whole.Absent;
-      nind3 = whole.Absent;
+      nind1 = None;
+      nind2 = None;
+      nind3 = None;
       mass = defaults_of.mass;
       source = defaults_of.source;
-      first_step = number.Absent;
+      first_step = None;
       dense_output = defaults_of.dense_output;
       rule = defaults_of.rule;
     }
 
 -- s but for what rows 10 to 12 test
-abbrev stepped : Settings → Whole → Whole → Whole → Number → Number → Number → Settings
+abbrev stepped : Settings → Option ℕ → Option ℕ → Option ℕ → Option Float → Option Float → Option Float → Settings
 stepped s nind1 nind2 nind3 first ceiling floor =
     record {
       max_steps = s.max_steps;
@@ -104,16 +100,16 @@ fails_from k =
     (ranged (pick (leb k 4) 0 100_000) (pick (leb k 5) one defaults_of.uround)
     (pick (leb k 6) one defaults_of.safety_factor) (pick (leb k 7) «0·0» defaults_of.scale_min)
     (pick (leb k 8) 17 7))
-    whole.Absent (pick (leb k 10) (whole.Given 2) whole.Absent) whole.Absent
-    (pick (leb k 11) (number.Given «0·0») number.Absent) (pick (leb k 12) (number.Given «0·0») number.Absent)
-    (pick (leb k 12) (number.Given one) number.Absent))
+    None (pick (leb k 10) (Some 2) None) None
+    (pick (leb k 11) (Some «0·0») None) (pick (leb k 12) (Some «0·0») None)
+    (pick (leb k 12) (Some one) None))
     (pick (leb k 1) 0 1) (pick (leb k 3) nan «0·0») one (Scalars (pick (leb k 9) «0·0» one) «0·0»)
     (memory_of (pick (leb k 2) [] nought))
 
 -- 01's number, and 0 where it passes
 abbrev number_of : Verdict → ℕ
-number_of Passed = 0
-number_of (Refused r) = refusal_number r
+number_of (Ok tt) = 0
+number_of (Err r) = refusal_number r
 
 abbrev said_from : ℕ → ℕ
 said_from k = number_of (verdict_of (opening_rows (fails_from k)))
@@ -122,36 +118,36 @@ pub rows-in-order : (said_from 1 ∷ said_from 2 ∷ said_from 3 ∷ said_from 4
     ∷ said_from 8 ∷ said_from 9 ∷ said_from 10 ∷ said_from 11 ∷ said_from 12 ∷ said_from 13 ∷ [])
     ≡ (1 ∷ 2 ∷ 3 ∷ 4 ∷ 5 ∷ 6 ∷ 7 ∷ 8 ∷ 9 ∷ 10 ∷ 11 ∷ 12 ∷ 0 ∷ [])
 unfolding verdict_of pick amounts_fit newton_fit given_fit factors_fit differences_fit bad_number place_of mass_given
-    rtol_given atol_given partition_fails given_zero given_below or_else or_none abs_of le lt eq sub of_bits
+    rtol_given atol_given partition_fails given_zero given_below abs_of le lt eq sub of_bits
 rows-in-order = refl
 
 -- from 0 to 1 with this partition and these two steps
-abbrev verdict_by : Whole → Whole → Whole → Number → Number → Verdict
+abbrev verdict_by : Option ℕ → Option ℕ → Option ℕ → Option Float → Option Float → Verdict
 verdict_by nind1 nind2 nind3 ceiling floor =
     verdict_of
     (opening_rows
-    (opening (stepped defaults_of nind1 nind2 nind3 number.Absent ceiling floor) 1 «0·0» one (Scalars one one)
+    (opening (stepped defaults_of nind1 nind2 nind3 None ceiling floor) 1 «0·0» one (Scalars one one)
     (memory_of nought)))
 
 -- the ceiling is max_step, else |xend - x0|, here 1 [radau.rs:176-178]
 pub floor-at-ceiling :
-    (verdict_by whole.Absent whole.Absent whole.Absent (number.Given two) (number.Given two) ≡ Passed)
-    × (verdict_by whole.Absent whole.Absent whole.Absent number.Absent (number.Given one) ≡ Passed)
-    × (verdict_by whole.Absent whole.Absent whole.Absent number.Absent (number.Given two) ≡ Refused refusal.MinStep)
+    (verdict_by None None None (Some two) (Some two) ≡ passed_all)
+    × (verdict_by None None None None (Some one) ≡ passed_all)
+    × (verdict_by None None None None (Some two) ≡ Err refusal.MinStep)
 unfolding verdict_of pick amounts_fit newton_fit given_fit factors_fit differences_fit bad_number place_of mass_given
-    rtol_given atol_given partition_fails given_zero given_below or_else or_none abs_of le lt eq sub of_bits
+    rtol_given atol_given partition_fails given_zero given_below abs_of le lt eq sub of_bits
 floor-at-ceiling = (refl, refl, refl)
 
 -- in machine words 1 + 2^63 + 2^63 is 1, and so is 2^64 - 1 + 1 + 1, where nind1 alone is above n; 2^63 + 2^63 is 0,
 -- which would leave 1 for an absent nind1
-pub sums-dont-wrap : (verdict_by (whole.Given 1) (whole.Given 9_223_372_036_854_775_808)
-    (whole.Given 9_223_372_036_854_775_808) number.Absent number.Absent
-    ≡ Refused refusal.Partition)
-    × (verdict_by (whole.Given 18_446_744_073_709_551_615) (whole.Given 1) (whole.Given 1) number.Absent number.Absent
-    ≡ Refused refusal.Partition)
-    × (verdict_by whole.Absent (whole.Given 9_223_372_036_854_775_808)
-    (whole.Given 9_223_372_036_854_775_808) number.Absent number.Absent
-    ≡ Refused refusal.Partition)
+pub sums-dont-wrap : (verdict_by (Some 1) (Some 9_223_372_036_854_775_808)
+    (Some 9_223_372_036_854_775_808) None None
+    ≡ Err refusal.Partition)
+    × (verdict_by (Some 18_446_744_073_709_551_615) (Some 1) (Some 1) None None
+    ≡ Err refusal.Partition)
+    × (verdict_by None (Some 9_223_372_036_854_775_808)
+    (Some 9_223_372_036_854_775_808) None None
+    ≡ Err refusal.Partition)
 unfolding verdict_of pick amounts_fit newton_fit given_fit factors_fit differences_fit bad_number place_of mass_given
-    rtol_given atol_given partition_fails given_zero given_below or_else or_none abs_of le lt eq sub of_bits
+    rtol_given atol_given partition_fails given_zero given_below abs_of le lt eq sub of_bits
 sums-dont-wrap = (refl, refl, refl)

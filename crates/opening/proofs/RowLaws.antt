@@ -17,11 +17,11 @@ use Rattle.words.specs.Loop.{pick}
 use Rattle.words.proofs.Branch.{pick_yes, pick_no, pick_all}
 use Rattle.state.specs.declared.talk.Refusal.{Refusal}
 use Rattle.state.specs.declared.talk.Refusal.TheVariants as refusal
-use Rattle.state.specs.declared.talk.Verdict.{Verdict}
-use Rattle.state.specs.declared.talk.Verdict.TheVariants.{Passed, Refused}
 use Rattle.state.specs.declared.settings.Settings.{Settings}
 use Rattle.opening.specs.Rows.{Test, test, verdict_of, next_of, place_of, end_rows, list_rows}
 use Rattle.opening.specs.Rows.{number_rows, range_rows, tolerance_rows, step_rows, value_rows}
+use Rattle.std.specs.Prelude.{Result, Err, IsErrAnd, Ok}
+use Rattle.state.specs.Talk.{Verdict, passed_all}
 
 -- ---- small things
 
@@ -30,7 +30,7 @@ below_suc : (P : ℕ → Type 0) (n : ℕ) → P 0 → ((k : ℕ) → k < n → 
 below_suc P n here later zero l = here
 below_suc P n here later (suc k) l = later k (le_of_suc-le-suc l)
 
-no-refusal : {X : Type 0} (r : Refusal) → Passed ≡ Refused r → X
+no-refusal : {X : Type 0} (r : Refusal) → passed_all ≡ Err r → X
 no-refusal r e = let z : ◌≡◌ {A = ℕ} 0 1 = cc in absurd (omega arith)
 
 -- row 10: a sum above n is not n
@@ -39,16 +39,16 @@ not_equal m n l = sym (ap not (ne_eqb m n (λ e. omega arith)))
 
 -- ---- one table after another
 
-pub no_test : Passed ≡ verdict_of []
+pub no_test : passed_all ≡ verdict_of []
 unfolding verdict_of
 no_test = refl
 
-pub one-test : (b : Bool) (r : Refusal) → verdict_of (test b r ∷ []) ≡ pick b (Refused r) Passed
+pub one-test : (b : Bool) (r : Refusal) → verdict_of (test b r ∷ []) ≡ pick b (Err r) passed_all
 unfolding verdict_of
 one-test b r = refl
 
 next_row : (b : Bool) (r : Refusal) (v w : Verdict)
-    → pick b (Refused r) (next_of v w) ≡ next_of (pick b (Refused r) v) w
+    → pick b (Err r) (next_of v w) ≡ next_of (pick b (Err r) v) w
 unfolding pick next_of
 next_row true r v w = refl
 next_row false r v w = refl
@@ -57,15 +57,42 @@ pub joined : (ts us : List Test) → verdict_of (ts ++ us) ≡ next_of (verdict_
 unfolding verdict_of next_of
 joined [] us = refl
 joined (t ∷ ts) us =
-    ap (pick t.holds (Refused t.refusal)) (joined ts us)
+    ap (pick t.holds (Err t.refusal)) (joined ts us)
     ∙ next_row t.holds t.refusal (verdict_of ts) (verdict_of us)
 
 -- the second table decides where the first passes, and a refusal of the first stands
 pub verdict-append : (ts us : List Test)
-    → (verdict_of ts ≡ Passed → verdict_of (ts ++ us) ≡ verdict_of us)
-    × ((r : Refusal) → verdict_of ts ≡ Refused r → verdict_of (ts ++ us) ≡ Refused r)
+    → (verdict_of ts ≡ passed_all → verdict_of (ts ++ us) ≡ verdict_of us)
+    × ((r : Refusal) → verdict_of ts ≡ Err r → verdict_of (ts ++ us) ≡ Err r)
 unfolding next_of
 verdict-append ts us = (λ e. rw (joined ts us, e), λ r e. rw (joined ts us, e))
+
+-- ---- a verdict test by test: what passes leaves it to the rest, and a refusal stands
+
+-- what `?` hands on
+pub handed-on : {A E : Type 0} {r : Result A E} {x : E} → IsErrAnd r (λ y. y ≡ x) → r ≡ Err x
+handed-on {r = Ok a} h = absurd h
+handed-on {r = Err y} h = ap Err h
+
+module _ {v : Verdict} (ts us : List Test) (e : v ≡ verdict_of ts) where
+  pub passes : {w : Verdict} {u : Unit {0}} → v ≡ Ok u → w ≡ verdict_of us → w ≡ verdict_of (ts ++ us)
+  passes p f = f ∙ sym ((verdict-append ts us).0 (sym e ∙ p))
+
+  pub stops : {w : Verdict} {r : Refusal} → v ≡ Err r → IsErrAnd w (λ x. x ≡ r) → w ≡ verdict_of (ts ++ us)
+  stops {r = r} p h = handed-on h ∙ sym ((verdict-append ts us).1 r (sym e ∙ p))
+
+module _ {b : Bool} (r : Refusal) (us : List Test) where
+  pub refused-by : b ≡ true → Err r ≡ verdict_of (test b r ∷ us)
+  unfolding verdict_of
+  refused-by h = sym (pick_yes _ _ h)
+
+  pub passed-by : {w : Verdict} → b ≡ false → w ≡ verdict_of us → w ≡ verdict_of (test b r ∷ us)
+  unfolding verdict_of
+  passed-by h f = f ∙ sym (pick_no _ _ h)
+
+pub no-test-left : passed_all ≡ verdict_of []
+unfolding verdict_of
+no-test-left = refl
 
 -- ---- the first test that holds
 
@@ -83,11 +110,11 @@ pub record FirstHolds (ts : List Test) (r : Refusal) : Type 0 where
 abbrev pub NoneHolds : List Test → Type 0
 NoneHolds ts = (i : ℕ) → i < length ts → (test_at ts i).holds ≡ false
 
-refused-first : (ts : List Test) (r : Refusal) → verdict_of ts ≡ Refused r → FirstHolds ts r
+refused-first : (ts : List Test) (r : Refusal) → verdict_of ts ≡ Err r → FirstHolds ts r
 unfolding verdict_of
 refused-first [] r = no-refusal r
 refused-first (t ∷ ts) r =
-    pick_all (λ (v : Verdict). v ≡ Refused r → FirstHolds (t ∷ ts) r) t.holds (Refused t.refusal) (verdict_of ts)
+    pick_all (λ (v : Verdict). v ≡ Err r → FirstHolds (t ∷ ts) r) t.holds (Err t.refusal) (verdict_of ts)
     (λ h e. record { place = 0; inside = omega arith; holds = h; refuses = cc; earlier = λ k l. absurd (omega arith) })
     (λ h e. later h (refused-first ts r e))
   where
@@ -104,33 +131,33 @@ refused-first (t ∷ ts) r =
 first-refused : (ts : List Test) (r : Refusal) (i : ℕ) → i < length ts
     → (test_at ts i).holds ≡ true → (test_at ts i).refusal ≡ r
     → ((k : ℕ) → k < i → (test_at ts k).holds ≡ false)
-    → verdict_of ts ≡ Refused r
+    → verdict_of ts ≡ Err r
 unfolding verdict_of
 first-refused [] r i l h e none = absurd (omega arith)
-first-refused (t ∷ ts) r zero l h e none = pick_yes (Refused t.refusal) (verdict_of ts) h ∙ ap Refused e
+first-refused (t ∷ ts) r zero l h e none = pick_yes (Err t.refusal) (verdict_of ts) h ∙ ap Err e
 first-refused (t ∷ ts) r (suc i) l h e none =
-    pick_no (Refused t.refusal) (verdict_of ts) (none 0 (omega arith))
+    pick_no (Err t.refusal) (verdict_of ts) (none 0 (omega arith))
     ∙ first-refused ts r i (le_of_suc-le-suc l) h e (λ k b. none (suc k) (suc-le-suc b))
 
-passed_none : (ts : List Test) → verdict_of ts ≡ Passed → NoneHolds ts
+passed_none : (ts : List Test) → verdict_of ts ≡ passed_all → NoneHolds ts
 unfolding verdict_of
 passed_none [] = λ e i l. absurd (omega arith)
 passed_none (t ∷ ts) =
-    pick_all (λ (v : Verdict). v ≡ Passed → NoneHolds (t ∷ ts)) t.holds (Refused t.refusal) (verdict_of ts)
+    pick_all (λ (v : Verdict). v ≡ passed_all → NoneHolds (t ∷ ts)) t.holds (Err t.refusal) (verdict_of ts)
     (λ h e. no-refusal t.refusal (sym e))
     (λ h e. below_suc (λ (k : ℕ). (test_at (t ∷ ts) k).holds ≡ false) (length ts) h (passed_none ts e))
 
-none_passed : (ts : List Test) → NoneHolds ts → verdict_of ts ≡ Passed
+none_passed : (ts : List Test) → NoneHolds ts → verdict_of ts ≡ passed_all
 unfolding verdict_of
 none_passed [] none = refl
 none_passed (t ∷ ts) none =
-    pick_no (Refused t.refusal) (verdict_of ts) (none 0 (omega arith))
+    pick_no (Err t.refusal) (verdict_of ts) (none 0 (omega arith))
     ∙ none_passed ts (λ i l. none (suc i) (suc-le-suc l))
 
 -- a verdict is the refusal of the first test that holds, and passes exactly where none does
 pub verdict-first-proof : (ts : List Test)
-    → ((r : Refusal) → (verdict_of ts ≡ Refused r) ↔ FirstHolds ts r)
-    × ((verdict_of ts ≡ Passed) ↔ NoneHolds ts)
+    → ((r : Refusal) → (verdict_of ts ≡ Err r) ↔ FirstHolds ts r)
+    × ((verdict_of ts ≡ passed_all) ↔ NoneHolds ts)
 verdict-first-proof ts = (
   λ r. (refused-first ts r, λ f. first-refused ts r f.place f.inside f.holds f.refuses f.earlier),
   (passed_none ts, none_passed ts),

@@ -15,7 +15,6 @@ use Rattle.scalar.specs.Halving.{halve}
 use Rattle.scalar.specs.Root.{keeps, halved_root, root_of_form, root_of}
 use Rattle.scalar.specs.SquareRoot.{square_of}
 use Rattle.scalar.specs.SquareRootComputed.{border, reaches, nearest_root, sqrt_of}
-use Rattle.state.specs.declared.settings.Number.TheVariants as number
 use Rattle.state.specs.declared.settings.Rule.{Rule}
 use Rattle.state.specs.declared.settings.Rule.TheVariants as rule
 use Rattle.state.specs.declared.run.Tolerances.{Tolerances}
@@ -24,6 +23,7 @@ use Rattle.state.specs.Settings.{defaults_of}
 use Rattle.opening.specs.declared.tolerances.Conversion.{Conversion}
 use Rattle.opening.specs.Tolerances.{turn_at, scalar_turns, converted_of, newton_tol_of}
 use Rattle.opening.proofs.FromRust as rust
+use Rattle.std.specs.Prelude.{None}
 
 abbrev bits_of : Float → ℕ
 bits_of x = to_bits binary64 x
@@ -59,7 +59,7 @@ unfolding converted_of scalar_turns turn_at power_of times_at product keeps halv
 scalar-book n = refl
 
 -- the Newton tolerance comes from rtol after its turn
-pub newton-tolerance : (bits_of (newton_tol_of number.Absent defaults_of.uround (scalar_by rule.Rust 1).tolst) ∷ [])
+pub newton-tolerance : (bits_of (newton_tol_of None defaults_of.uround (scalar_by rule.Rust 1).tolst) ∷ [])
     ≡ rust.newton_tolerance
 unfolding converted_of scalar_turns turn_at newton_tol_of power_of times_at product keeps halve halved_root root_of_form
     root_of units units_in_one square_of border reaches nearest_root sqrt_of max_of min_of loop pick is_nan le lt mul

@@ -7,16 +7,16 @@ use mathlib.Core.List.{List}
 use mathlib.Core.Logic.{◌↔◌}
 use lib.Ieee.{Float}
 use Rattle.state.specs.declared.talk.Refusal.{Refusal}
-use Rattle.state.specs.declared.talk.Opened.TheVariants as opened
-use Rattle.state.specs.declared.talk.Verdict.TheVariants.{Passed, Refused}
 use Rattle.opening.specs.Rows.{Test, Opening, opening_rows, place_of, verdict_of}
 use Rattle.opening.specs.Opening.{accepted_of, open_of}
 use Rattle.opening.proofs.RowLaws.{FirstHolds, NoneHolds, FirstPlace, verdict-first-proof, place-first-proof}
 use Rattle.opening.proofs.Verdicts.{refused-exactly-proof, accepted-exactly-proof, refused-kept-proof}
+use Rattle.std.specs.Prelude.{Err}
+use Rattle.state.specs.Talk.{passed_all}
 
 -- An opening is refused with r exactly when a row of 01's table holds, refuses with r, and no earlier row holds.
 pub refused-exactly : (o : Opening) (r : Refusal)
-    → ((open_of o).answer ≡ opened.Refused r) ↔ FirstHolds (opening_rows o) r
+    → ((open_of o).answer ≡ Err r) ↔ FirstHolds (opening_rows o) r
 refused-exactly = refused-exactly-proof
 
 -- It is accepted exactly when no row holds.
@@ -24,13 +24,13 @@ pub accepted-exactly : (o : Opening) → (open_of o ≡ accepted_of o) ↔ NoneH
 accepted-exactly = accepted-exactly-proof
 
 -- A refusal leaves all lent memory as it was.
-pub refused-kept : (o : Opening) (r : Refusal) → (open_of o).answer ≡ opened.Refused r → (open_of o).memory ≡ o.memory
+pub refused-kept : (o : Opening) (r : Refusal) → (open_of o).answer ≡ Err r → (open_of o).memory ≡ o.memory
 refused-kept = refused-kept-proof
 
 -- The verdict of any list of tests is the refusal of the first that holds, and passed exactly when none does.
 pub verdict-first : (ts : List Test)
-    → ((r : Refusal) → (verdict_of ts ≡ Refused r) ↔ FirstHolds ts r)
-    × ((verdict_of ts ≡ Passed) ↔ NoneHolds ts)
+    → ((r : Refusal) → (verdict_of ts ≡ Err r) ↔ FirstHolds ts r)
+    × ((verdict_of ts ≡ passed_all) ↔ NoneHolds ts)
 verdict-first = verdict-first-proof
 
 -- The place that a refusal tells is the first with a bad entry.

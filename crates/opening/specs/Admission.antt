@@ -2,7 +2,8 @@
 -- kind than was asked for (01, 'Numbers that refuse'). One list of tests, each clause of 'Unfit means one of' as it is
 -- written there; M is max_steps, K newton_maxiter. Settings are tested as they were given, floats that are not finite
 -- aside (row 3 is opening's), so a NaN that passes rows 4 to 8 is fit and the arithmetic goes on.
-use Rattle.std.specs.Prelude.{ℕ, ◌+◌, ◌*◌, Bool, true, false, not, ◌&&◌, ◌||◌, List, [], ◌∷◌, ◌++◌, ltb, eqb}
+use Rattle.std.specs.Prelude.{ℕ, ◌+◌, ◌*◌, Bool, true, false, not, ◌&&◌, ◌||◌, List, [], ◌∷◌, ◌++◌, ltb, eqb, None}
+use Rattle.std.specs.Prelude.{Some, Option, Ok, Err}
 use Rattle.std.specs.Bool.{beq}
 use Rattle.std.specs.Float.Ieee.{lt}
 use Rattle.words.specs.Constants.{«0·0»}
@@ -10,16 +11,14 @@ use Rattle.opening.specs.declared.admission.Asking.{Asking}
 use Rattle.state.specs.declared.run.Run.{Run}
 use Rattle.state.specs.declared.run.Stage.{Stage}
 use Rattle.state.specs.declared.run.Stage.TheVariants as stage
-use Rattle.state.specs.declared.run.Strides.{Strides}
-use Rattle.state.specs.declared.run.Strides.TheVariants as strides
 use Rattle.state.specs.declared.talk.Reply.{Reply}
 use Rattle.state.specs.declared.talk.Reply.TheVariants as reply
 use Rattle.state.specs.declared.talk.Refusal.TheVariants.{Unfit, HasEnded, WrongReply}
-use Rattle.state.specs.declared.talk.Verdict.{Verdict}
-use Rattle.state.specs.declared.talk.Verdict.TheVariants.{Passed, Refused}
 use Rattle.state.specs.Memory.{Memory, lengths_fit}
 use Rattle.state.specs.Pivots.{stray}
 use Rattle.opening.specs.Rows.{Test, test, outside, range_rows}
+use Rattle.state.specs.declared.run.Strides.{Strides}
+use Rattle.state.specs.Talk.{Verdict, passed_all}
 
 -- ---- the stage
 
@@ -62,8 +61,8 @@ all_unfit (t ∷ ts) = unfit t.holds ∷ all_unfit ts
 
 -- what refuses for any reason makes a state unfit
 unfoldable pub unfit_of : Verdict → Verdict
-unfit_of Passed = Passed
-unfit_of (Refused r) = Refused Unfit
+unfit_of (Ok tt) = passed_all
+unfit_of (Err r) = Err Unfit
 
 -- n or lengths wrong; settings failing 4 to 8
 abbrev pub shape_rows : Run → Bool → List Test
@@ -83,9 +82,9 @@ state_rows r ip1 ip2 =
     ∷ []
 
 -- 'neither is negative' (02, [7]): a NaN and -0 are not, and where there is none both are +0
-abbrev pub stride_below : Strides → Bool
-stride_below strides.None = false
-stride_below (strides.Between smallest largest) = lt smallest «0·0» || lt largest «0·0»
+abbrev pub stride_below : Option Strides → Bool
+stride_below None = false
+stride_below (Some s) = lt s.smallest «0·0» || lt s.largest «0·0»
 
 -- ode, jac or lu above 2+3(K+1)M, 6(M+1), 13M+12; accepted above M; rejected above 2M; a stride negative
 abbrev pub count_rows : Run → List Test

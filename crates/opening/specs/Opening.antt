@@ -1,15 +1,11 @@
 -- An opening: refused by the first row that holds, and then nothing is written; else the run stands before its first
 -- request. Follows radau.rs:131-329 past its tests, which are specs/Rows.antt.
-use Rattle.std.specs.Prelude.{ℕ, ◌-◌, ◌*◌, true, false, List, Float}
+use Rattle.std.specs.Prelude.{ℕ, ◌-◌, ◌*◌, true, false, List, Float, None, Some, Option, Ok, Err}
 use Rattle.std.specs.Float.Ieee.{neg}
 use Rattle.words.specs.Words.{◌⊖◌, ◌⊗◌}
 use Rattle.words.specs.Constants.{«0·0», «1·0», «1·0e-6»}
 use Rattle.scalar.specs.Order.{abs_of, clamp_of, signum_of}
 use Rattle.state.specs.declared.settings.Settings.{Settings}
-use Rattle.state.specs.declared.settings.Number.{Number}
-use Rattle.state.specs.declared.settings.Number.TheVariants as number
-use Rattle.state.specs.declared.settings.Whole.{Whole}
-use Rattle.state.specs.declared.settings.Whole.TheVariants as whole
 use Rattle.state.specs.declared.settings.Mass.{Mass}
 use Rattle.state.specs.declared.settings.Mass.TheVariants as mass
 use Rattle.state.specs.declared.run.Shape.{Shape}
@@ -17,29 +13,24 @@ use Rattle.state.specs.declared.run.Fixed.{Fixed}
 use Rattle.state.specs.declared.run.Counts.{Counts}
 use Rattle.state.specs.declared.run.Control.{Control}
 use Rattle.state.specs.declared.run.Numbers.{Numbers}
-use Rattle.state.specs.declared.run.Singular.TheVariants as singular
-use Rattle.state.specs.declared.run.Strides.TheVariants as strides
 use Rattle.state.specs.declared.run.Notes.{Notes}
 use Rattle.state.specs.declared.run.Run.{Run}
 use Rattle.state.specs.declared.run.Stage.TheVariants.{FirstDerivative}
 use Rattle.state.specs.declared.talk.Request.TheVariants.{Derivative}
 use Rattle.state.specs.declared.talk.Place.TheVariants.{YToF0}
-use Rattle.state.specs.declared.talk.Opened.{Opened}
-use Rattle.state.specs.declared.talk.Opened.TheVariants as opened
-use Rattle.state.specs.declared.talk.Verdict.{Verdict}
-use Rattle.state.specs.declared.talk.Verdict.TheVariants as verdict
 use Rattle.state.specs.Settings.{or_none}
 use Rattle.state.specs.Memory.{Memory, memory, amounts, newton, given, factors, differences, zeros, noughts}
 use Rattle.opening.specs.declared.tolerances.Conversion.{Conversion}
 use Rattle.opening.specs.Tolerances.{Converted, converted_of, newton_tol_of}
 use Rattle.opening.specs.Rows.{Opening, opening_rows, verdict_of, ceiling_of, floor_of}
+use Rattle.state.specs.Talk.{Verdict, Opened, call}
 
 -- ---- the partition (radau.rs:214-248): a count left out is 0, but nind1 is what the others leave
 
 -- with none given n - 0 - 0 is n [radau.rs:235-237] [alike radau.rs:221-225]
-unfoldable pub nind1_of : ℕ → Whole → ℕ → ℕ → ℕ
-nind1_of n whole.Absent two three = n - two - three
-nind1_of n (whole.Given one) two three = one
+unfoldable pub nind1_of : ℕ → Option ℕ → ℕ → ℕ → ℕ
+nind1_of n None two three = n - two - three
+nind1_of n (Some one) two three = one
 
 -- [radau.rs:212-219]
 unfoldable pub shape_of : ℕ → Settings → Shape
@@ -51,9 +42,9 @@ shape_of n s =
 -- ---- the first step (radau.rs:250-264)
 
 -- |first_step|, else 1e-6, with the direction's sign [radau.rs:252-257]
-unfoldable pub wished_step : Number → Float → Float
-wished_step (number.Given h0) posneg = abs_of h0 ⊗ posneg
-wished_step number.Absent posneg = «1·0e-6» ⊗ posneg
+unfoldable pub wished_step : Option Float → Float → Float
+wished_step (Some h0) posneg = abs_of h0 ⊗ posneg
+wished_step None posneg = «1·0e-6» ⊗ posneg
 
 -- [radau.rs:264]
 unfoldable pub first_step_of : Settings → Float → Float → Float
@@ -113,12 +104,12 @@ first_numbers x h =
       dynold = «0·0»;
       thqold = «0·0»;
       -- [radau.rs:334-335]
-      xout = number.Absent;
+      xout = None;
     }
 
 -- nothing is decomposed yet (02, [3]), and nothing accepted (02, [7])
 abbrev pub first_notes : Notes
-first_notes = record { singular = singular.None; strides = strides.None }
+first_notes = record { singular = None; strides = None }
 
 -- [radau.rs:291-293]
 unfoldable pub first_run : Settings → ℕ → Float → Float → Conversion → Run
@@ -175,12 +166,12 @@ unfoldable pub accepted_of : Opening → OpeningOutcome
 accepted_of o =
     let c = converted_of o.settings.rule o.n o.tolerances o.memory.given.rtol o.memory.given.atol in
     opening_outcome
-    (opened.Asked (first_run o.settings o.n o.x0 o.xend c.conversion) (Derivative o.x0) YToF0)
+    (Ok (call (first_run o.settings o.n o.x0 o.xend c.conversion) (Derivative o.x0) YToF0))
     (cleared_of o.settings.mass o.n c o.memory)
 
 unfoldable pub by_verdict : Verdict → Opening → OpeningOutcome
-by_verdict verdict.Passed o = accepted_of o
-by_verdict (verdict.Refused r) o = opening_outcome (opened.Refused r) o.memory
+by_verdict (Ok tt) o = accepted_of o
+by_verdict (Err r) o = opening_outcome (Err r) o.memory
 
 unfoldable pub open_of : Opening → OpeningOutcome
 open_of o = by_verdict (verdict_of (opening_rows o)) o

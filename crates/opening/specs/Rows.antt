@@ -2,6 +2,7 @@
 -- first that holds is the refusal. Row 3 is spelled out float by float in the order of 01's bracket, row 9 by its two
 -- tolerances, row 12 by its two steps, so that a refusal tells which value failed.
 use Rattle.std.specs.Prelude.{ℕ, suc, ◌+◌, Bool, true, false, not, ◌||◌, List, [], ◌∷◌, ◌++◌, ltb, eqb, length, Float}
+use Rattle.std.specs.Prelude.{None, Some, Option, Ok, Err}
 use Rattle.std.specs.Float.{nan, inf, fin}
 use Rattle.std.specs.Float.Ieee.{le, lt, eq}
 use Rattle.words.specs.Words.{◌⊖◌}
@@ -9,10 +10,6 @@ use Rattle.words.specs.Constants.{«0·0», «1·0», «1e-4», «1e-35»}
 use Rattle.words.specs.Loop.{pick}
 use Rattle.scalar.specs.Order.{abs_of}
 use Rattle.state.specs.declared.settings.Settings.{Settings}
-use Rattle.state.specs.declared.settings.Number.{Number}
-use Rattle.state.specs.declared.settings.Number.TheVariants as number
-use Rattle.state.specs.declared.settings.Whole.{Whole}
-use Rattle.state.specs.declared.settings.Whole.TheVariants as whole
 use Rattle.state.specs.declared.settings.Mass.{Mass}
 use Rattle.state.specs.declared.settings.Mass.TheVariants as mass
 use Rattle.state.specs.declared.run.Tolerances.{Tolerances}
@@ -20,10 +17,9 @@ use Rattle.state.specs.declared.run.Tolerances.TheVariants.{Scalars, Lists}
 use Rattle.state.specs.declared.talk.Value.TheVariants as value
 use Rattle.state.specs.declared.talk.Refusal.{Refusal}
 use Rattle.state.specs.declared.talk.Refusal.TheVariants as refusal
-use Rattle.state.specs.declared.talk.Verdict.{Verdict}
-use Rattle.state.specs.declared.talk.Verdict.TheVariants.{Passed, Refused}
 use Rattle.state.specs.Settings.{or_else, or_none}
 use Rattle.state.specs.Memory.{Memory, lengths_fit}
+use Rattle.state.specs.Talk.{Verdict, passed_all}
 
 -- ---- a list of tests, and the first that holds
 
@@ -35,8 +31,8 @@ abbrev pub test : Bool → Refusal → Test
 test holds refusal = record { holds = holds; refusal = refusal }
 
 unfoldable pub verdict_of : List Test → Verdict
-verdict_of [] = Passed
-verdict_of (t ∷ ts) = pick t.holds (Refused t.refusal) (verdict_of ts)
+verdict_of [] = passed_all
+verdict_of (t ∷ ts) = pick t.holds (Err t.refusal) (verdict_of ts)
 
 -- ---- what is opened
 
@@ -62,9 +58,9 @@ not_finite (inf s) = true
 not_finite (fin s m e) = false
 
 -- an absent number is not given, so it can't fail
-unfoldable pub bad_number : Number → Bool
-bad_number number.Absent = false
-bad_number (number.Given v) = not_finite v
+unfoldable pub bad_number : Option Float → Bool
+bad_number None = false
+bad_number (Some v) = not_finite v
 
 -- the place of the first entry with a property, else the length
 unfoldable pub place_of : (Float → Bool) → List Float → ℕ
@@ -73,6 +69,10 @@ place_of bad (x ∷ xs) = pick (bad x) 0 (suc (place_of bad xs))
 
 abbrev pub some : (Float → Bool) → List Float → Bool
 some bad xs = ltb (place_of bad xs) (length xs)
+
+-- the same place where there is one
+unfoldable pub first_of : (Float → Bool) → List Float → Option ℕ
+first_of bad xs = pick (some bad xs) (Some (place_of bad xs)) None
 
 -- what is given: a Full mass, and the two scalars or the two lists
 unfoldable pub mass_given : Mass → List Float → List Float
@@ -153,20 +153,20 @@ tolerance_rows rtol atol =
 -- ---- rows 10 to 12
 
 -- sums are exact: whole numbers without overflow
-unfoldable pub partition_fails : ℕ → Whole → Whole → Whole → Bool
+unfoldable pub partition_fails : ℕ → Option ℕ → Option ℕ → Option ℕ → Bool
 -- [radau.rs:226-234]
-partition_fails n whole.Absent two three = ltb n (or_none two + or_none three)
+partition_fails n None two three = ltb n (or_none two + or_none three)
 -- [radau.rs:238-248]
-partition_fails n (whole.Given one) two three = not (eqb (one + or_none two + or_none three) n)
+partition_fails n (Some one) two three = not (eqb (one + or_none two + or_none three) n)
 
 -- h is 0 only where first_step is: 1e-6 isn't, and the direction is 1 or -1 [radau.rs:258-263]
-unfoldable pub given_zero : Number → Bool
-given_zero number.Absent = false
-given_zero (number.Given v) = eq v «0·0»
+unfoldable pub given_zero : Option Float → Bool
+given_zero None = false
+given_zero (Some v) = eq v «0·0»
 
-unfoldable pub given_below : Number → Bool
-given_below number.Absent = false
-given_below (number.Given v) = lt v «0·0»
+unfoldable pub given_below : Option Float → Bool
+given_below None = false
+given_below (Some v) = lt v «0·0»
 
 -- the step ceiling [radau.rs:176-177]
 abbrev pub ceiling_of : Settings → Float → Float → Float
@@ -202,5 +202,5 @@ opening_rows o =
 
 -- one verdict after another: a refusal stands, and what passes leaves it to the next
 unfoldable pub next_of : Verdict → Verdict → Verdict
-next_of Passed v = v
-next_of (Refused r) v = Refused r
+next_of (Ok tt) v = v
+next_of (Err r) v = Err r

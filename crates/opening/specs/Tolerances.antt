@@ -1,14 +1,12 @@
 -- Tolerances at opening: each pair is converted, and the Newton tolerance comes from the first rtol after all
 -- turns (radau.rs:189-207).
-use Rattle.std.specs.Prelude.{ℕ, List, set, Float}
+use Rattle.std.specs.Prelude.{ℕ, List, set, Float, None, Some, Option}
 use Rattle.words.specs.Words.{◌⊗◌, ◌⊘◌, ◌!◌}
 use Rattle.words.specs.Constants.{«10·0», «0·1», «0·03»}
 use Rattle.words.specs.Loop.{loop}
 use Rattle.scalar.specs.Order.{max_of, min_of}
 use Rattle.scalar.specs.Powers.{two_thirds_of}
 use Rattle.scalar.specs.SquareRootComputed.{sqrt_of}
-use Rattle.state.specs.declared.settings.Number.{Number}
-use Rattle.state.specs.declared.settings.Number.TheVariants as number
 use Rattle.state.specs.declared.settings.Rule.{Rule}
 use Rattle.state.specs.declared.settings.Rule.TheVariants as rule
 use Rattle.state.specs.declared.run.Tolerances.{Tolerances}
@@ -67,7 +65,7 @@ converted_of r n Lists rtols atols =
     converted (conversion Lists (c.rtols ! 0)) c.rtols c.atols
 
 -- [radau.rs:200-207]
-unfoldable pub newton_tol_of : Number → Float → Float → Float
-newton_tol_of (number.Given v) uround tolst = v
-newton_tol_of number.Absent uround tolst =
+unfoldable pub newton_tol_of : Option Float → Float → Float → Float
+newton_tol_of (Some v) uround tolst = v
+newton_tol_of None uround tolst =
     max_of («10·0» ⊗ uround ⊘ tolst) (min_of «0·03» (sqrt_of tolst))

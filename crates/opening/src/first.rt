@@ -3,16 +3,16 @@ ghost use Rattle.std.specs.Prelude.{◌≡◌, ◌*◌, length};
 ghost use Rattle.opening.specs.Opening.{nind1_of, shape_of, wished_step, first_step_of, fixed_of};
 ghost use Rattle.opening.specs.Opening.{first_control, first_numbers, first_run, mass_kept};
 
-use crate::absent::{ceiling, floor, or_none};
+use crate::absent::{ceiling, floor};
 use crate::tolerances::{Conversion, newton_tolerance};
 use scalar::{abs, clamp, signum};
 use state::parts::zero;
-use state::run::{Control, Counts, Fixed, Notes, Numbers, Run, Shape, Singular, Stage, Strides};
-use state::settings::{Mass, Number, Settings, Whole};
+use state::run::{Control, Counts, Fixed, Notes, Numbers, Run, Shape, Stage};
+use state::settings::{Mass, Settings};
 
 // What two counts leave of n, or 0.
 fn left_of(n: usize, two: usize, three: usize) -> usize
-    ensures { result ≡ nind1_of n Whole.Absent two three }
+    ensures { result ≡ nind1_of n None two three }
 {
     if n < two {
         return 0;
@@ -23,45 +23,41 @@ fn left_of(n: usize, two: usize, three: usize) -> usize
     n - two - three
 }
 
-fn nind1(n: usize, one: Whole, two: usize, three: usize) -> usize
+fn nind1(n: usize, one: Option<usize>, two: usize, three: usize) -> usize
     ensures { result ≡ nind1_of n one two three }
 {
     match one {
-        Whole::Absent => left_of(n, two, three),
-        Whole::Given(k) => k,
+        None => left_of(n, two, three),
+        Some(k) => k,
     }
 }
 
 fn shape(n: usize, s: Settings) -> Shape
     ensures { result ≡ shape_of n s }
 {
-    let given1 = s.nind1;
-    let given2 = s.nind2;
-    let given3 = s.nind3;
-    let two = or_none(given2);
-    let three = or_none(given3);
+    let two = s.nind2.unwrap_or(0);
+    let three = s.nind3.unwrap_or(0);
     Shape {
         n,
-        nind1: nind1(n, given1, two, three),
+        nind1: nind1(n, s.nind1, two, three),
         nind2: two,
         nind3: three,
     }
 }
 
-fn wished_step(first_step: Number, posneg: f64) -> f64
+fn wished_step(first_step: Option<f64>, posneg: f64) -> f64
     ensures { result ≡ wished_step first_step posneg }
 {
     match first_step {
-        Number::Given(h0) => abs(h0) * posneg,
-        Number::Absent => 1.0e-6 * posneg,
+        Some(h0) => abs(h0) * posneg,
+        None => 1.0e-6 * posneg,
     }
 }
 
 fn first_h(s: Settings, posneg: f64, hmax: f64) -> f64
     ensures { result ≡ first_step_of s posneg hmax }
 {
-    let first_step = s.first_step;
-    clamp(wished_step(first_step, posneg), -hmax, hmax)
+    clamp(wished_step(s.first_step, posneg), -hmax, hmax)
 }
 
 fn fixed(s: Settings, x0: f64, xend: f64, conversion: Conversion) -> Fixed
@@ -96,7 +92,7 @@ fn numbers(x: f64, h: f64) -> Numbers
         theta: 0.0,
         dynold: 0.0,
         thqold: 0.0,
-        xout: Number::Absent,
+        xout: None,
     }
 }
 
@@ -135,8 +131,8 @@ pub fn first_run(s: Settings, n: usize, x0: f64, xend: f64, conversion: Conversi
         numbers: numbers(x0, first_h(s, signum(xend - x0), ceiling(s, x0, xend))),
         stage: Stage::FirstDerivative,
         notes: Notes {
-            singular: Singular::None,
-            strides: Strides::None,
+            singular: None,
+            strides: None,
         },
     }
 }

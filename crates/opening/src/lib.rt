@@ -8,6 +8,7 @@ pub mod admission;
 mod checks;
 mod clear;
 mod first;
+mod groups;
 pub mod opening;
 mod parts;
 mod tolerances;

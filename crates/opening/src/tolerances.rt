@@ -7,7 +7,7 @@ ghost use Rattle.opening.specs.Tolerances.{converted, converted_of, newton_tol_o
 use scalar::{max, min, sqrt, two_thirds};
 use state::parts::zero;
 use state::run::Tolerances;
-use state::settings::{Number, Rule};
+use state::settings::Rule;
 
 // A relative and an absolute tolerance.
 #[derive(Clone, Copy)]
@@ -111,11 +111,11 @@ pub fn convert(
 }
 
 // The tolerance of the Newton iteration: as given, or from uround and the first rtol.
-pub fn newton_tolerance(newton_tol: Number, uround: f64, tolst: f64) -> f64
+pub fn newton_tolerance(newton_tol: Option<f64>, uround: f64, tolst: f64) -> f64
     ensures { result ≡ newton_tol_of newton_tol uround tolst }
 {
     match newton_tol {
-        Number::Given(v) => v,
-        Number::Absent => max(10.0 * uround / tolst, min(0.03, sqrt(tolst))),
+        Some(v) => v,
+        None => max(10.0 * uround / tolst, min(0.03, sqrt(tolst))),
     }
 }

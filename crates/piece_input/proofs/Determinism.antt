@@ -1,4 +1,4 @@
--- Each contract settles its call, but that of `read_piece`, which reads standard input.
+-- Each contract settles its call, but those of `read_piece` and `answer`, which read standard input.
 use Rattle.words.specs.Contract.{Settles}
 use Rattle.words.proofs.OneOutcome.{one-result}
 use Rattle.piece_input.proofs.telling.write_first as write_first

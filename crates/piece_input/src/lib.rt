@@ -1,8 +1,10 @@
-// What the programs that take their input in pieces share: one read of standard input, and what they print at the end.
+// What the programs that take their input in pieces share: it is read to its end, and what it comes to is printed.
 #![tactic(auto)]
 
+pub mod answering;
 pub mod reading;
 pub mod telling;
 
+pub use answering::{Taker, answer};
 pub use reading::read_piece;
 pub use telling::{unreadable, write_first};

@@ -6,18 +6,18 @@
 ghost use Rattle.std.specs.Prelude.{◌≤◌, ◌≡◌, length};
 ghost use Rattle.state.specs.Memory.{zeros, noughts};
 
-use csv_table::answers::Exported;
+use csv_table::answers::ExportError;
 use csv_table::table::put_header;
 use forecast::forecast;
 use forecast::task::{amounts_from, rates_from};
 use forecast_text::print;
 use replay::out::Out;
-use replay::word::within;
-use reports::beginning::{Beginning, Begun, Pending, begin};
-use reports::line::{Line, put_report};
+use reports::beginning::{Begun, begin};
+use reports::line::put_report;
 use reports::step::{BUDGET, next_report};
 use sheet_input::read_all;
-use sheet_input::reading::{Input, KEPT};
+use sheet_input::reading::KEPT;
+use state::talk::Call;
 use std::io;
 
 // Room for every line, and for all that is printed of a refused sheet.
@@ -38,15 +38,13 @@ const SPECIES: usize = 256;
 // Of what lies behind a reference the length is known.
 fn write_first(to: &Out, out: &[u8; OUT], count: usize) {
     let bytes: &[u8] = out;
-    to.write(&bytes[0..within(count, bytes.len())]);
+    to.write(&bytes[0..count.min(bytes.len())]);
 }
 
 // Writes the line that was put. None is refused: a sheet that runs has 1 to 32 amounts, and there is room for them.
-fn write_line(to: &Out, answer: Exported, out: &[u8; OUT]) {
-    match answer {
-        Exported::Written(count) => write_first(to, out, count),
-        Exported::RefusedOrder => {}
-        Exported::RefusedRoom => {}
+fn write_line(to: &Out, answer: Result<usize, ExportError>, out: &[u8; OUT]) {
+    if let Ok(count) = answer {
+        write_first(to, out, count);
     }
 }
 
@@ -57,15 +55,15 @@ fn write_header(to: &Out, n: usize) {
 }
 
 // Writes the record of a report; true at the end, which is none.
-fn is_over(to: &Out, pending: Pending, y: &[f64]) -> bool {
+fn is_over(to: &Out, pending: Call, y: &[f64]) -> bool {
     let request = pending.request;
     let mut out = [0u8; OUT];
     match put_report(request, y, &mut out) {
-        Line::Put(answer) => {
+        Some(answer) => {
             write_line(to, answer, &out);
             false
         }
-        Line::Nothing => true,
+        None => true,
     }
 }
 
@@ -233,15 +231,15 @@ fn write_points(
 
 // How many entries a square matrix of n rows has.
 fn square(n: usize) -> usize {
-    let side = within(n, VECTOR);
+    let side = n.min(VECTOR);
     side * side
 }
 
 // A sheet has at most 32 amounts, so that nothing is cut off here.
 fn write_run(to: &Out, begun: Begun, amounts: &[u64; VECTOR], rates: &[f64], species: &[usize]) {
-    let n = within(begun.n, VECTOR);
-    let n4 = within(4 * n, COEFFICIENTS);
-    let nn = within(square(n), MATRIX);
+    let n = begun.n.min(VECTOR);
+    let n4 = (4 * n).min(COEFFICIENTS);
+    let nn = square(n).min(MATRIX);
     write_points(to, begun, amounts, n, n4, nn, rates, species);
 }
 
@@ -260,13 +258,13 @@ fn write_table(
 
 fn tell(to: &Out, kept: &[u8; KEPT], length: usize) {
     let bytes: &[u8] = kept;
-    let sheet = &bytes[0..within(length, bytes.len())];
+    let sheet = &bytes[0..length.min(bytes.len())];
     let mut amounts = [0u64; VECTOR];
     let mut rates = [0u64; RATES];
     let mut species = [0usize; SPECIES];
     match begin(sheet, &mut amounts, &mut rates, &mut species) {
-        Beginning::Begun(begun) => write_table(to, begun, &amounts, &rates, &species),
-        Beginning::Refused => {
+        Some(begun) => write_table(to, begun, &amounts, &rates, &species),
+        None => {
             let mut out = [0u8; OUT];
             let printed = print(forecast(sheet), &mut out);
             write_first(to, &out, printed);
@@ -278,8 +276,8 @@ fn main(rt: HostRuntime) -> io::Result<()> {
     let to = Out::new(rt.stdout());
     let mut kept = [0u8; KEPT];
     match read_all(&mut rt.stdin(), &mut kept) {
-        Input::Bytes(length) => tell(&to, &kept, length),
-        Input::Unreadable => {
+        Ok(length) => tell(&to, &kept, length),
+        Err(_) => {
             to.write(b"unreadable\n");
         }
     }

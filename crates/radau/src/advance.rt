@@ -2,13 +2,53 @@
 // host in `solve` to the next.
 ghost use Rattle.std.specs.Prelude.{◌≡◌};
 ghost use Rattle.state.specs.Memory.{memory, amounts, newton, given, factors, differences};
+ghost use Rattle.state.specs.Lent.{memory_of, SameWork};
 ghost use Rattle.solve_blocks.specs.Advance.{advance_outcome, advance_of};
 
 use opening::admission::admission;
 use radau_core::advance::advanced;
 use radau_core::pack::{doubles_of, run_at, words_of};
+use state::lent::Work;
 use state::run::Run;
-use state::talk::{Answer, Reply, Verdict};
+use state::talk::{Call, Refused, Reply};
+
+// Refused by the admission, or taken.
+fn taken(
+    run: Run,
+    reply: Reply,
+    y: &mut [f64],
+    f0: &[f64],
+    rtol: &[f64],
+    atol: &[f64],
+    mass: &[f64],
+    work: &mut Work<'_>,
+) -> Result<Call, Refused>
+    ensures same { SameWork work.new work.old }
+    ensures outcome { advance_outcome result (memory_of y.new f0.now rtol.now atol.now mass.now work.new)
+        ≡ (advance_of run reply (memory_of y.old f0.now rtol.now atol.now mass.now work.old)).core }
+{
+    if let Err(refusal) = admission(run, reply, y, f0, rtol, atol, mass, work) {
+        return Err(Refused { run, refusal });
+    }
+    let mut words = words_of(run);
+    let mut doubles = doubles_of(run);
+    let call = advanced(
+        &mut words,
+        &mut doubles,
+        reply,
+        y,
+        f0,
+        rtol,
+        atol,
+        mass,
+        work,
+    );
+    Ok(Call {
+        run: run_at(&words, &doubles),
+        request: call.request,
+        place: call.place,
+    })
+}
 
 // A reply of the host to the run that it answers.
 #[derive(Clone, Copy)]
@@ -18,8 +58,8 @@ pub struct Resumed {
 }
 
 impl Resumed {
-    // The next request, or the refusal; the new state of the run comes back inside the answer. A
-    // refusal writes nothing.
+    // The next request with the new state of the run, or the refusal with the run as it came. A refusal writes
+    // nothing.
     pub fn advance(
         self,
         y: &mut [f64],
@@ -44,7 +84,7 @@ impl Resumed {
         y_perturbed: &mut [f64],
         f_perturbed: &mut [f64],
         f_origin: &mut [f64],
-    ) -> Answer
+    ) -> Result<Call, Refused>
         ensures { advance_outcome result (memory
             (amounts y.new f0.now scal.new cont.new)
             (newton z1.new z2.new z3.new f1.new
@@ -60,13 +100,7 @@ impl Resumed {
             (factors e1.old e2r.old e2i.old ip1.old ip2.old)
             (differences y_perturbed.old f_perturbed.old f_origin.old))).core }
     {
-        let run = self.run;
-        let reply = self.reply;
-        match admission(
-            run,
-            reply,
-            y,
-            f0,
+        let mut work = Work {
             scal,
             cont,
             z1,
@@ -75,9 +109,6 @@ impl Resumed {
             f1,
             f2,
             f3,
-            rtol,
-            atol,
-            mass,
             jac,
             e1,
             e2r,
@@ -87,43 +118,7 @@ impl Resumed {
             y_perturbed,
             f_perturbed,
             f_origin,
-        ) {
-            Verdict::Refused(refusal) => {
-                return Answer::Refused(run, refusal);
-            }
-            Verdict::Passed => {}
-        }
-        let mut words = words_of(run);
-        let mut doubles = doubles_of(run);
-        let call = advanced(
-            &mut words,
-            &mut doubles,
-            reply,
-            y,
-            f0,
-            scal,
-            cont,
-            z1,
-            z2,
-            z3,
-            f1,
-            f2,
-            f3,
-            rtol,
-            atol,
-            mass,
-            jac,
-            e1,
-            e2r,
-            e2i,
-            ip1,
-            ip2,
-            y_perturbed,
-            f_perturbed,
-            f_origin,
-        );
-        let request = call.request;
-        let place = call.place;
-        Answer::Asked(run_at(&words, &doubles), request, place)
+        };
+        taken(self.run, self.reply, y, f0, rtol, atol, mass, &mut work)
     }
 }

@@ -8,24 +8,24 @@ use Prim.Native.Nat.{ℕ}
 use Rattle.words.proofs.Loops.{Any, begun}
 use Rattle.words.specs.Grid.{Square}
 use Rattle.state.specs.declared.run.Run.{Run}
-use Rattle.state.specs.declared.talk.Answer.TheVariants as answer
 use Rattle.state.specs.declared.talk.Reply.{Reply}
-use Rattle.state.specs.declared.talk.Verdict.TheVariants as verdict
 use Rattle.state.specs.Memory.{Memory, Factors}
 use Rattle.state.specs.MemorySetters.{set_factors}
-use Rattle.solve_blocks.specs.declared.step.Call.{Call}
+use Rattle.state.specs.declared.talk.Call.{Call}
 use Rattle.solve_blocks.specs.declared.step.Step.{Step}
 use Rattle.solve_blocks.specs.declared.step.Step.TheVariants as step
 use Rattle.solve_blocks.specs.Matrices.{tried, passes_of}
 use Rattle.solve_blocks.specs.Advance.{Stepped, stepped, replied_of, called, called_of, advance_outcome, advance_by}
 use Rattle.solve_blocks.proofs.PassLaws.{passes-stopped}
+use Rattle.std.specs.Prelude.{Ok}
+use Rattle.state.specs.Talk.{passed_all}
 
 module _ (r : Run) (p : Reply) (m : Memory) where
   pub advanced-by : (t : Stepped) (s : Step) (f : Factors) (c : Call) (w : Memory)
       → t ≡ (replied_of r.stage p r m).core
       → tried s f ≡ (passes_of t.step t.memory.given.mass t.memory.given.jac t.memory.factors).core
       → called c w ≡ (called_of s (set_factors f t.memory)).core
-      → advance_outcome (answer.Asked c.run c.request c.place) w ≡ (advance_by verdict.Passed r p m).core
+      → advance_outcome (Ok c) w ≡ (advance_by passed_all r p m).core
   unfolding advance_by
   advanced-by t s f c w et es ec = rw (← et, ← es, ← ec)
 
@@ -37,7 +37,7 @@ module _ (r : Run) (p : Reply) (m : Memory) where
   pub advanced-asked : (s : Step) (c : Call) (w : Memory)
       → stepped s w ≡ (replied_of r.stage p r m).core
       → s ≡ step.Asked c
-      → advance_outcome (answer.Asked c.run c.request c.place) w ≡ (advance_by verdict.Passed r p m).core
+      → advance_outcome (Ok c) w ≡ (advance_by passed_all r p m).core
   unfolding called_of
   advanced-asked s c w t a =
       advanced-by (stepped s w) (step.Asked c) w.factors c w t

@@ -6,10 +6,6 @@ use mathlib.Core.List.{List}
 use lib.Ieee.{Float}
 use lib.ListN.{length}
 use Rattle.words.specs.Loop.{pick}
-use Rattle.state.specs.declared.settings.Number.{Number}
-use Rattle.state.specs.declared.settings.Number.TheVariants as number
-use Rattle.state.specs.declared.settings.Whole.{Whole}
-use Rattle.state.specs.declared.settings.Whole.TheVariants as whole
 use Rattle.state.specs.declared.settings.Mass.{Mass}
 use Rattle.state.specs.declared.settings.Mass.TheVariants as mass
 use Rattle.state.specs.declared.settings.Source.{Source}
@@ -23,25 +19,26 @@ use Rattle.state.specs.Memory.{Memory}
 use Rattle.state.specs.Settings.{or_none}
 use Rattle.solve_blocks.specs.Needs.{Fit, StageFit, MemoryLong}
 use Rattle.solve_blocks.proofs.AdmittedLaws.{Admitted}
-use Rattle.radau_core.specs.Choices.{flag_of, number_of, whole_of, mass_of, source_of, rule_of, tolerances_of}
-use Rattle.radau_core.specs.Choices.{flag_word, number_tag, number_value, whole_tag, mass_word, source_word, rule_word}
+use Rattle.radau_core.specs.Choices.{flag_of, option_at, mass_of, source_of, rule_of, tolerances_of}
+use Rattle.radau_core.specs.Choices.{flag_word, option_tag, number_value, mass_word, source_word, rule_word}
 use Rattle.radau_core.specs.Choices.{tolerances_tag, rtol_value, atol_value}
 use Rattle.radau_core.specs.Places.{◌#◌, run_at, words_of, doubles_of, Sized}
 use Rattle.radau_core.proofs.PlaceLaws.{stage-back, singular-back, strides-back}
+use Rattle.std.specs.Prelude.{None, Some, Option}
 
 pub flag-held : (b : Bool) → flag_of (flag_word b) ≡ b
 flag-held true = refl
 flag-held false = refl
 
-number-back : (x : Number) → number_of (number_tag x) (number_value x) ≡ x
-unfolding number_of pick
-number-back number.Absent = refl
-number-back (number.Given x) = refl
+number-back : (x : Option Float) → option_at (option_tag x) (number_value x) ≡ x
+unfolding option_at pick
+number-back None = refl
+number-back (Some x) = refl
 
-pub whole_back : (x : Whole) → whole_of (whole_tag x) (or_none x) ≡ x
-unfolding whole_of pick or_none
-whole_back whole.Absent = refl
-whole_back (whole.Given k) = refl
+pub whole_back : (x : Option ℕ) → option_at (option_tag x) (or_none x) ≡ x
+unfolding option_at pick
+whole_back None = refl
+whole_back (Some k) = refl
 
 pub mass-back : (x : Mass) → mass_of (mass_word x) ≡ x
 unfolding mass_of pick

@@ -23,18 +23,18 @@ use Rattle.words.specs.Loop.{pick}
 use Rattle.state.specs.declared.run.Run.{Run}
 use Rattle.state.specs.declared.run.Stage.{Stage}
 use Rattle.state.specs.declared.run.Stage.TheVariants as stage
-use Rattle.state.specs.declared.run.Singular.{Singular}
-use Rattle.state.specs.declared.run.Singular.TheVariants as singular
-use Rattle.state.specs.declared.run.Strides.{Strides}
-use Rattle.state.specs.declared.run.Strides.TheVariants as strides
 use Rattle.state.specs.declared.run.Status.TheVariants as status
 use Rattle.state.specs.Numbers.{singular_kind, singular_column, smallest_stride, largest_stride}
 use Rattle.solve_blocks.specs.Matrices.{run_of}
 use Rattle.radau_core.specs.declared.step.Step.{Step}
 use Rattle.radau_core.specs.declared.step.Step.TheVariants.{Asked, Main, Matrices, Attempt}
 use Rattle.radau_core.specs.Choices.{flag_of, status_of, stage_of, stage_tag, stage_part}
-use Rattle.radau_core.specs.Choices.{singular_of, strides_of, strides_tag}
+use Rattle.radau_core.specs.Choices.{singular_of, strides_of, option_tag, option_at}
 use Rattle.radau_core.specs.Places.{Sized, step_at}
+use Rattle.std.specs.Prelude.{None, Some, Option}
+use Rattle.state.specs.declared.run.Singular.{Singular}
+use Rattle.state.specs.declared.run.Strides.{Strides}
+use Rattle.state.specs.declared.run.Singular.TheVariants.{Real, Complex}
 
 -- ---- an array is the list of its entries
 
@@ -82,16 +82,16 @@ stage-back (stage.Ended status.NeedLargerNMax) = refl
 stage-back (stage.Ended status.StepSizeTooSmall) = refl
 stage-back (stage.Ended status.SingularMatrix) = refl
 
-pub singular-back : (s : Singular) → singular_of (singular_kind s) (singular_column s) ≡ s
+pub singular-back : (s : Option Singular) → singular_of (singular_kind s) (singular_column s) ≡ s
 unfolding singular_of pick
-singular-back singular.None = refl
-singular-back (singular.Real k) = refl
-singular-back (singular.Complex k) = refl
+singular-back None = refl
+singular-back (Some (Real k)) = refl
+singular-back (Some (Complex k)) = refl
 
-pub strides-back : (s : Strides) → strides_of (strides_tag s) (smallest_stride s) (largest_stride s) ≡ s
-unfolding strides_of pick
-strides-back strides.None = refl
-strides-back (strides.Between smallest largest) = refl
+pub strides-back : (s : Option Strides) → strides_of (option_tag s) (smallest_stride s) (largest_stride s) ≡ s
+unfolding strides_of option_at pick
+strides-back None = refl
+strides-back (Some s) = refl
 
 pub flag-back : (b : Bool) → flag_of (bool_byte b) ≡ b
 flag-back true = refl

@@ -18,21 +18,16 @@ use lib.ListN.{get_or, set}
 use Rattle.words.specs.Words.{◌!◌}
 use Rattle.words.specs.Constants.{«0·0»}
 use Rattle.words.specs.Loop.{loop, pick}
-use Rattle.state.specs.declared.settings.Number.{Number}
-use Rattle.state.specs.declared.settings.Number.TheVariants as number
 use Rattle.state.specs.declared.run.Run.{Run}
 use Rattle.state.specs.declared.run.Stage.{Stage}
 use Rattle.state.specs.declared.run.Stage.TheVariants as stage
 use Rattle.state.specs.declared.run.Status.TheVariants as status
 use Rattle.state.specs.declared.run.Tolerances.TheVariants.{Scalars}
-use Rattle.state.specs.declared.talk.Answer.{Answer}
-use Rattle.state.specs.declared.talk.Answer.TheVariants as answer
 use Rattle.state.specs.declared.talk.Place.TheVariants.{Nowhere}
 use Rattle.state.specs.declared.talk.Reply.{Reply}
 use Rattle.state.specs.declared.talk.Reply.TheVariants as reply
 use Rattle.state.specs.declared.talk.Request.{Request}
 use Rattle.state.specs.declared.talk.Request.TheVariants as request
-use Rattle.state.specs.declared.talk.Verdict.TheVariants.{Passed}
 use Rattle.state.specs.Settings.{defaults_of}
 use Rattle.state.specs.Memory.{Memory, memory, amounts, newton, given, factors, differences}
 use Rattle.state.specs.Memory.{amounts_fit, newton_fit, given_fit, factors_fit, differences_fit}
@@ -46,9 +41,12 @@ use Rattle.solve_blocks.specs.Needs.{Fit, StageFit, MemoryLong}
 use Rattle.solve_blocks.specs.Setters.{in_counts, in_control, in_numbers, at_stage, counts, set_first, set_hold}
 use Rattle.solve_blocks.proofs.AdmittedLaws.{admitted}
 use Rattle.radau_core.specs.declared.step.Call.{Call}
+use Rattle.state.specs.declared.talk.Call as the_call
 use Rattle.radau_core.specs.Choices.{stage_of, status_of}
 use Rattle.radau_core.specs.Places.{◌#◌, Sized, run_at, words_of, doubles_of}
 use Rattle.radau_core.proofs.PackLaws.{run-held, admitted-at}
+use Rattle.std.specs.Prelude.{None, Some, Option, Ok, Err}
+use Rattle.state.specs.Talk.{Answer, passed_all, call}
 
 -- ---- a run of one amount, and its memory
 
@@ -99,19 +97,22 @@ Meets f =
     (w : List ℕ) (d : List Float) (p : Reply) (m : Memory) → Sized w d
     × ((Fit 16 (w # 16) (run_at w d) × StageFit (w # 16) (run_at w d)) × MemoryLong (w # 16) m)
     → let l = f w d p m in
-    advance_outcome (answer.Asked (run_at l.words l.doubles) l.call.request l.call.place) l.memory
-    ≡ (advance_by Passed (run_at w d) p m).core
+    advance_outcome (Ok (call (run_at l.words l.doubles) l.call.request l.call.place)) l.memory
+    ≡ (advance_by passed_all (run_at w d) p m).core
 
-passes : verdict_of (admission_rows (sample_at stage.FirstDerivative) reply.Filled sample_memory) ≡ Passed
+passes : verdict_of (admission_rows (sample_at stage.FirstDerivative) reply.Filled sample_memory) ≡ passed_all
 unfolding pick loop verdict_of amounts_fit newton_fit given_fit factors_fit differences_fit asking_at answers_report
     stray stray_at le of_bits
 passes = refl
 
 -- the first advance asks for a report
-first-asks : (advance_by Passed (sample_at stage.FirstDerivative) reply.Filled sample_memory).core.answer
-    ≡ answer.Asked (sample_at stage.FirstReport) (request.Report «0·0» «0·0» false) Nowhere
+first-asks : (advance_by passed_all (sample_at stage.FirstDerivative) reply.Filled sample_memory).core.answer
+    ≡ Ok (call (sample_at stage.FirstReport) (request.Report «0·0» «0·0» false) Nowhere)
 unfolding advance_by replied_of called_of passes_of pass_at loop pick
 first-asks = refl
+
+abbrev answered : the_call.Call → Answer
+answered c = Ok c
 
 -- what a program that meets the contract does with it
 module _ (f : Advances) (meets : Meets f) where
@@ -120,14 +121,14 @@ module _ (f : Advances) (meets : Meets f) where
       f (words_of (sample_at stage.FirstDerivative)) (doubles_of (sample_at stage.FirstDerivative)) reply.Filled
       sample_memory
 
-  asked : answer.Asked (run_at left.words left.doubles) left.call.request left.call.place
-      ≡ answer.Asked (sample_at stage.FirstReport) (request.Report «0·0» «0·0» false) Nowhere
+  asked : answered (call (run_at left.words left.doubles) left.call.request left.call.place)
+      ≡ answered (call (sample_at stage.FirstReport) (request.Report «0·0» «0·0» false) Nowhere)
   asked =
       let r = sample_at stage.FirstDerivative in
       ap (λ (o : AdvanceOutcome). o.answer)
       (meets (words_of r) (doubles_of r) reply.Filled sample_memory
       (admitted-at r refl refl (admitted r reply.Filled sample_memory passes)))
-      ∙ ap (λ (s : Run). (advance_by Passed s reply.Filled sample_memory).core.answer) (run-held r)
+      ∙ ap (λ (s : Run). (advance_by passed_all s reply.Filled sample_memory).core.answer) (run-held r)
       ∙ first-asks
 
 -- whether the run of an answer waits for its first derivative, and whether the answer is the end
@@ -147,8 +148,8 @@ waits_at stage.DerivativeAgain = false
 waits_at (stage.Ended s) = false
 
 abbrev waits : Answer → Bool
-waits (answer.Asked r q p) = waits_at r.stage
-waits (answer.Refused r x) = false
+waits (Ok c) = waits_at c.run.stage
+waits (Err e) = false
 
 abbrev is_end : Request → Bool
 is_end (request.Derivative x) = false
@@ -157,8 +158,8 @@ is_end (request.Report xold x offered) = false
 is_end (request.Ended s) = true
 
 abbrev ends : Answer → Bool
-ends (answer.Asked r q p) = is_end q
-ends (answer.Refused r x) = false
+ends (Ok c) = is_end c.request
+ends (Err e) = false
 
 -- leaves the arrays as they stood
 abbrev pub StandsStill : Advances → Type 0
@@ -224,9 +225,9 @@ not-other-step meets =
     let r = in_numbers (set_hold nan) (sample_at stage.Report) in
     true≢false (sym (ap (λ (l : List Float). is_above (l ! 3)) (meets r)))
 
-abbrev or_nan : Number → Float
-or_nan number.Absent = nan
-or_nan (number.Given x) = x
+abbrev or_nan : Option Float → Float
+or_nan None = nan
+or_nan (Some x) = x
 
 abbrev pub absent_nan : Run → List Float
 absent_nan r = set (doubles_of r) 13 (or_nan r.numbers.xout)

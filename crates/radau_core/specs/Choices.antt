@@ -1,11 +1,7 @@
 -- How a choice stands at its place as a number. Read, every number means something: 0 the one, any other the other.
-use Rattle.std.specs.Prelude.{ℕ, Bool, true, false, not, eqb, Float}
+use Rattle.std.specs.Prelude.{ℕ, Bool, true, false, not, eqb, Float, None, Some, Option}
 use Rattle.words.specs.Constants.{«0·0»}
 use Rattle.words.specs.Loop.{pick}
-use Rattle.state.specs.declared.settings.Number.{Number}
-use Rattle.state.specs.declared.settings.Number.TheVariants as number
-use Rattle.state.specs.declared.settings.Whole.{Whole}
-use Rattle.state.specs.declared.settings.Whole.TheVariants as whole
 use Rattle.state.specs.declared.settings.Mass.{Mass}
 use Rattle.state.specs.declared.settings.Mass.TheVariants as mass
 use Rattle.state.specs.declared.settings.Source.{Source}
@@ -14,24 +10,23 @@ use Rattle.state.specs.declared.settings.Rule.{Rule}
 use Rattle.state.specs.declared.settings.Rule.TheVariants as rule
 use Rattle.state.specs.declared.run.Tolerances.{Tolerances}
 use Rattle.state.specs.declared.run.Tolerances.TheVariants as tolerances
-use Rattle.state.specs.declared.run.Singular.{Singular}
-use Rattle.state.specs.declared.run.Singular.TheVariants as singular
-use Rattle.state.specs.declared.run.Strides.{Strides}
-use Rattle.state.specs.declared.run.Strides.TheVariants as strides
 use Rattle.state.specs.declared.run.Status.{Status}
 use Rattle.state.specs.declared.run.Status.TheVariants as status
 use Rattle.state.specs.declared.run.Stage.{Stage}
 use Rattle.state.specs.declared.run.Stage.TheVariants as stage
 use Rattle.state.specs.Numbers.{status_number}
+use Rattle.state.specs.declared.run.Singular.{Singular}
+use Rattle.state.specs.declared.run.Strides.{Strides}
+use Rattle.state.specs.Talk.{stride_pair}
+use Rattle.state.specs.declared.run.Singular.TheVariants.{Real, Complex}
+use Rattle.state.specs.Settings.{or_else}
 
 abbrev pub flag_of : ℕ → Bool
 flag_of word = not (eqb word 0)
 
-unfoldable pub number_of : ℕ → Float → Number
-number_of given x = pick (eqb given 0) number.Absent (number.Given x)
-
-unfoldable pub whole_of : ℕ → ℕ → Whole
-whole_of given k = pick (eqb given 0) whole.Absent (whole.Given k)
+-- what may be absent stands in two places, the first of them 0 where it is
+unfoldable pub option_at : {A : Type 0} → ℕ → A → Option A
+option_at given x = pick (eqb given 0) None (Some x)
 
 unfoldable pub mass_of : ℕ → Mass
 mass_of word = pick (eqb word 0) mass.Identity mass.Full
@@ -104,16 +99,16 @@ stage_part (stage.Ended s) = status_number s
 
 -- ---- the latest singular decomposition: of which matrix, and its column
 
-unfoldable pub singular_of : ℕ → ℕ → Singular
+unfoldable pub singular_of : ℕ → ℕ → Option Singular
 singular_of kind column =
-    pick (eqb kind 1) (singular.Real column)
-    (pick (eqb kind 2) (singular.Complex column)
-    singular.None)
+    pick (eqb kind 1) (Some (Real column))
+    (pick (eqb kind 2) (Some (Complex column))
+    None)
 
 -- ---- the strides: whether there are any, the smallest and the largest
 
-unfoldable pub strides_of : ℕ → Float → Float → Strides
-strides_of given smallest largest = pick (eqb given 0) strides.None (strides.Between smallest largest)
+unfoldable pub strides_of : ℕ → Float → Float → Option Strides
+strides_of given smallest largest = option_at given (stride_pair smallest largest)
 
 -- ---- written: the other is 1, and what is absent is 0
 
@@ -121,21 +116,12 @@ abbrev pub flag_word : Bool → ℕ
 flag_word false = 0
 flag_word true = 1
 
-abbrev pub number_tag : Number → ℕ
-number_tag number.Absent = 0
-number_tag (number.Given x) = 1
+abbrev pub option_tag : {A : Type 0} → Option A → ℕ
+option_tag None = 0
+option_tag (Some x) = 1
 
-abbrev pub number_value : Number → Float
-number_value number.Absent = «0·0»
-number_value (number.Given x) = x
-
-abbrev pub whole_tag : Whole → ℕ
-whole_tag whole.Absent = 0
-whole_tag (whole.Given k) = 1
-
-abbrev pub strides_tag : Strides → ℕ
-strides_tag strides.None = 0
-strides_tag (strides.Between smallest largest) = 1
+abbrev pub number_value : Option Float → Float
+number_value x = or_else x «0·0»
 
 abbrev pub mass_word : Mass → ℕ
 mass_word mass.Identity = 0

@@ -13,7 +13,7 @@ use Rattle.state.specs.declared.run.Stage.{Stage}
 use Rattle.state.specs.declared.run.Notes.{Notes}
 use Rattle.state.specs.Numbers.{singular_kind, singular_column, smallest_stride, largest_stride}
 use Rattle.state.specs.Settings.{or_none}
-use Rattle.solve_blocks.specs.declared.step.Call as the_call
+use Rattle.state.specs.declared.talk.Call as the_call
 use Rattle.solve_blocks.specs.declared.step.Step as the_step
 use Rattle.solve_blocks.specs.declared.step.Step.TheVariants as step
 use Rattle.solve_blocks.specs.declared.step.Round as the_round
@@ -27,10 +27,10 @@ use Rattle.radau_core.specs.declared.step.Round.{Round}
 use Rattle.radau_core.specs.declared.step.Round.TheVariants.{Newton, Estimate, Over}
 use Rattle.radau_core.specs.declared.step.Heard.{Heard}
 use Rattle.radau_core.specs.declared.step.Heard.TheVariants as held
-use Rattle.radau_core.specs.Choices.{flag_of, number_of, whole_of, mass_of, source_of, rule_of, tolerances_of, stage_of}
-use Rattle.radau_core.specs.Choices.{stage_tag, stage_part, flag_word, number_tag, number_value, whole_tag}
+use Rattle.radau_core.specs.Choices.{flag_of, option_at, mass_of, source_of, rule_of, tolerances_of, stage_of}
+use Rattle.radau_core.specs.Choices.{stage_tag, stage_part, flag_word, option_tag, number_value}
 use Rattle.radau_core.specs.Choices.{mass_word, source_word, rule_word, tolerances_tag, rtol_value, atol_value}
-use Rattle.radau_core.specs.Choices.{singular_of, strides_of, strides_tag}
+use Rattle.radau_core.specs.Choices.{singular_of, strides_of}
 
 infixl 90 ◌#◌
 abbrev pub ◌#◌ : List ℕ → ℕ → ℕ
@@ -75,7 +75,7 @@ numbers_at w d = record {
   theta = d ! 10;
   dynold = d ! 11;
   thqold = d ! 12;
-  xout = number_of (w # 15) (d ! 13);
+  xout = option_at (w # 15) (d ! 13);
 }
 
 abbrev pub shape_at : List ℕ → Shape
@@ -98,17 +98,17 @@ settings_at w d = record {
   safety_factor = d ! 22;
   scale_min = d ! 23;
   scale_max = d ! 24;
-  max_step = number_of (w # 28) (d ! 25);
-  min_step = number_of (w # 29) (d ! 26);
+  max_step = option_at (w # 28) (d ! 25);
+  min_step = option_at (w # 29) (d ! 26);
   newton_maxiter = w # 22;
-  newton_tol = number_of (w # 30) (d ! 27);
+  newton_tol = option_at (w # 30) (d ! 27);
   predictive = flag_of (w # 23);
-  nind1 = whole_of (w # 32) (w # 33);
-  nind2 = whole_of (w # 34) (w # 35);
-  nind3 = whole_of (w # 36) (w # 37);
+  nind1 = option_at (w # 32) (w # 33);
+  nind2 = option_at (w # 34) (w # 35);
+  nind3 = option_at (w # 36) (w # 37);
   mass = mass_of (w # 24);
   source = source_of (w # 25);
-  first_step = number_of (w # 31) (d ! 28);
+  first_step = option_at (w # 31) (d ! 28);
   dense_output = flag_of (w # 26);
   rule = rule_of (w # 27);
 }
@@ -174,7 +174,7 @@ words_of r =
     ∷ flag_word r.control.call_decomp
     ∷ r.control.singular_count
     ∷ r.control.newt_iter
-    ∷ number_tag r.numbers.xout
+    ∷ option_tag r.numbers.xout
     ∷ r.shape.n
     ∷ r.shape.nind1
     ∷ r.shape.nind2
@@ -187,20 +187,20 @@ words_of r =
     ∷ source_word r.settings.source
     ∷ flag_word r.settings.dense_output
     ∷ rule_word r.settings.rule
-    ∷ number_tag r.settings.max_step
-    ∷ number_tag r.settings.min_step
-    ∷ number_tag r.settings.newton_tol
-    ∷ number_tag r.settings.first_step
-    ∷ whole_tag r.settings.nind1
+    ∷ option_tag r.settings.max_step
+    ∷ option_tag r.settings.min_step
+    ∷ option_tag r.settings.newton_tol
+    ∷ option_tag r.settings.first_step
+    ∷ option_tag r.settings.nind1
     ∷ or_none r.settings.nind1
-    ∷ whole_tag r.settings.nind2
+    ∷ option_tag r.settings.nind2
     ∷ or_none r.settings.nind2
-    ∷ whole_tag r.settings.nind3
+    ∷ option_tag r.settings.nind3
     ∷ or_none r.settings.nind3
     ∷ flag_word r.control.made_here
     ∷ singular_kind r.notes.singular
     ∷ singular_column r.notes.singular
-    ∷ strides_tag r.notes.strides
+    ∷ option_tag r.notes.strides
     ∷ []
 
 abbrev pub doubles_of : Run → List Float

@@ -1,10 +1,10 @@
 // An advance: a reply takes the run from one call of the host in `solve` to the next.
-ghost use Rattle.std.specs.Prelude.{◌≡◌, ℕ, ◌*◌, List, length, Float};
+ghost use Rattle.std.specs.Prelude.{◌≡◌, ◌*◌, List, length, Float};
 ghost use Rattle.words.specs.Grid.{Square};
-ghost use Rattle.state.specs.declared.talk.Answer.TheVariants.{Asked};
-ghost use Rattle.state.specs.declared.talk.Verdict.TheVariants.{Passed};
+ghost use Rattle.state.specs.Talk.{passed_all};
 ghost use Rattle.state.specs.Memory.{Newton, Given, Factors, Differences, memory};
-ghost use Rattle.state.specs.Memory.{amounts, newton, given, factors, differences};
+ghost use Rattle.state.specs.Lent.{memory_of, newton_in, SameWork, SameLengths};
+ghost use Rattle.state.specs.Memory.{amounts, given};
 ghost use Rattle.solve_blocks.specs.Advance.{stepped, started_of, returned_of, conclude_of, replied_of};
 ghost use Rattle.solve_blocks.specs.Advance.{called, called_of, advance_outcome, advance_by};
 ghost use Rattle.solve_blocks.specs.Needs.{Fit, StepFit, RoundFit, HeardFit, MemoryLong, NewtonLong, StageFit};
@@ -22,6 +22,7 @@ use crate::scale::scaled;
 use crate::stage::{ended, status_at};
 use crate::step::{Call, Heard, Round, Step};
 use scalar::coefficients::C2;
+use state::lent::Work;
 use state::run::Stage;
 use state::talk::{Place, Reply};
 
@@ -81,51 +82,36 @@ fn conclude(
     doubles: &mut [f64; DOUBLES],
     verdict: Round,
     mass: &[f64],
-    e1: &[f64],
-    ip1: &[usize],
     f0: &[f64],
-    scal: &[f64],
     y: &mut [f64],
-    cont: &mut [f64],
-    z1: &[f64],
-    z2: &[f64],
-    z3: &[f64],
-    f1: &mut [f64],
-    f2: &mut [f64],
+    work: &mut Work<'_>,
 ) -> Step
     requires sized { Sized words.old doubles.old }
     requires round_fit { RoundFit 15 (length y.old) (round_at verdict (run_at words.old doubles.old))
         × Square (length y.old) mass.now
         × (length f0.now ≡ length y.old)
-        × (length scal.now ≡ length y.old)
-        × (length cont.old ≡ 4 * length y.old) }
-    requires z1_len { (length z1.now ≡ length y.old)
-        × (length z2.now ≡ length y.old)
-        × (length z3.now ≡ length y.old)
-        × (length f1.old ≡ length y.old)
-        × (length f2.old ≡ length y.old) }
+        × (length work.old.scal.now ≡ length y.old)
+        × (length work.old.cont.now ≡ 4 * length y.old) }
+    requires z1_len { (length work.old.z1.now ≡ length y.old)
+        × (length work.old.z2.now ≡ length y.old)
+        × (length work.old.z3.now ≡ length y.old)
+        × (length work.old.f1.now ≡ length y.old)
+        × (length work.old.f2.now ≡ length y.old) }
+    ensures same { SameWork work.new work.old }
+    ensures lengths { SameLengths work.new work.old }
     ensures sized_2 { Sized words.new doubles.new }
-    ensures d_after { (f3 rtol atol jac e2r e2i : List Float) (ip2 : List ℕ) (d : Differences)
-        → stepped (step_at result (run_at words.new doubles.new)) (memory
-        (amounts y.new f0.now scal.now cont.new)
-        (newton z1.now z2.now z3.now f1.new f2.new f3)
-        (given rtol atol mass.now jac)
-        (factors e1.now e2r e2i ip1.now ip2)
-        d)
-        ≡ (conclude_of (round_at verdict (run_at words.old doubles.old)) (memory
-        (amounts y.old f0.now scal.now cont.old)
-        (newton z1.now z2.now z3.now f1.old f2.old f3)
-        (given rtol atol mass.now jac)
-        (factors e1.now e2r e2i ip1.now ip2)
-        d)).core }
+    ensures d_after { (rtol atol : List Float)
+        → stepped (step_at result (run_at words.new doubles.new))
+        (memory_of y.new f0.now rtol atol mass.now work.new)
+        ≡ (conclude_of (round_at verdict (run_at words.old doubles.old))
+        (memory_of y.old f0.now rtol atol mass.now work.old)).core }
 {
     match verdict {
-        Round::Newton => again(words, doubles, y, z1, cont),
-        Round::Estimate => {
-            estimate(
-                words, doubles, mass, e1, ip1, f0, scal, y, cont, z1, z2, z3, f1, f2,
-            )
+        Round::Newton => {
+            let z1 = &mut *work.z1;
+            again(words, doubles, y, z1, work.cont)
         }
+        Round::Estimate => estimate(words, doubles, mass, f0, y, work),
         Round::Over(step) => step,
     }
 }
@@ -137,76 +123,51 @@ fn replied(
     reply: Reply,
     y: &mut [f64],
     f0: &[f64],
-    scal: &mut [f64],
-    cont: &mut [f64],
-    z1: &mut [f64],
-    z2: &mut [f64],
-    z3: &mut [f64],
-    f1: &mut [f64],
-    f2: &mut [f64],
-    f3: &mut [f64],
     rtol: &[f64],
     atol: &[f64],
     mass: &[f64],
-    jac: &mut [f64],
-    e1: &[f64],
-    e2r: &[f64],
-    e2i: &[f64],
-    ip1: &[usize],
-    ip2: &[usize],
-    y_perturbed: &mut [f64],
-    f_perturbed: &[f64],
-    f_origin: &[f64],
+    work: &mut Work<'_>,
 ) -> Step
     requires sized { Sized words.old doubles.old }
     requires fit { Fit 16 (shape_at words.old).n (run_at words.old doubles.old)
         × StageFit (shape_at words.old).n (run_at words.old doubles.old) }
-    requires memory_long { MemoryLong (shape_at words.old).n (memory
-        (amounts y.old f0.now scal.old cont.old)
-        (newton z1.old z2.old z3.old f1.old f2.old f3.old)
-        (given rtol.now atol.now mass.now jac.old)
-        (factors e1.now e2r.now e2i.now ip1.now ip2.now)
-        (differences y_perturbed.old f_perturbed.now f_origin.now)) }
+    requires memory_long { MemoryLong (shape_at words.old).n
+        (memory_of y.old f0.now rtol.now atol.now mass.now work.old) }
+    ensures same { SameWork work.new work.old }
+    ensures lengths { SameLengths work.new work.old }
     ensures sized_2 { Sized words.new doubles.new }
-    ensures f_origin_after { stepped (step_at result (run_at words.new doubles.new)) (memory
-        (amounts y.new f0.now scal.new cont.new)
-        (newton z1.new z2.new z3.new
-        f1.new f2.new f3.new)
-        (given rtol.now atol.now mass.now jac.new)
-        (factors e1.now e2r.now e2i.now ip1.now ip2.now)
-        (differences y_perturbed.new f_perturbed.now f_origin.now))
+    ensures f_origin_after { stepped (step_at result (run_at words.new doubles.new))
+        (memory_of y.new f0.now rtol.now atol.now mass.now work.new)
         ≡ (replied_of (run_at words.old doubles.old).stage reply
-        (run_at words.old doubles.old) (memory
-        (amounts y.old f0.now scal.old cont.old)
-        (newton z1.old z2.old z3.old
-        f1.old f2.old f3.old)
-        (given rtol.now atol.now mass.now jac.old)
-        (factors e1.now e2r.now e2i.now ip1.now ip2.now)
-        (differences y_perturbed.old f_perturbed.now f_origin.now))).core }
+        (run_at words.old doubles.old)
+        (memory_of y.old f0.now rtol.now atol.now mass.now work.old)).core }
 {
     let stage = words[STAGE];
     match stage {
         1 => {
             let heard = reported(words, doubles, Stage::FirstDerivativeAgain, reply);
-            started(words, doubles, heard, rtol, atol, y, scal)
+            started(words, doubles, heard, rtol, atol, y, work.scal)
         }
-        2 => started(words, doubles, Heard::Reported, rtol, atol, y, scal),
+        2 => started(words, doubles, Heard::Reported, rtol, atol, y, work.scal),
         3 => Step::Matrices,
         4 => {
             let c = words[PART];
+            let f_perturbed = &mut *work.f_perturbed;
+            let f_origin = &mut *work.f_origin;
             column(
                 words,
                 doubles,
                 c,
                 y,
-                y_perturbed,
+                work.y_perturbed,
                 f_perturbed,
                 f_origin,
-                jac,
+                work.jac,
             )
         }
         5 => {
             let x = doubles[X] + C2 * doubles[H];
+            let z2 = &mut *work.z2;
             Step::Asked(ask_stage(
                 words,
                 doubles,
@@ -215,11 +176,12 @@ fn replied(
                 Place::ContToZ2,
                 y,
                 z2,
-                cont,
+                work.cont,
             ))
         }
         6 => {
             let x = doubles[XPH];
+            let z3 = &mut *work.z3;
             Step::Asked(ask_stage(
                 words,
                 doubles,
@@ -228,22 +190,18 @@ fn replied(
                 Place::ContToZ3,
                 y,
                 z3,
-                cont,
+                work.cont,
             ))
         }
         7 => {
-            let verdict = round(
-                words, doubles, mass, scal, e1, e2r, e2i, ip1, ip2, z1, z2, z3, f1, f2, f3,
-            );
-            conclude(
-                words, doubles, verdict, mass, e1, ip1, f0, scal, y, cont, z1, z2, z3, f1, f2,
-            )
+            let verdict = round(words, doubles, mass, work);
+            conclude(words, doubles, verdict, mass, f0, y, work)
         }
-        8 => { refined(words, doubles, e1, ip1, scal, y, cont, z1, z2, z3, f1, f2) }
+        8 => refined(words, doubles, y, work),
         9 => {
             let n = words[N];
             let tolerances = tolerances_at(words, doubles);
-            scaled(n, tolerances, rtol, atol, y, scal);
+            scaled(n, tolerances, rtol, atol, y, work.scal);
             Step::Asked(ask_report(words, doubles))
         }
         10 => {
@@ -265,45 +223,46 @@ fn called(
     doubles: &mut [f64; DOUBLES],
     step: Step,
     y: &[f64],
-    scal: &mut [f64],
-    cont: &mut [f64],
-    z1: &mut [f64],
-    z2: &mut [f64],
-    z3: &mut [f64],
-    f1: &mut [f64],
-    f2: &mut [f64],
-    f3: &mut [f64],
-    y_perturbed: &mut [f64],
-    f_perturbed: &mut [f64],
-    f_origin: &mut [f64],
+    work: &mut Work<'_>,
 ) -> Call
     requires sized { Sized words.old doubles.old }
     requires step_fit { StepFit 2 (length y.now) (step_at step (run_at words.old doubles.old))
-        × (length scal.old ≡ length y.now)
-        × (length cont.old ≡ 4 * length y.now)
-        × NewtonLong (length y.now) (newton z1.old z2.old z3.old f1.old f2.old f3.old) }
-    requires y_perturbed_len { (length y_perturbed.old ≡ length y.now)
-        × (length f_perturbed.old ≡ length y.now)
-        × (length f_origin.old ≡ length y.now) }
+        × (length work.old.scal.now ≡ length y.now)
+        × (length work.old.cont.now ≡ 4 * length y.now)
+        × NewtonLong (length y.now) (newton_in work.old) }
+    requires y_perturbed_len { (length work.old.y_perturbed.now ≡ length y.now)
+        × (length work.old.f_perturbed.now ≡ length y.now)
+        × (length work.old.f_origin.now ≡ length y.now) }
+    ensures same { SameWork work.new work.old }
     ensures sized_2 { Sized words.new doubles.new }
-    ensures f_origin_after { (f0 : List Float) (g : Given) (f : Factors)
-        → called (call_at result (run_at words.new doubles.new)) (memory
-        (amounts y.now f0 scal.new cont.new)
-        (newton z1.new z2.new z3.new f1.new f2.new f3.new)
-        g f
-        (differences y_perturbed.new f_perturbed.new f_origin.new))
-        ≡ (called_of (step_at step (run_at words.old doubles.old)) (memory
-        (amounts y.now f0 scal.old cont.old)
-        (newton z1.old z2.old z3.old
-        f1.old f2.old f3.old)
-        g f
-        (differences y_perturbed.old f_perturbed.old f_origin.old))).core }
+    ensures f_origin_after { (f0 rtol atol mass : List Float)
+        → called (call_at result (run_at words.new doubles.new)) (memory_of y.now f0 rtol atol mass work.new)
+        ≡ (called_of (step_at step (run_at words.old doubles.old))
+        (memory_of y.now f0 rtol atol mass work.old)).core }
 {
     match step {
         Step::Asked(call) => call,
-        Step::Main => ask_jacobian(words, doubles, y, y_perturbed, f_perturbed, f_origin),
-        Step::Matrices => ask_jacobian(words, doubles, y, y_perturbed, f_perturbed, f_origin),
-        Step::Attempt => attempt(words, doubles, y, scal, cont, z1, z2, z3, f1, f2, f3),
+        Step::Main => {
+            ask_jacobian(
+                words,
+                doubles,
+                y,
+                work.y_perturbed,
+                work.f_perturbed,
+                work.f_origin,
+            )
+        }
+        Step::Matrices => {
+            ask_jacobian(
+                words,
+                doubles,
+                y,
+                work.y_perturbed,
+                work.f_perturbed,
+                work.f_origin,
+            )
+        }
+        Step::Attempt => { attempt(words, doubles, y, work) }
     }
 }
 
@@ -314,101 +273,33 @@ pub fn advanced(
     reply: Reply,
     y: &mut [f64],
     f0: &[f64],
-    scal: &mut [f64],
-    cont: &mut [f64],
-    z1: &mut [f64],
-    z2: &mut [f64],
-    z3: &mut [f64],
-    f1: &mut [f64],
-    f2: &mut [f64],
-    f3: &mut [f64],
     rtol: &[f64],
     atol: &[f64],
     mass: &[f64],
-    jac: &mut [f64],
-    e1: &mut [f64],
-    e2r: &mut [f64],
-    e2i: &mut [f64],
-    ip1: &mut [usize],
-    ip2: &mut [usize],
-    y_perturbed: &mut [f64],
-    f_perturbed: &mut [f64],
-    f_origin: &mut [f64],
+    work: &mut Work<'_>,
 ) -> Call
     requires sized { Sized words.old doubles.old }
     requires fit { Fit 16 (shape_at words.old).n (run_at words.old doubles.old)
         × StageFit (shape_at words.old).n (run_at words.old doubles.old) }
-    requires memory_long { MemoryLong (shape_at words.old).n (memory
-        (amounts y.old f0.now scal.old cont.old)
-        (newton z1.old z2.old z3.old f1.old f2.old f3.old)
-        (given rtol.now atol.now mass.now jac.old)
-        (factors e1.old e2r.old e2i.old ip1.old ip2.old)
-        (differences y_perturbed.old f_perturbed.old f_origin.old)) }
+    requires memory_long { MemoryLong (shape_at words.old).n
+        (memory_of y.old f0.now rtol.now atol.now mass.now work.old) }
+    ensures same { SameWork work.new work.old }
     ensures sized_2 { Sized words.new doubles.new }
     ensures f_origin_after { advance_outcome
-        (Asked (run_at words.new doubles.new) result.request result.place) (memory
-        (amounts y.new f0.now scal.new cont.new)
-        (newton z1.new z2.new z3.new
-        f1.new f2.new f3.new)
-        (given rtol.now atol.now mass.now jac.new)
-        (factors e1.new e2r.new e2i.new ip1.new ip2.new)
-        (differences y_perturbed.new f_perturbed.new f_origin.new))
-        ≡ (advance_by Passed (run_at words.old doubles.old) reply (memory
-        (amounts y.old f0.now scal.old cont.old)
-        (newton z1.old z2.old z3.old
-        f1.old f2.old f3.old)
-        (given rtol.now atol.now mass.now jac.old)
-        (factors e1.old e2r.old e2i.old ip1.old ip2.old)
-        (differences y_perturbed.old f_perturbed.old f_origin.old))).core }
+        (Ok (call_at result (run_at words.new doubles.new)))
+        (memory_of y.new f0.now rtol.now atol.now mass.now work.new)
+        ≡ (advance_by passed_all (run_at words.old doubles.old) reply
+        (memory_of y.old f0.now rtol.now atol.now mass.now work.old)).core }
 {
     let n = words[N];
-    let step = replied(
-        words,
-        doubles,
-        reply,
-        y,
-        f0,
-        scal,
-        cont,
-        z1,
-        z2,
-        z3,
-        f1,
-        f2,
-        f3,
-        rtol,
-        atol,
-        mass,
-        jac,
-        e1,
-        e2r,
-        e2i,
-        ip1,
-        ip2,
-        y_perturbed,
-        f_perturbed,
-        f_origin,
-    );
+    let step = replied(words, doubles, reply, y, f0, rtol, atol, mass, work);
     // Most replies lead straight to the next request.
     if let Step::Asked(call) = step {
         return call;
     }
-    let past = passes(words, doubles, n, step, mass, jac, e1, e2r, e2i, ip1, ip2);
-    called(
-        words,
-        doubles,
-        past,
-        y,
-        scal,
-        cont,
-        z1,
-        z2,
-        z3,
-        f1,
-        f2,
-        f3,
-        y_perturbed,
-        f_perturbed,
-        f_origin,
-    )
+    let jac = &mut *work.jac;
+    let past = passes(
+        words, doubles, n, step, mass, jac, work.e1, work.e2r, work.e2i, work.ip1, work.ip2,
+    );
+    called(words, doubles, past, y, work)
 }

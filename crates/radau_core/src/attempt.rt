@@ -1,7 +1,8 @@
 // An attempt begins (radau.rs:421-502).
-ghost use Rattle.std.specs.Prelude.{◌≡◌, ◌*◌, ◌≤◌, length};
+ghost use Rattle.std.specs.Prelude.{◌≡◌, ◌*◌, ◌≤◌, List, Float, length};
 ghost use Rattle.words.specs.Loop.{loop};
-ghost use Rattle.state.specs.Memory.{newton};
+ghost use Rattle.state.specs.Memory.{memory, amounts, newton, given};
+ghost use Rattle.state.specs.Lent.{memory_of, newton_in, factors_in, differences_in, SameWork, SameLengths};
 ghost use Rattle.solve_blocks.specs.Attempt.{stage_sum_at, staged, ask_stage_of, ask_first_of, guessed};
 ghost use Rattle.solve_blocks.specs.Attempt.{guess_at, guess_of, begun_as, started, began_of, attempt_of};
 ghost use Rattle.solve_blocks.specs.Needs.{Fit, NewtonLong};
@@ -20,6 +21,7 @@ use scalar::coefficients::{
     C1, C1M1, C2, C2M1, TI00, TI01, TI02, TI10, TI11, TI12, TI20, TI21, TI22,
 };
 use scalar::{abs, four_fifths, max};
+use state::lent::Work;
 use state::parts::zero;
 use state::run::{Stage, Status};
 use state::talk::{Place, Request};
@@ -193,34 +195,40 @@ fn began(
     words: &mut [usize; WORDS],
     doubles: &mut [f64; DOUBLES],
     y: &[f64],
-    scal: &mut [f64],
-    cont: &mut [f64],
-    z1: &mut [f64],
-    z2: &mut [f64],
-    z3: &mut [f64],
-    f1: &mut [f64],
-    f2: &mut [f64],
-    f3: &mut [f64],
+    work: &mut Work<'_>,
 ) -> Call
     requires sized { Sized words.old doubles.old }
     requires fit { Fit 1 (shape_at words.old).n (run_at words.old doubles.old) }
     requires y_len { (length y.now ≡ (shape_at words.old).n)
-        × (length scal.old ≡ (shape_at words.old).n)
-        × (length cont.old ≡ 4 * (shape_at words.old).n)
-        × NewtonLong (shape_at words.old).n (newton z1.old z2.old z3.old f1.old f2.old f3.old) }
+        × (length work.old.scal.now ≡ (shape_at words.old).n)
+        × (length work.old.cont.now ≡ 4 * (shape_at words.old).n)
+        × NewtonLong (shape_at words.old).n (newton_in work.old) }
+    ensures same { SameWork work.new work.old }
+    ensures lengths { SameLengths work.new work.old }
+    ensures kept { (f0 rtol atol mass : List Float)
+        → memory_of y.now f0 rtol atol mass work.new
+        ≡ memory (amounts y.now f0 work.new.scal.now work.new.cont.now)
+        (newton_in work.new)
+        (given rtol atol mass work.old.jac.now)
+        (factors_in work.old)
+        (differences_in work.old) }
     ensures sized_2 { Sized words.new doubles.new }
     ensures f3_after { begun_as (call_at result (run_at words.new doubles.new))
-        scal.new cont.new
-        (newton z1.new z2.new z3.new f1.new f2.new f3.new)
+        work.new.scal.now work.new.cont.now (newton_in work.new)
         ≡ began_of (run_at words.old doubles.old)
-        y.now scal.old cont.old
-        (newton z1.old z2.old z3.old
-        f1.old f2.old f3.old) }
+        y.now work.old.scal.now work.old.cont.now (newton_in work.old) }
 {
     let n = words[N];
     let first = words[FIRST] != 0;
     let shape = shape_at(words);
-    weighted(shape, doubles[HHFAC], scal);
+    weighted(shape, doubles[HHFAC], work.scal);
+    let cont = &mut *work.cont;
+    let z1 = &mut *work.z1;
+    let z2 = &mut *work.z2;
+    let z3 = &mut *work.z3;
+    let f1 = &mut *work.f1;
+    let f2 = &mut *work.f2;
+    let f3 = &mut *work.f3;
     guess(
         first,
         n,
@@ -242,29 +250,28 @@ pub fn attempt(
     words: &mut [usize; WORDS],
     doubles: &mut [f64; DOUBLES],
     y: &[f64],
-    scal: &mut [f64],
-    cont: &mut [f64],
-    z1: &mut [f64],
-    z2: &mut [f64],
-    z3: &mut [f64],
-    f1: &mut [f64],
-    f2: &mut [f64],
-    f3: &mut [f64],
+    work: &mut Work<'_>,
 ) -> Call
     requires sized { Sized words.old doubles.old }
     requires fit { Fit 2 (shape_at words.old).n (run_at words.old doubles.old) }
     requires y_len { (length y.now ≡ (shape_at words.old).n)
-        × (length scal.old ≡ (shape_at words.old).n)
-        × (length cont.old ≡ 4 * (shape_at words.old).n)
-        × NewtonLong (shape_at words.old).n (newton z1.old z2.old z3.old f1.old f2.old f3.old) }
+        × (length work.old.scal.now ≡ (shape_at words.old).n)
+        × (length work.old.cont.now ≡ 4 * (shape_at words.old).n)
+        × NewtonLong (shape_at words.old).n (newton_in work.old) }
+    ensures same { SameWork work.new work.old }
+    ensures lengths { SameLengths work.new work.old }
+    ensures kept { (f0 rtol atol mass : List Float)
+        → memory_of y.now f0 rtol atol mass work.new
+        ≡ memory (amounts y.now f0 work.new.scal.now work.new.cont.now)
+        (newton_in work.new)
+        (given rtol atol mass work.old.jac.now)
+        (factors_in work.old)
+        (differences_in work.old) }
     ensures sized_2 { Sized words.new doubles.new }
     ensures f3_after { begun_as (call_at result (run_at words.new doubles.new))
-        scal.new cont.new
-        (newton z1.new z2.new z3.new f1.new f2.new f3.new)
+        work.new.scal.now work.new.cont.now (newton_in work.new)
         ≡ (attempt_of (run_at words.old doubles.old)
-        y.now scal.old cont.old
-        (newton z1.old z2.old z3.old f1.old f2.old
-        f3.old)).core }
+        y.now work.old.scal.now work.old.cont.now (newton_in work.old)).core }
 {
     let most = words[MAX_STEPS];
     let total = words[TOTAL] + 1;
@@ -275,5 +282,5 @@ pub fn attempt(
     if 0.1 * abs(doubles[H]) <= abs(doubles[X]) * doubles[UROUND] {
         return ended(words, doubles, Status::StepSizeTooSmall);
     }
-    began(words, doubles, y, scal, cont, z1, z2, z3, f1, f2, f3)
+    began(words, doubles, y, work)
 }

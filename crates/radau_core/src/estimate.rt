@@ -130,7 +130,7 @@ pub fn solve_first(n: usize, e1: &[f64], ip1: &[usize], cont: &mut [f64])
     requires { n ≤ length cont.old }
     ensures { cont.new ≡ solved_first n e1.now ip1.now cont.old }
 {
-    lin_solve(n, e1, &mut cont[..n], ip1);
+    let _ = lin_solve(n, e1, &mut cont[..n], ip1);
 }
 
 fn error_sum(n: usize, scal: &[f64], cont: &[f64]) -> f64

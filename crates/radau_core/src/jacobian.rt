@@ -18,18 +18,6 @@ use state::run::Stage;
 use state::settings::Source;
 use state::talk::{Place, Request};
 
-// Copies one part into another of the same length.
-fn copy(from: &[f64], to: &mut [f64])
-    requires { length to.old ≡ length from.now }
-    ensures { to.new ≡ from.now }
-{
-    let mut i = 0;
-    while i < from.len() {
-        to[i] = from[i];
-        i += 1;
-    }
-}
-
 // A Jacobian is counted with its first request, and is one of the present point from there on.
 fn wanted(words: &mut [usize; WORDS], doubles: &mut [f64; DOUBLES])
     requires sized { Sized words.old doubles.old }
@@ -74,7 +62,7 @@ pub fn ask_jacobian(
             }
         }
         Source::Differences => {
-            copy(y, y_perturbed);
+            y_perturbed.copy_from_slice(y);
             zero(f_perturbed);
             zero(f_origin);
             at_stage(words, doubles, Stage::Column(0));

@@ -1,7 +1,8 @@
 // An attempt whose Newton iteration is over is judged by its error (radau.rs:622-712, 780-795).
 ghost use Rattle.std.specs.Prelude.{◌≡◌, ◌+◌, ◌*◌, ◌≤◌, ◌<◌, ◌^◌, List, length, Float};
 ghost use Rattle.words.specs.Grid.{Square};
-ghost use Rattle.state.specs.Memory.{newton};
+ghost use Rattle.state.specs.MemorySetters.{set_y_cont, set_f12};
+ghost use Rattle.state.specs.Lent.{memory_of, newton_in, SameWork, SameLengths};
 ghost use Rattle.solve_blocks.specs.Entries.{three};
 ghost use Rattle.solve_blocks.specs.Judge.{moved, moved_of, judged, judged_of};
 ghost use Rattle.solve_blocks.specs.Judge.{estimated, tested_of, estimate_of, refined_of};
@@ -17,6 +18,7 @@ use crate::places::{DOUBLES, FIRST, H, HNEW, MASS, N, ODE, REJECT, WORDS, X};
 use crate::stage::at_stage;
 use crate::step::{Call, Step};
 use scalar::coefficients::{C1, C1M1, C1MC2, C2, C2M1};
+use state::lent::Work;
 use state::run::Stage;
 use state::talk::{Place, Request};
 
@@ -144,42 +146,47 @@ pub fn estimate(
     words: &mut [usize; WORDS],
     doubles: &mut [f64; DOUBLES],
     mass: &[f64],
-    e1: &[f64],
-    ip1: &[usize],
     f0: &[f64],
-    scal: &[f64],
     y: &mut [f64],
-    cont: &mut [f64],
-    z1: &[f64],
-    z2: &[f64],
-    z3: &[f64],
-    f1: &mut [f64],
-    f2: &mut [f64],
+    work: &mut Work<'_>,
 ) -> Step
     requires sized { Sized words.old doubles.old }
     requires fit { Fit 2 (shape_at words.old).n (run_at words.old doubles.old)
         × Square (shape_at words.old).n mass.now
         × (length f0.now ≡ (shape_at words.old).n)
-        × (length scal.now ≡ (shape_at words.old).n)
+        × (length work.old.scal.now ≡ (shape_at words.old).n)
         × (length y.old ≡ (shape_at words.old).n)
-        × (length cont.old ≡ 4 * (shape_at words.old).n) }
-    requires z1_len { (length z1.now ≡ (shape_at words.old).n)
-        × (length z2.now ≡ (shape_at words.old).n)
-        × (length z3.now ≡ (shape_at words.old).n)
-        × (length f1.old ≡ (shape_at words.old).n)
-        × (length f2.old ≡ (shape_at words.old).n) }
+        × (length work.old.cont.now ≡ 4 * (shape_at words.old).n) }
+    requires z1_len { (length work.old.z1.now ≡ (shape_at words.old).n)
+        × (length work.old.z2.now ≡ (shape_at words.old).n)
+        × (length work.old.z3.now ≡ (shape_at words.old).n)
+        × (length work.old.f1.now ≡ (shape_at words.old).n)
+        × (length work.old.f2.now ≡ (shape_at words.old).n) }
+    ensures same { SameWork work.new work.old }
+    ensures lengths { SameLengths work.new work.old }
+    ensures kept { (rtol atol : List Float)
+        → memory_of y.new f0.now rtol atol mass.now work.new
+        ≡ set_f12 work.new.f1.now work.new.f2.now (set_y_cont y.new work.new.cont.now
+        (memory_of y.old f0.now rtol atol mass.now work.old)) }
     ensures sized_2 { Sized words.new doubles.new }
-    ensures f2_after { (f3 : List Float)
-        → estimated (step_at result (run_at words.new doubles.new))
-        y.new cont.new f1.new f2.new
+    ensures f2_after { estimated (step_at result (run_at words.new doubles.new))
+        y.new work.new.cont.now work.new.f1.now work.new.f2.now
         ≡ (estimate_of (run_at words.old doubles.old)
-        mass.now e1.now ip1.now f0.now
-        scal.now y.old cont.old
-        (newton z1.now z2.now z3.now f1.old f2.old f3)).core }
+        mass.now work.old.e1.now work.old.ip1.now f0.now
+        work.old.scal.now y.old work.old.cont.now (newton_in work.old)).core }
 {
     let mode = mass_mode(words[MASS]);
     let n = words[N];
     let h = doubles[H];
+    let e1 = &mut *work.e1;
+    let ip1 = &mut *work.ip1;
+    let scal = &mut *work.scal;
+    let cont = &mut *work.cont;
+    let z1 = &mut *work.z1;
+    let z2 = &mut *work.z2;
+    let z3 = &mut *work.z3;
+    let f1 = &mut *work.f1;
+    let f2 = &mut *work.f2;
     defect(n, h, z1, z2, z3, f1);
     error_sides(mode, n, mass, f0, f1, f2, cont);
     solve_first(n, e1, ip1, cont);
@@ -192,35 +199,39 @@ pub fn estimate(
 pub fn refined(
     words: &mut [usize; WORDS],
     doubles: &mut [f64; DOUBLES],
-    e1: &[f64],
-    ip1: &[usize],
-    scal: &[f64],
     y: &mut [f64],
-    cont: &mut [f64],
-    z1: &[f64],
-    z2: &[f64],
-    z3: &[f64],
-    f1: &[f64],
-    f2: &[f64],
+    work: &mut Work<'_>,
 ) -> Step
     requires sized { Sized words.old doubles.old }
     requires fit { Fit 1 (shape_at words.old).n (run_at words.old doubles.old)
-        × (length scal.now ≡ (shape_at words.old).n)
+        × (length work.old.scal.now ≡ (shape_at words.old).n)
         × (length y.old ≡ (shape_at words.old).n)
-        × (length cont.old ≡ 4 * (shape_at words.old).n) }
-    requires z1_len { (length z1.now ≡ (shape_at words.old).n)
-        × (length z2.now ≡ (shape_at words.old).n)
-        × (length z3.now ≡ (shape_at words.old).n)
-        × (length f1.now ≡ (shape_at words.old).n)
-        × (length f2.now ≡ (shape_at words.old).n) }
+        × (length work.old.cont.now ≡ 4 * (shape_at words.old).n) }
+    requires z1_len { (length work.old.z1.now ≡ (shape_at words.old).n)
+        × (length work.old.z2.now ≡ (shape_at words.old).n)
+        × (length work.old.z3.now ≡ (shape_at words.old).n)
+        × (length work.old.f1.now ≡ (shape_at words.old).n)
+        × (length work.old.f2.now ≡ (shape_at words.old).n) }
+    ensures same { SameWork work.new work.old }
+    ensures lengths { SameLengths work.new work.old }
+    ensures kept { (f0 rtol atol mass : List Float)
+        → memory_of y.new f0 rtol atol mass work.new
+        ≡ set_y_cont y.new work.new.cont.now (memory_of y.old f0 rtol atol mass work.old) }
     ensures sized_2 { Sized words.new doubles.new }
-    ensures cont_after { (f3 : List Float)
-        → judged (step_at result (run_at words.new doubles.new)) y.new cont.new
+    ensures cont_after { judged (step_at result (run_at words.new doubles.new)) y.new work.new.cont.now
         ≡ (refined_of (run_at words.old doubles.old)
-        e1.now ip1.now scal.now y.old cont.old
-        (newton z1.now z2.now z3.now f1.now f2.now f3)).core }
+        work.old.e1.now work.old.ip1.now work.old.scal.now y.old work.old.cont.now (newton_in work.old)).core }
 {
     let n = words[N];
+    let e1 = &mut *work.e1;
+    let ip1 = &mut *work.ip1;
+    let scal = &mut *work.scal;
+    let cont = &mut *work.cont;
+    let z1 = &mut *work.z1;
+    let z2 = &mut *work.z2;
+    let z3 = &mut *work.z3;
+    let f1 = &mut *work.f1;
+    let f2 = &mut *work.f2;
     sum(n, f1, f2, cont);
     solve_first(n, e1, ip1, cont);
     let err = error(n, scal, cont);

@@ -13,6 +13,7 @@ mod kept;
 mod matrices;
 mod newton;
 mod notes;
+pub mod optional;
 pub mod pack;
 mod passes;
 pub mod places;

@@ -214,8 +214,8 @@ pub fn solve_systems(
         (factors e1.now e2r.now e2i.now ip1.now ip2.now)
         (three z1.old z2.old z3.old) }
 {
-    lin_solve(n, e1, z1, ip1);
-    lin_solve_complex(n, e2r, e2i, z2, z3, ip2);
+    let _ = lin_solve(n, e1, z1, ip1);
+    let _ = lin_solve_complex(n, e2r, e2i, z2, z3, ip2);
 }
 
 fn norm_sum(n: usize, scal: &[f64], z1: &[f64], z2: &[f64], z3: &[f64]) -> f64

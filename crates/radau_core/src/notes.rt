@@ -2,31 +2,35 @@
 ghost use Rattle.std.specs.Prelude.{◌≡◌};
 ghost use Rattle.solve_blocks.specs.Setters.{in_notes, set_latest};
 ghost use Rattle.solve_blocks.specs.Judge.{with_stride, strode};
-ghost use Rattle.radau_core.specs.Choices.{singular_of, strides_tag};
+ghost use Rattle.radau_core.specs.Choices.{singular_of};
 ghost use Rattle.radau_core.specs.Places.{notes_at, run_at, Sized};
 
+use crate::optional::{option_at, option_tag};
 use crate::places::{COLUMN, DOUBLES, H, LARGEST, SINGULAR, SMALLEST, STRIDES, WORDS};
 use scalar::{abs, max, min};
 use state::numbers::{largest_stride, singular_column, singular_kind, smallest_stride};
 use state::run::{Notes, Singular, Strides};
 
-fn singular_at(kind: usize, column: usize) -> Singular
+fn singular_at(kind: usize, column: usize) -> Option<Singular>
     ensures { result ≡ singular_of kind column }
 {
     match kind {
-        1 => Singular::Real(column),
-        2 => Singular::Complex(column),
-        _ => Singular::None,
+        1 => Some(Singular::Real(column)),
+        2 => Some(Singular::Complex(column)),
+        _ => None,
     }
 }
 
-fn strides_at(words: &[usize; WORDS], doubles: &[f64; DOUBLES]) -> Strides
+fn strides_at(words: &[usize; WORDS], doubles: &[f64; DOUBLES]) -> Option<Strides>
     ensures { result ≡ (notes_at words.now doubles.now).strides }
 {
-    if words[STRIDES] == 0 {
-        return Strides::None;
-    }
-    Strides::Between(doubles[SMALLEST], doubles[LARGEST])
+    option_at(
+        words[STRIDES],
+        Strides {
+            smallest: doubles[SMALLEST],
+            largest: doubles[LARGEST],
+        },
+    )
 }
 
 pub fn notes_at(words: &[usize; WORDS], doubles: &[f64; DOUBLES]) -> Notes
@@ -39,7 +43,7 @@ pub fn notes_at(words: &[usize; WORDS], doubles: &[f64; DOUBLES]) -> Notes
 }
 
 // The latest singular decomposition is this one.
-pub fn noted(words: &mut [usize; WORDS], doubles: &mut [f64; DOUBLES], singular: Singular)
+pub fn noted(words: &mut [usize; WORDS], doubles: &mut [f64; DOUBLES], singular: Option<Singular>)
     requires { Sized words.old doubles.old }
     ensures sized { Sized words.new doubles.new }
     ensures doubles_after { run_at words.new doubles.new
@@ -49,29 +53,24 @@ pub fn noted(words: &mut [usize; WORDS], doubles: &mut [f64; DOUBLES], singular:
     words[COLUMN] = singular_column(singular);
 }
 
-pub fn strides_tag(strides: Strides) -> usize
-    ensures { result ≡ strides_tag strides }
-{
-    match strides {
-        Strides::None => 0,
-        Strides::Between(_, _) => 1,
-    }
-}
-
 // One stride more; a NaN is passed over.
-fn with_stride(stride: f64, strides: Strides) -> Strides
+fn with_stride(stride: f64, strides: Option<Strides>) -> Option<Strides>
     ensures { result ≡ with_stride stride strides }
 {
     match strides {
-        Strides::None => {
+        None => {
             if stride != stride {
-                return Strides::None;
+                return None;
             }
-            Strides::Between(stride, stride)
+            Some(Strides {
+                smallest: stride,
+                largest: stride,
+            })
         }
-        Strides::Between(smallest, largest) => {
-            Strides::Between(min(smallest, stride), max(largest, stride))
-        }
+        Some(before) => Some(Strides {
+            smallest: min(before.smallest, stride),
+            largest: max(before.largest, stride),
+        }),
     }
 }
 
@@ -83,7 +82,7 @@ pub fn strode(words: &mut [usize; WORDS], doubles: &mut [f64; DOUBLES])
         ≡ strode (run_at words.old doubles.old) }
 {
     let strides = with_stride(abs(doubles[H]), strides_at(words, doubles));
-    words[STRIDES] = strides_tag(strides);
+    words[STRIDES] = option_tag(strides);
     doubles[SMALLEST] = smallest_stride(strides);
     doubles[LARGEST] = largest_stride(strides);
 }

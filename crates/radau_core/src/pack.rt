@@ -1,13 +1,13 @@
 // A run put into its places, and read off them.
 ghost use Rattle.std.specs.Prelude.{◌≡◌};
-ghost use Rattle.state.specs.Settings.{or_none};
-ghost use Rattle.radau_core.specs.Choices.{flag_word, number_tag, number_value, whole_tag, mass_word, source_word};
-ghost use Rattle.radau_core.specs.Choices.{rule_word, tolerances_tag, rtol_value, atol_value, number_of, whole_of};
+ghost use Rattle.radau_core.specs.Choices.{flag_word, mass_word, source_word};
+ghost use Rattle.radau_core.specs.Choices.{rule_word, tolerances_tag, rtol_value, atol_value};
 ghost use Rattle.radau_core.specs.Places.{counts_at, control_at, numbers_at, fixed_at, settings_at, run_at};
 ghost use Rattle.radau_core.specs.Places.{words_of, doubles_of};
 
 use crate::kept::{mass_mode, rule_mode, shape_at, source_mode, tolerances_at};
-use crate::notes::{notes_at, strides_tag};
+use crate::notes::notes_at;
+use crate::optional::{option_at, option_tag};
 use crate::places::{
     ACCEPTED, CALL_DECOMP, CALL_JAC, DENSE_OUTPUT, DOUBLES, DYNOLD, ERR_ACC, FACCON, FIRST,
     GIVEN_FIRST_STEP, GIVEN_MAX_STEP, GIVEN_MIN_STEP, GIVEN_NEWTON_TOL, GIVEN_NIND1, GIVEN_NIND2,
@@ -20,7 +20,7 @@ use crate::places::{
 use crate::stage::{stage_at, stage_part, stage_tag};
 use state::numbers::{largest_stride, singular_column, singular_kind, smallest_stride};
 use state::run::{Control, Counts, Fixed, Numbers, Run, Tolerances};
-use state::settings::{Mass, Number, Rule, Settings, Source, Whole};
+use state::settings::{Mass, Rule, Settings, Source};
 
 fn flag_word(flag: bool) -> usize
     ensures { result ≡ flag_word flag }
@@ -29,42 +29,6 @@ fn flag_word(flag: bool) -> usize
         return 1;
     }
     0
-}
-
-fn number_tag(number: Number) -> usize
-    ensures { result ≡ number_tag number }
-{
-    match number {
-        Number::Absent => 0,
-        Number::Given(_) => 1,
-    }
-}
-
-fn number_value(number: Number) -> f64
-    ensures { result ≡ number_value number }
-{
-    match number {
-        Number::Absent => 0.0,
-        Number::Given(x) => x,
-    }
-}
-
-fn whole_tag(whole: Whole) -> usize
-    ensures { result ≡ whole_tag whole }
-{
-    match whole {
-        Whole::Absent => 0,
-        Whole::Given(_) => 1,
-    }
-}
-
-fn whole_word(whole: Whole) -> usize
-    ensures { result ≡ or_none whole }
-{
-    match whole {
-        Whole::Absent => 0,
-        Whole::Given(k) => k,
-    }
 }
 
 fn mass_word(mass: Mass) -> usize
@@ -161,7 +125,7 @@ pub fn words_of(run: Run) -> [usize; WORDS]
         flag_word(c.call_decomp),
         c.singular_count,
         c.newt_iter,
-        number_tag(xout),
+        option_tag(xout),
         run.shape.n,
         run.shape.nind1,
         run.shape.nind2,
@@ -174,20 +138,20 @@ pub fn words_of(run: Run) -> [usize; WORDS]
         source_word(source),
         flag_word(s.dense_output),
         rule_word(rule),
-        number_tag(max_step),
-        number_tag(min_step),
-        number_tag(newton_tol),
-        number_tag(first_step),
-        whole_tag(nind1),
-        whole_word(nind1),
-        whole_tag(nind2),
-        whole_word(nind2),
-        whole_tag(nind3),
-        whole_word(nind3),
+        option_tag(max_step),
+        option_tag(min_step),
+        option_tag(newton_tol),
+        option_tag(first_step),
+        option_tag(nind1),
+        nind1.unwrap_or(0),
+        option_tag(nind2),
+        nind2.unwrap_or(0),
+        option_tag(nind3),
+        nind3.unwrap_or(0),
         flag_word(c.made_here),
         singular_kind(singular),
         singular_column(singular),
-        strides_tag(strides),
+        option_tag(strides),
     ]
 }
 
@@ -220,7 +184,7 @@ pub fn doubles_of(run: Run) -> [f64; DOUBLES]
         v.theta,
         v.dynold,
         v.thqold,
-        number_value(xout),
+        xout.unwrap_or(0.0),
         f.newton_tol,
         f.xend,
         f.posneg,
@@ -232,31 +196,13 @@ pub fn doubles_of(run: Run) -> [f64; DOUBLES]
         s.safety_factor,
         s.scale_min,
         s.scale_max,
-        number_value(max_step),
-        number_value(min_step),
-        number_value(newton_tol),
-        number_value(first_step),
+        max_step.unwrap_or(0.0),
+        min_step.unwrap_or(0.0),
+        newton_tol.unwrap_or(0.0),
+        first_step.unwrap_or(0.0),
         smallest_stride(strides),
         largest_stride(strides),
     ]
-}
-
-fn number_at(given: usize, x: f64) -> Number
-    ensures { result ≡ number_of given x }
-{
-    if given == 0 {
-        return Number::Absent;
-    }
-    Number::Given(x)
-}
-
-fn whole_at(given: usize, k: usize) -> Whole
-    ensures { result ≡ whole_of given k }
-{
-    if given == 0 {
-        return Whole::Absent;
-    }
-    Whole::Given(k)
 }
 
 fn counts_at(words: &[usize; WORDS]) -> Counts
@@ -304,7 +250,7 @@ fn numbers_at(words: &[usize; WORDS], doubles: &[f64; DOUBLES]) -> Numbers
         theta: doubles[THETA],
         dynold: doubles[DYNOLD],
         thqold: doubles[THQOLD],
-        xout: number_at(words[MARKED], doubles[XOUT]),
+        xout: option_at(words[MARKED], doubles[XOUT]),
     }
 }
 
@@ -330,17 +276,17 @@ fn settings_at(words: &[usize; WORDS], doubles: &[f64; DOUBLES]) -> Settings
         safety_factor: doubles[SAFETY_FACTOR],
         scale_min: doubles[SCALE_MIN],
         scale_max: doubles[SCALE_MAX],
-        max_step: number_at(words[HAS_MAX_STEP], doubles[GIVEN_MAX_STEP]),
-        min_step: number_at(words[HAS_MIN_STEP], doubles[GIVEN_MIN_STEP]),
+        max_step: option_at(words[HAS_MAX_STEP], doubles[GIVEN_MAX_STEP]),
+        min_step: option_at(words[HAS_MIN_STEP], doubles[GIVEN_MIN_STEP]),
         newton_maxiter: words[NEWTON_MAXITER],
-        newton_tol: number_at(words[HAS_NEWTON_TOL], doubles[GIVEN_NEWTON_TOL]),
+        newton_tol: option_at(words[HAS_NEWTON_TOL], doubles[GIVEN_NEWTON_TOL]),
         predictive: words[PREDICTIVE] != 0,
-        nind1: whole_at(words[HAS_NIND1], words[GIVEN_NIND1]),
-        nind2: whole_at(words[HAS_NIND2], words[GIVEN_NIND2]),
-        nind3: whole_at(words[HAS_NIND3], words[GIVEN_NIND3]),
+        nind1: option_at(words[HAS_NIND1], words[GIVEN_NIND1]),
+        nind2: option_at(words[HAS_NIND2], words[GIVEN_NIND2]),
+        nind3: option_at(words[HAS_NIND3], words[GIVEN_NIND3]),
         mass: mass_mode(words[MASS]),
         source: source_mode(words[SOURCE]),
-        first_step: number_at(words[HAS_FIRST_STEP], doubles[GIVEN_FIRST_STEP]),
+        first_step: option_at(words[HAS_FIRST_STEP], doubles[GIVEN_FIRST_STEP]),
         dense_output: words[DENSE_OUTPUT] != 0,
         rule: rule_mode(words[RULE]),
     }

@@ -17,7 +17,7 @@ use crate::places::{
 };
 use crate::stage::ended;
 use crate::step::Step;
-use matrix::{Decomposed, lu_decomp, lu_decomp_complex};
+use matrix::{DecompositionError, lu_decomp, lu_decomp_complex};
 use state::run::{Singular, Status};
 use state::settings::Rule;
 
@@ -66,30 +66,32 @@ pub fn failed(words: &mut [usize; WORDS], doubles: &mut [f64; DOUBLES]) -> Step
     Step::Main
 }
 
-fn is_err(answer: Decomposed) -> bool
+fn is_err(answer: Result<(), DecompositionError>) -> bool
     ensures { result ≡ is_err answer }
 {
     match answer {
-        Decomposed::Done => false,
-        Decomposed::RefusedOrder => true,
-        Decomposed::RefusedLength => true,
-        Decomposed::Singular(_) => true,
+        Ok(()) => false,
+        Err(_) => true,
     }
 }
 
-fn column_of(answer: Decomposed) -> usize
+fn column_of(answer: Result<(), DecompositionError>) -> usize
     ensures { result ≡ column_of answer }
 {
     match answer {
-        Decomposed::Done => 0,
-        Decomposed::RefusedOrder => 0,
-        Decomposed::RefusedLength => 0,
-        Decomposed::Singular(k) => k,
+        Ok(()) => 0,
+        Err(DecompositionError::Order) => 0,
+        Err(DecompositionError::Length) => 0,
+        Err(DecompositionError::Singular(k)) => k,
     }
 }
 
 // A decomposition that failed is kept as the latest, and is a failure.
-fn stopping(words: &mut [usize; WORDS], doubles: &mut [f64; DOUBLES], singular: Singular) -> Step
+fn stopping(
+    words: &mut [usize; WORDS],
+    doubles: &mut [f64; DOUBLES],
+    singular: Option<Singular>,
+) -> Step
     requires sized { Sized words.old doubles.old }
     requires singular_count_bound { (run_at words.old doubles.old).control.singular_count ≤ 5 }
     ensures sized_2 { Sized words.new doubles.new }
@@ -132,7 +134,7 @@ fn complex_tried(
     let answer = lu_decomp_complex(n, e2r, e2i, ip2);
     counted(words, doubles);
     if is_err(answer) {
-        return stopping(words, doubles, Singular::Complex(column_of(answer)));
+        return stopping(words, doubles, Some(Singular::Complex(column_of(answer))));
     }
     Step::Attempt
 }
@@ -159,7 +161,7 @@ fn real_tried(
     let answer = lu_decomp(n, e1, ip1);
     counted(words, doubles);
     if is_err(answer) {
-        return stopping(words, doubles, Singular::Real(column_of(answer)));
+        return stopping(words, doubles, Some(Singular::Real(column_of(answer))));
     }
     complex_tried(words, doubles, e2r, e2i, ip2)
 }

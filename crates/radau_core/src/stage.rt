@@ -1,6 +1,5 @@
 // The stage of a run stands in two words: which it is, and the number that it holds.
 ghost use Rattle.std.specs.Prelude.{◌≡◌};
-ghost use Rattle.state.specs.Numbers.{status_number};
 ghost use Rattle.solve_blocks.specs.Setters.{at_stage};
 ghost use Rattle.solve_blocks.specs.Matrices.{ended_of};
 ghost use Rattle.radau_core.specs.Choices.{status_of, stage_tag, stage_part};
@@ -9,19 +8,8 @@ ghost use Rattle.radau_core.specs.Places.{stage_at, run_at, Sized, call_at};
 use crate::places::{DOUBLES, PART, STAGE, WORDS};
 use crate::step::Call;
 use state::run::{Stage, Status};
+use state::status_number;
 use state::talk::{Place, Request};
-
-fn status_word(status: Status) -> usize
-    ensures { result ≡ status_number status }
-{
-    match status {
-        Status::Success => 0,
-        Status::UserInterrupt => 1,
-        Status::NeedLargerNMax => 2,
-        Status::StepSizeTooSmall => 3,
-        Status::SingularMatrix => 5,
-    }
-}
 
 // The status with a number.
 pub fn status_at(word: usize) -> Status
@@ -72,7 +60,7 @@ pub fn stage_part(stage: Stage) -> usize
         Stage::Accepted => 0,
         Stage::Report => 0,
         Stage::DerivativeAgain => 0,
-        Stage::Ended(status) => status_word(status),
+        Stage::Ended(status) => status_number(status) as usize,
     }
 }
 

@@ -11,21 +11,19 @@ use Rattle.replay.proofs.found.Found.compared as compared
 use Rattle.replay.proofs.found.Found.double as double
 use Rattle.replay.proofs.found.Found.truth as truth
 use Rattle.replay.proofs.found.Found.held_against as held-against
+use Rattle.replay.proofs.found.Found.of_texts as of-texts
 use Rattle.replay.proofs.settings.word as word
 use Rattle.replay.proofs.settings.choice as choice
 use Rattle.replay.proofs.settings.number as number
 use Rattle.replay.proofs.settings.whole as whole
 use Rattle.replay.proofs.settings.tolerances_of as tolerances-of
 use Rattle.replay.proofs.settings.settings_of as settings-of
-use Rattle.replay.proofs.told.malformed as malformed
-use Rattle.replay.proofs.told.counted as counted
-use Rattle.replay.proofs.told.write_summary as write-summary
+use Rattle.replay.proofs.told.Teller.malformed as malformed
+use Rattle.replay.proofs.told.Teller.counted as counted
+use Rattle.replay.proofs.told.Teller.summary as summary
 use Rattle.replay.proofs.word.spelled as spelled
-use Rattle.replay.proofs.word.read_well as read-well
-use Rattle.replay.proofs.word.within as within
 use Rattle.replay.proofs.word.quarter as quarter
 use Rattle.replay.proofs.out.Out.write as write
-use Rattle.replay.proofs.out.Out.decimal as decimal
 use Rattle.replay.proofs.out.Out.hex as hex
 
 pub none-once : Settles none.Kinds.ps none.Kinds.r none.Reads.Asked none.Reads.Post
@@ -56,6 +54,9 @@ pub held-against-once
     : Settles held-against.Kinds.ps held-against.Kinds.r held-against.Reads.Asked held-against.Reads.Post
 held-against-once κs a = (tt, λ o p. one-result o.1)
 
+pub of-texts-once : Settles of-texts.Kinds.ps of-texts.Kinds.r of-texts.Reads.Asked of-texts.Reads.Post
+of-texts-once κs a = (tt, λ o p. one-result o.1)
+
 pub word-once : Settles word.Kinds.ps word.Kinds.r word.Reads.Asked word.Reads.Post
 word-once κs a = (tt, λ o p. one-result o.1)
 
@@ -81,27 +82,17 @@ malformed-once κs a = (tt, λ o p. one-result o.1)
 pub counted-once : Settles counted.Kinds.ps counted.Kinds.r counted.Reads.Asked counted.Reads.Post
 counted-once κs a = (tt, λ o p. one-result o.1)
 
-pub write-summary-once : Settles write-summary.Kinds.ps write-summary.Kinds.r
-    write-summary.Reads.Asked write-summary.Reads.Post
-write-summary-once κs a = (tt, λ o p. one-result o.1)
+pub summary-once : Settles summary.Kinds.ps summary.Kinds.r summary.Reads.Asked summary.Reads.Post
+summary-once κs a = (tt, λ o p. one-result o.1)
 
 pub spelled-once : Settles spelled.Kinds.ps spelled.Kinds.r spelled.Reads.Asked spelled.Reads.Post
 spelled-once κs a = (tt, λ o p. one-result o.1)
-
-pub read-well-once : Settles read-well.Kinds.ps read-well.Kinds.r read-well.Reads.Asked read-well.Reads.Post
-read-well-once κs a = (tt, λ o p. one-result o.1)
-
-pub within-once : Settles within.Kinds.ps within.Kinds.r within.Reads.Asked within.Reads.Post
-within-once κs a = (tt, λ o p. λ e f. one-result o.1 e.1 f.1)
 
 pub quarter-once : Settles quarter.Kinds.ps quarter.Kinds.r quarter.Reads.Asked quarter.Reads.Post
 quarter-once κs a = (tt, λ o p. λ e f. one-result o.1 e.1 f.1)
 
 pub write-once : Settles write.Kinds.ps write.Kinds.r write.Reads.Asked write.Reads.Post
 write-once κs a = (tt, λ o p. one-result o.1)
-
-pub decimal-once : Settles decimal.Kinds.ps decimal.Kinds.r decimal.Reads.Asked decimal.Reads.Post
-decimal-once κs a = (tt, λ o p. one-result o.1)
 
 pub hex-once : Settles hex.Kinds.ps hex.Kinds.r hex.Reads.Asked hex.Reads.Post
 hex-once κs a = (tt, λ o p. one-result o.1)

@@ -1,5 +1,4 @@
--- Laws of the settings that a case gives, of the memory that a program lends, and of words that are read.
-pub mod SettingsLaws
-pub mod MemoryLaws
+-- Laws of bytes held against others, and of words that are read.
+pub mod FoundLaws
 pub mod ReadLaws
 pub mod Determinism

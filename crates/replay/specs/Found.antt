@@ -1,34 +1,46 @@
 -- What comes of comparing one value more.
-use Rattle.std.specs.Prelude.{ℕ, ◌+◌, ◌%◌, ◌^◌, Bool, true, false, ◌==◌}
+use Rattle.std.specs.Prelude.{ℕ, ◌+◌, ◌%◌, ◌^◌, Bool, true, false, ◌==◌, List, [], ◌∷◌, length, Option, Some, None}
+use Rattle.std.specs.Prelude.{Result, Ok, Err}
+use Rattle.std.specs.Option.{option_or}
 use Rattle.words.specs.Loop.{pick}
+use Rattle.replay.specs.declared.found.Difference.{Difference}
 use Rattle.replay.specs.declared.found.Found.{Found}
-use Rattle.replay.specs.declared.word.Word.{Word}
-use Rattle.replay.specs.declared.word.Word.TheVariants.{Value, Wrong, End}
+use Rattle.replay.specs.declared.word.ReadError.{ReadError}
 
 abbrev pub one_more : ℕ → ℕ
 one_more k = (k + 1) % 2 ^ 64
 
-abbrev pub found : ℕ → ℕ → ℕ → ℕ → ℕ → Bool → Found
-found values differ place gave wanted malformed =
-    record { values = values; differ = differ; place = place; gave = gave; wanted = wanted; malformed = malformed }
+abbrev pub found : ℕ → Option Difference → Bool → Found
+found values first malformed = record { values = values; first = first; malformed = malformed }
+
+abbrev pub difference : ℕ → ℕ → ℕ → Difference
+difference place gave wanted = record { place = place; gave = gave; wanted = wanted }
 
 abbrev pub nothing_of : Found
-nothing_of = found 0 0 0 0 0 false
+nothing_of = found 0 None false
 
 -- the first that differs is kept
-unfoldable pub compared_of : Found → ℕ → ℕ → Found
+abbrev pub compared_of : Found → ℕ → ℕ → Found
 compared_of f gave wanted =
-    pick (gave == wanted) (found (one_more f.values) f.differ f.place f.gave f.wanted f.malformed)
-    (pick (f.differ == 0) (found (one_more f.values) (one_more f.differ) f.values gave wanted f.malformed)
-    (found (one_more f.values) (one_more f.differ) f.place f.gave f.wanted f.malformed))
+    found (one_more f.values)
+    (pick (gave == wanted) f.first (option_or f.first (Some (difference f.values gave wanted)))) f.malformed
 
 abbrev pub unread_value_of : Found → Found
-unread_value_of f = found f.values f.differ f.place f.gave f.wanted true
+unread_value_of f = found f.values f.first true
 
 abbrev pub number_of : Bool → ℕ
 number_of b = pick b 1 0
 
-unfoldable pub held_against_of : Found → ℕ → Word → Found
-held_against_of f gave (Value wanted) = compared_of f gave wanted
-held_against_of f gave Wrong = unread_value_of f
-held_against_of f gave End = unread_value_of f
+abbrev pub held_against_of : Found → ℕ → Result ℕ ReadError → Found
+held_against_of f gave (Ok wanted) = compared_of f gave wanted
+held_against_of f gave (Err e) = unread_value_of f
+
+-- bytes held against others, as far as both go, behind what was found before
+abbrev pub bytes_behind : Found → List ℕ → List ℕ → Found
+bytes_behind f [] wanted = f
+bytes_behind f (g ∷ gave) [] = f
+bytes_behind f (g ∷ gave) (w ∷ wanted) = bytes_behind (compared_of f g w) gave wanted
+
+-- the lengths are compared first
+abbrev pub of_texts : List ℕ → List ℕ → Found
+of_texts gave wanted = bytes_behind (compared_of nothing_of (length gave) (length wanted)) gave wanted

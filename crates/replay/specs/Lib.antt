@@ -5,3 +5,4 @@ pub mod Read
 pub mod Settings
 pub mod Found
 pub mod Count
+pub mod Memory

@@ -1,12 +1,8 @@
 -- The settings of a run, made of words. The word at place 3 has a bit for each choice.
-use Rattle.std.specs.Prelude.{ℕ, ◌/◌, ◌%◌, Bool, false, List, ◌==◌, slice_index}
+use Rattle.std.specs.Prelude.{ℕ, ◌/◌, ◌%◌, Bool, false, List, ◌==◌, slice_index, Float, Option, Some, None}
 use Rattle.words.specs.Words.{double}
 use Rattle.words.specs.Loop.{pick}
 use Rattle.state.specs.declared.settings.Settings.{Settings}
-use Rattle.state.specs.declared.settings.Number.{Number}
-use Rattle.state.specs.declared.settings.Number.TheVariants as number
-use Rattle.state.specs.declared.settings.Whole.{Whole}
-use Rattle.state.specs.declared.settings.Whole.TheVariants as whole
 use Rattle.state.specs.declared.settings.Mass.{Mass}
 use Rattle.state.specs.declared.settings.Mass.TheVariants.{Identity, Full}
 use Rattle.state.specs.declared.settings.Source.{Source}
@@ -23,22 +19,22 @@ word_at words place = slice_index words place
 unfoldable pub choice_of : List ℕ → ℕ → Bool
 choice_of words bit = pick (bit == 0) false (word_at words 3 / bit % 2 == 1)
 
-unfoldable pub number_of : List ℕ → ℕ → ℕ → Number
-number_of words bit place = pick (choice_of words bit) (number.Given (double (word_at words place))) number.Absent
+abbrev pub number_of : List ℕ → ℕ → ℕ → Option Float
+number_of words bit place = pick (choice_of words bit) (Some (double (word_at words place))) None
 
-unfoldable pub whole_of : List ℕ → ℕ → ℕ → Whole
-whole_of words bit place = pick (choice_of words bit) (whole.Given (word_at words place)) whole.Absent
+abbrev pub whole_of : List ℕ → ℕ → ℕ → Option ℕ
+whole_of words bit place = pick (choice_of words bit) (Some (word_at words place)) None
 
-unfoldable pub mass_of : List ℕ → Mass
+abbrev pub mass_of : List ℕ → Mass
 mass_of words = pick (choice_of words 512) Full Identity
 
-unfoldable pub source_of : List ℕ → Source
+abbrev pub source_of : List ℕ → Source
 source_of words = pick (choice_of words 1024) Host Differences
 
-unfoldable pub rule_of : List ℕ → Rule
+abbrev pub rule_of : List ℕ → Rule
 rule_of words = pick (choice_of words 2048) Book Rust
 
-unfoldable pub tolerances_of : List ℕ → Tolerances
+abbrev pub tolerances_of : List ℕ → Tolerances
 tolerances_of words =
     pick (choice_of words 4096) Lists (Scalars (double (word_at words 14)) (double (word_at words 15)))
 

@@ -1,36 +1,25 @@
 -- What the words of a case stand for.
-use Rattle.std.specs.Prelude.{ℕ, ◌+◌, ◌*◌, ◌/◌, ◌%◌, Bool, true, ◌&&◌, List, length, ◌==◌, nat_le, nat_lt, slice_index}
-use Rattle.words.specs.Loop.{pick, loop}
+use Rattle.std.specs.Prelude.{ℕ, ◌+◌, ◌*◌, ◌/◌, ◌%◌, Bool, List, [], ◌∷◌, length, ◌==◌, nat_lt, slice_range}
+use Rattle.std.specs.Prelude.{Option, Some, None, Result, Ok, Err, option_and_then}
+use Rattle.words.specs.Loop.{pick}
 use Rattle.bits.specs.Digit.{digit_of}
-use Rattle.replay.specs.declared.word.Word.{Word}
-use Rattle.replay.specs.declared.word.Word.TheVariants.{Value, Wrong}
-use Rattle.replay.specs.declared.word.Reading.{Reading}
-use Rattle.replay.specs.declared.word.Reading.TheVariants.{Good, Malformed}
+use Rattle.replay.specs.declared.word.ReadError.{ReadError}
+use Rattle.replay.specs.declared.word.ReadError.TheVariants.{Malformed}
 
--- the number that was spelled so far, and whether all bytes were digits
-pub record Spelling : Type 0 where
-  pub value : ℕ
-  pub good : Bool
+-- one digit more behind a number
+abbrev pub one_digit_more : ℕ → ℕ → ℕ
+one_digit_more value next = value % 0x1000_0000_0000_0000 * 16 + next % 16
 
-abbrev pub spelling : ℕ → Bool → Spelling
-spelling value good = record { value = value; good = good }
+-- the number that bytes spell behind the digits of another, if all of them are digits
+abbrev pub spelled_behind : ℕ → List ℕ → Option ℕ
+spelled_behind value [] = Some value
+spelled_behind value (byte ∷ bytes) =
+    option_and_then (λ next. spelled_behind (one_digit_more value next) bytes) (digit_of byte)
 
-unfoldable pub spelled_at : List ℕ → ℕ → Spelling → Spelling
-spelled_at text i s =
-    let next = digit_of (slice_index text i) in
-    spelling (s.value % 0x1000_0000_0000_0000 * 16 + next % 16) (s.good && nat_lt next 16)
-
-abbrev pub word_of : Spelling → Word
-word_of s = pick s.good (Value s.value) Wrong
-
-unfoldable pub spelled_of : List ℕ → ℕ → ℕ → Word
+unfoldable pub spelled_of : List ℕ → ℕ → ℕ → Option ℕ
 spelled_of text from end =
-    pick (nat_lt (length text) end) Wrong
-    (pick (nat_lt end from) Wrong (word_of (loop (spelled_at text) from end (spelling 0 true))))
-
--- as many as were asked for, or all that there are
-abbrev pub within_of : ℕ → ℕ → ℕ
-within_of count room = pick (nat_le count room) count room
+    pick (nat_lt (length text) end) None
+    (pick (nat_lt end from) None (spelled_behind 0 (slice_range text from end)))
 
 -- one of the four numbers of four digits that a word holds, the first being 0
 abbrev pub quarter_of : ℕ → ℕ → ℕ
@@ -39,5 +28,6 @@ quarter_of word place =
     (pick (place == 1) (word / 0x1_0000_0000 % 0x1_0000)
     (pick (place == 2) (word / 0x1_0000 % 0x1_0000) (word % 0x1_0000)))
 
-abbrev pub reading_of : Bool → Reading
-reading_of good = pick good Good Malformed
+-- what is answered for words: whether all are there
+abbrev pub reading_of : Bool → Result (Unit {0}) ReadError
+reading_of good = pick good (Ok tt) (Err Malformed)

@@ -7,11 +7,17 @@ use std::num::wrapping_add_u64;
 // More rows than a summary has.
 pub const ROWS: usize = 32;
 
+// How many cases of one row agree, and how many differ.
+#[derive(Clone, Copy)]
+pub struct Row {
+    pub agree: u64,
+    pub differ: u64,
+}
+
 // `seen` counts all cases, `malformed` those that could not be read, and `missed` these and those that differ.
 #[derive(Clone, Copy)]
 pub struct Counts {
-    pub agree: [u64; ROWS],
-    pub differ: [u64; ROWS],
+    pub rows: [Row; ROWS],
     pub malformed: u64,
     pub seen: u64,
     pub missed: u64,
@@ -22,8 +28,10 @@ impl Counts {
         ensures { result ≡ none_of }
     {
         Counts {
-            agree: [0; ROWS],
-            differ: [0; ROWS],
+            rows: [Row {
+                agree: 0,
+                differ: 0,
+            }; ROWS],
             malformed: 0,
             seen: 0,
             missed: 0,
@@ -31,24 +39,34 @@ impl Counts {
     }
 
     // One more case of a row. A row that is none makes the case malformed, here and below.
+    #[tactic(auto, unfolding(words::specs::Loop::pick))]
     pub fn agreed(mut self, row: usize) -> Counts
         ensures { result ≡ agreed_of self row }
     {
         if ROWS <= row {
             return self.unread();
         }
-        self.agree[row] = wrapping_add_u64(self.agree[row], 1);
+        let before = self.rows[row];
+        self.rows[row] = Row {
+            agree: wrapping_add_u64(before.agree, 1),
+            ..before
+        };
         self.seen = wrapping_add_u64(self.seen, 1);
         self
     }
 
+    #[tactic(auto, unfolding(words::specs::Loop::pick))]
     pub fn differed(mut self, row: usize) -> Counts
         ensures { result ≡ differed_of self row }
     {
         if ROWS <= row {
             return self.unread();
         }
-        self.differ[row] = wrapping_add_u64(self.differ[row], 1);
+        let before = self.rows[row];
+        self.rows[row] = Row {
+            differ: wrapping_add_u64(before.differ, 1),
+            ..before
+        };
         self.missed = wrapping_add_u64(self.missed, 1);
         self.seen = wrapping_add_u64(self.seen, 1);
         self

@@ -1,5 +1,5 @@
 // Standard input, or another reader, read until a block is full.
-ghost use Rattle.std.specs.Prelude.{take};
+ghost use Rattle.std.specs.Prelude.{◌≡◌, take, length, IfSome};
 ghost use Rattle.std.specs.Io.KnownBytes.{Consumes};
 ghost use Rattle.replay.specs.Input.{IsPrefixLen};
 
@@ -22,4 +22,19 @@ pub fn read_full<R: Read>(input: &mut R, block: &mut [u8]) -> usize
         done += count;
     }
     done
+}
+
+// Reads a text of so many bytes into the room; nothing where there is no room for it or the input has fewer.
+pub fn read_text<'a, R: Read>(input: &mut R, room: &'a mut [u8], count: usize) -> Option<&'a [u8]>
+    ensures long { IfSome result (λ text. length text.now ≡ count) }
+    ensures bytes { IfSome result (λ text. Consumes (R.remaining input.old) (R.remaining input.new) text.now) }
+{
+    if room.len() < count {
+        return None;
+    }
+    let text = &mut room[..count];
+    if read_full(input, text) < count {
+        return None;
+    }
+    Some(text)
 }

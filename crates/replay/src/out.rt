@@ -2,6 +2,7 @@
 ghost use Rattle.std.specs.Prelude.{◌≡◌};
 
 use std::cell::Cell;
+use std::fmt::Display;
 use std::io::{self, Print, Stdout};
 
 #[derive(Drop)]
@@ -31,24 +32,19 @@ impl Out {
         self.keep(self.to.write_all(bytes));
     }
 
-    pub fn decimal(&self, number: u64)
-        ensures { result ≡ tt }
-    {
-        self.keep(self.to.print(number));
+    pub(crate) fn print<D: Display + Drop>(&self, value: D) {
+        self.keep(self.to.print(value));
     }
 
     // In sixteen digits, with zeros in front.
     pub fn hex(&self, number: u64)
         ensures { result ≡ tt }
     {
-        self.keep(self.to.print(format_args!("{number:016x}")));
+        self.print(format_args!("{number:016x}"));
     }
 
     // The first error, if a write has failed.
     pub fn end(self) -> io::Result<()> {
-        match self.failed.take() {
-            Some(error) => Err(error),
-            None => Ok(()),
-        }
+        self.failed.take().map_or(Ok(()), Err)
     }
 }

@@ -1,11 +1,13 @@
 // The settings of a run, made of words that stand at the same places in every case of a run.
+#![tactic(auto, unfolding(words::specs::Loop::pick))]
+
 ghost use Rattle.std.specs.Prelude.{◌≡◌};
 ghost use Rattle.replay.specs.Settings.{word_at, choice_of, number_of, whole_of, mass_of};
 ghost use Rattle.replay.specs.Settings.{source_of, rule_of, tolerances_of, settings_of};
 
 use bits::double;
 use state::run::Tolerances;
-use state::settings::{Mass, Number, Rule, Settings, Source, Whole};
+use state::settings::{Mass, Rule, Settings, Source};
 
 // The words of n, x0 and xend, and those of the settings behind them.
 pub const N: usize = 0;
@@ -77,66 +79,28 @@ pub const LISTS: u64 = 4096;
 pub fn word(words: &[u64], place: usize) -> u64
     ensures { result ≡ word_at words.now place }
 {
-    if place < words.len() {
-        return words[place];
-    }
-    0
+    words.get(place).copied().unwrap_or(0)
 }
 
 // Whether a bit of the word of choices is set.
+#[tactic(auto, unfolding(words::specs::Loop::pick, crate::specs::Settings::choice_of))]
 pub fn choice(words: &[u64], bit: u64) -> bool
     ensures { result ≡ choice_of words.now bit }
 {
-    if bit == 0 {
-        return false;
-    }
-    word(words, CHOICES) / bit % 2 == 1
+    bit != 0 && word(words, CHOICES) / bit % 2 == 1
 }
 
 // The double at a place, if its bit is set.
-pub fn number(words: &[u64], bit: u64, place: usize) -> Number
+pub fn number(words: &[u64], bit: u64, place: usize) -> Option<f64>
     ensures { result ≡ number_of words.now bit place }
 {
-    if choice(words, bit) {
-        return Number::Given(double(word(words, place)));
-    }
-    Number::Absent
+    choice(words, bit).then_some(double(word(words, place)))
 }
 
-pub fn whole(words: &[u64], bit: u64, place: usize) -> Whole
+pub fn whole(words: &[u64], bit: u64, place: usize) -> Option<usize>
     ensures { result ≡ whole_of words.now bit place }
 {
-    if choice(words, bit) {
-        return Whole::Given(word(words, place) as usize);
-    }
-    Whole::Absent
-}
-
-fn mass(words: &[u64]) -> Mass
-    ensures { result ≡ mass_of words.now }
-{
-    if choice(words, MASS_FULL) {
-        return Mass::Full;
-    }
-    Mass::Identity
-}
-
-fn source(words: &[u64]) -> Source
-    ensures { result ≡ source_of words.now }
-{
-    if choice(words, HOST) {
-        return Source::Host;
-    }
-    Source::Differences
-}
-
-fn rule(words: &[u64]) -> Rule
-    ensures { result ≡ rule_of words.now }
-{
-    if choice(words, BOOK) {
-        return Rule::Book;
-    }
-    Rule::Rust
+    choice(words, bit).then_some(word(words, place) as usize)
 }
 
 pub fn tolerances_of(words: &[u64]) -> Tolerances
@@ -165,10 +129,22 @@ pub fn settings_of(words: &[u64]) -> Settings
         nind1: whole(words, NIND1_GIVEN, NIND1),
         nind2: whole(words, NIND2_GIVEN, NIND2),
         nind3: whole(words, NIND3_GIVEN, NIND3),
-        mass: mass(words),
-        source: source(words),
+        mass: if choice(words, MASS_FULL) {
+            Mass::Full
+        } else {
+            Mass::Identity
+        },
+        source: if choice(words, HOST) {
+            Source::Host
+        } else {
+            Source::Differences
+        },
         first_step: number(words, FIRST_STEP_GIVEN, FIRST_STEP),
         dense_output: choice(words, DENSE_OUTPUT),
-        rule: rule(words),
+        rule: if choice(words, BOOK) {
+            Rule::Book
+        } else {
+            Rule::Rust
+        },
     }
 }

@@ -3,7 +3,7 @@
 // them, says what they are.
 use bits::double;
 use replay::settings::{N, X0, XEND, choice, number, settings_of, tolerances_of, word};
-use replay::word::{Reading, quarter, read_block};
+use replay::word::{ReadError, quarter, read_block};
 use state::run::{
     Control, Counts, Fixed, Notes, Numbers, Run, Shape, Singular, Stage, Status, Strides,
 };
@@ -82,8 +82,7 @@ const MADE_HERE: u64 = 524_288;
 
 #[derive(Clone, Copy)]
 pub struct Case {
-    pub words: [u64; WORDS],
-    pub reading: Reading,
+    words: [u64; WORDS],
 }
 
 // By 01's numbers.
@@ -117,18 +116,15 @@ fn stage_of(number: u64, column: usize, status: Status) -> Stage {
 
 impl Case {
     pub fn row(self) -> usize {
-        let words = self.words;
-        quarter(words[OUTCOME], 0) as usize
+        quarter(self.words[OUTCOME], 0) as usize
     }
 
     pub fn wanted(self) -> u64 {
-        let words = self.words;
-        quarter(words[OUTCOME], 1)
+        quarter(self.words[OUTCOME], 1)
     }
 
     pub fn length(self, part: usize) -> usize {
-        let words = self.words;
-        quarter(word(&words, LENGTHS + part % 64 / 4), part % 4) as usize
+        quarter(word(&self.words, LENGTHS + part % 64 / 4), part % 4) as usize
     }
 
     // The first list of pivots (side 0) or the second (side 1).
@@ -233,23 +229,23 @@ impl Case {
     }
 
     // Any is fit: a column of n or more too.
-    fn singular(self) -> Singular {
+    fn singular(self) -> Option<Singular> {
         let words = self.words;
         let column = words[FLOATS] as usize;
-        let kind = words[FLOATS] % 3;
-        match kind {
-            0 => Singular::None,
-            1 => Singular::Real(column),
-            _ => Singular::Complex(column),
+        match words[FLOATS] % 3 {
+            0 => None,
+            1 => Some(Singular::Real(column)),
+            _ => Some(Singular::Complex(column)),
         }
     }
 
-    fn strides(self) -> Strides {
+    fn strides(self) -> Option<Strides> {
         let words = self.words;
-        if words[STRIDES] == 0 {
-            return Strides::None;
-        }
-        Strides::Between(double(words[SMALLEST]), double(words[LARGEST]))
+        let strides = Strides {
+            smallest: double(words[SMALLEST]),
+            largest: double(words[LARGEST]),
+        };
+        (words[STRIDES] != 0).then_some(strides)
     }
 
     pub fn run(self) -> Run {
@@ -271,8 +267,8 @@ impl Case {
 }
 
 // The next case of standard input.
-pub fn read_case<R: Read>(input: &mut R) -> Case {
-    let mut words = [0u64; WORDS];
-    let reading = read_block(input, &mut words, WORDS);
-    Case { words, reading }
+pub fn read_case<R: Read>(input: &mut R) -> Result<Case, ReadError> {
+    let mut words = [0; WORDS];
+    read_block(input, &mut words, WORDS)?;
+    Ok(Case { words })
 }

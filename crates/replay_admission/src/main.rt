@@ -7,32 +7,27 @@ mod call;
 mod case;
 
 use call::number_told;
-use case::{Case, read_case};
+use case::read_case;
 use replay::count::Counts;
 use replay::found::Found;
 use replay::out::Out;
-use replay::told::{counted, malformed, write_summary};
-use replay::word::Reading;
+use replay::told::Teller;
+use replay::word::ReadError;
 use std::io::{self, Read};
 
 // More cases than there are.
 const MOST_CASES: u64 = 20_000;
 
-// The counts after one case more.
-fn with_case(out: &Out, counts: Counts, names: &[u8], case: Case) -> Counts {
-    let found = Found::nothing().compared(number_told(case), case.wanted());
-    counted(out, counts, names, case.row(), found)
-}
-
-fn replayed<R: Read>(input: &mut R, out: &Out, names: &[u8]) -> Counts {
+fn replayed<R: Read>(input: &mut R, to: Teller<'_>) -> Counts {
     let mut counts = Counts::none();
     for _ in 0..MOST_CASES {
-        let case = read_case(input);
-        let reading = case.reading;
-        match reading {
-            Reading::End => return counts,
-            Reading::Malformed => return malformed(out, counts),
-            Reading::Good => counts = with_case(out, counts, names, case),
+        match read_case(input) {
+            Ok(case) => {
+                let found = Found::nothing().compared(number_told(case), case.wanted());
+                counts = to.counted(counts, case.row(), found);
+            }
+            Err(ReadError::Malformed) => return to.malformed(counts),
+            Err(ReadError::End) => return counts,
         }
     }
     counts
@@ -40,13 +35,42 @@ fn replayed<R: Read>(input: &mut R, out: &Out, names: &[u8]) -> Counts {
 
 // The names of the rows, in the order of tests/replays/replay_admission.py.
 fn main(rt: HostRuntime) -> io::Result<()> {
-    let names = b"n fit:\nn unfit:\nlengths unfit:\nsettings fit:\nsettings unfit:\n\
-        partition fit:\npartition unfit:\nattempts fit:\nattempts unfit:\n\
-        rounds fit:\nrounds unfit:\ncolumn fit:\ncolumn unfit:\nsingular count fit:\nsingular count unfit:\n\
-        pivots fit:\npivots unfit:\ncounts fit:\ncounts unfit:\nstrides fit:\nstrides unfit:\n\
-        two clauses:\n13 before 14:\n13 before 15:\nended 14:\nreplies admitted:\nreplies 15:\nuntested:\n";
+    let names = [
+        "n fit:",
+        "n unfit:",
+        "lengths unfit:",
+        "settings fit:",
+        "settings unfit:",
+        "partition fit:",
+        "partition unfit:",
+        "attempts fit:",
+        "attempts unfit:",
+        "rounds fit:",
+        "rounds unfit:",
+        "column fit:",
+        "column unfit:",
+        "singular count fit:",
+        "singular count unfit:",
+        "pivots fit:",
+        "pivots unfit:",
+        "counts fit:",
+        "counts unfit:",
+        "strides fit:",
+        "strides unfit:",
+        "two clauses:",
+        "13 before 14:",
+        "13 before 15:",
+        "ended 14:",
+        "replies admitted:",
+        "replies 15:",
+        "untested:",
+    ];
     let out = Out::new(rt.stdout());
     let mut input = rt.stdin();
-    write_summary(&out, replayed(&mut input, &out, names), names);
+    let to = Teller {
+        out: &out,
+        names: &names,
+    };
+    to.summary(replayed(&mut input, to));
     out.end()
 }

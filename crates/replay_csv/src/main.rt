@@ -3,10 +3,10 @@
 #![tactic(auto)]
 
 use bits::double;
-use csv_table::answers::Exported;
+use csv_table::answers::ExportError;
 use csv_table::table::{put_header, put_record};
 use replay::out::Out;
-use replay::word::{Reading, read_block, within};
+use replay::word::{ReadError, read_block};
 use std::io;
 
 // The words of a line: x and its amounts.
@@ -21,19 +21,13 @@ const ROOM: usize = 128;
 const MOST_POINTS: u64 = 10_000;
 
 // Writes the line that was put, or that it was refused.
-fn write_line(to: &Out, answer: Exported, line: &[u8; ROOM]) {
+fn write_line(to: &Out, answer: Result<usize, ExportError>, line: &[u8; ROOM]) {
     let bytes: &[u8] = line;
-    match answer {
-        Exported::Written(count) => {
-            to.write(&bytes[0..within(count, bytes.len())]);
-        }
-        Exported::RefusedOrder => {
-            to.write(b"refused 1\n");
-        }
-        Exported::RefusedRoom => {
-            to.write(b"refused 24\n");
-        }
-    }
+    to.write(match answer {
+        Ok(count) => &bytes[0..count.min(bytes.len())],
+        Err(ExportError::Order) => b"refused 1\n",
+        Err(ExportError::Room) => b"refused 24\n",
+    });
 }
 
 fn write_header(to: &Out) {
@@ -56,12 +50,12 @@ fn main(rt: HostRuntime) -> io::Result<()> {
     for _ in 0..MOST_POINTS {
         let mut words = [0u64; WORDS];
         match read_block(&mut input, &mut words, WORDS) {
-            Reading::Good => write_point(&to, &words),
-            Reading::Malformed => {
+            Ok(()) => write_point(&to, &words),
+            Err(ReadError::Malformed) => {
                 to.write(b"malformed\n");
                 return to.end();
             }
-            Reading::End => return to.end(),
+            Err(ReadError::End) => return to.end(),
         }
     }
     to.end()

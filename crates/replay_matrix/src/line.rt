@@ -1,14 +1,16 @@
 // The head of a case, a line of its own. The values after it are words, one to a line.
 // tests/replays/replay_matrix.py, which writes them, says how they are laid out.
+use crate::refusal::SINGULAR;
+use crate::routine::Routine;
 use replay::input::read_full;
-use replay::word::{Word, spelled};
+use replay::word::{ReadError, spelled};
 use std::io::Read;
 
-// The head of a case: which routine, what it is to answer, whether the matrix and the pivots are those that the case
-// before left, the order n, and how many entries of each part of the memory the routine is lent.
+// The head of a case: which routine, if its letter means one, what it is to answer, whether the matrix and the pivots
+// are those that the case before left, the order n, and how many entries of each part of the memory it is lent.
 #[derive(Clone, Copy)]
 pub struct Case {
-    pub letter: u8,
+    pub routine: Option<Routine>,
     pub wanted: u64,
     pub held: bool,
     pub n: usize,
@@ -19,11 +21,11 @@ pub struct Case {
     pub pivots: usize,
 }
 
-#[derive(Clone, Copy)]
-pub enum Head {
-    Good(Case),
-    Malformed,
-    End,
+impl Case {
+    // Whether the routine does its work, or as much of it as a singular matrix lets it do.
+    pub fn is_worked(self) -> bool {
+        (self.wanted == 0) | (self.wanted == SINGULAR)
+    }
 }
 
 fn is_framed(head: &[u8; 44]) -> bool {
@@ -32,49 +34,28 @@ fn is_framed(head: &[u8; 44]) -> bool {
     fields & counts & (head[43] == b'\n')
 }
 
-fn decode(head: &[u8; 44]) -> Head {
+fn decode(head: &[u8; 44]) -> Option<Case> {
     if !is_framed(head) {
-        return Head::Malformed;
+        return None;
     }
-    let Word::Value(wanted) = spelled(head, 2, 4) else {
-        return Head::Malformed;
-    };
-    let Word::Value(n) = spelled(head, 7, 23) else {
-        return Head::Malformed;
-    };
-    let Word::Value(matrix) = spelled(head, 24, 27) else {
-        return Head::Malformed;
-    };
-    let Word::Value(matrix_imaginary) = spelled(head, 28, 31) else {
-        return Head::Malformed;
-    };
-    let Word::Value(side) = spelled(head, 32, 35) else {
-        return Head::Malformed;
-    };
-    let Word::Value(side_imaginary) = spelled(head, 36, 39) else {
-        return Head::Malformed;
-    };
-    let Word::Value(pivots) = spelled(head, 40, 43) else {
-        return Head::Malformed;
-    };
-    Head::Good(Case {
-        letter: head[0],
-        wanted,
+    Some(Case {
+        routine: Routine::of_letter(head[0]),
+        wanted: spelled(head, 2, 4)?,
         held: head[5] == b'h',
-        n: n as usize,
-        matrix: matrix as usize,
-        matrix_imaginary: matrix_imaginary as usize,
-        side: side as usize,
-        side_imaginary: side_imaginary as usize,
-        pivots: pivots as usize,
+        n: spelled(head, 7, 23)? as usize,
+        matrix: spelled(head, 24, 27)? as usize,
+        matrix_imaginary: spelled(head, 28, 31)? as usize,
+        side: spelled(head, 32, 35)? as usize,
+        side_imaginary: spelled(head, 36, 39)? as usize,
+        pivots: spelled(head, 40, 43)? as usize,
     })
 }
 
 // The next line of standard input, which is to be the head of a case or not there.
-pub fn read_head<R: Read>(input: &mut R) -> Head {
+pub fn read_head<R: Read>(input: &mut R) -> Result<Case, ReadError> {
     let mut head = [0u8; 44];
     if read_full(input, &mut head) == 0 {
-        return Head::End;
+        return Err(ReadError::End);
     }
-    decode(&head)
+    decode(&head).ok_or(ReadError::Malformed)
 }

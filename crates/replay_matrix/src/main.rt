@@ -4,183 +4,127 @@
 #![tactic(auto)]
 
 mod call;
-mod kind;
 mod line;
 mod memory;
+mod refusal;
+mod routine;
 
-use call::{Answered, called};
-use kind::{ROWS, SINGULAR, is_decomposition, is_worked, row};
-use line::{Case, Head, read_head};
-use memory::{ROOM, fill, fill_pivots, keep, keep_pivots, meet, meet_pivots};
+use call::called;
+use line::{Case, read_head};
+use memory::{Lent, Memory, fill, meet};
+use refusal::{Refusal, SINGULAR};
 use replay::count::Counts;
 use replay::found::Found;
 use replay::out::Out;
-use replay::told::{counted, malformed, write_summary};
-use replay::word::{read_word, within};
+use replay::told::Teller;
+use replay::word::{ReadError, read_word};
+use routine::{REFUSALS, Routine};
 use std::io::{self, Read};
 
 // More cases than there are.
 const MOST_CASES: u64 = 20_000;
 
-// The matrix and the pivots that the case gives.
-fn given_factors<R: Read>(
-    input: &mut R,
-    case: Case,
-    ar: &mut [f64],
-    ai: &mut [f64],
-    ip: &mut [usize],
-) -> bool {
-    let entries = within(case.matrix, ar.len());
-    let imaginary = within(case.matrix_imaginary, ai.len());
-    let pivots = within(case.pivots, ip.len());
-    let first = fill(input, &mut ar[0..entries]);
-    let second = fill(input, &mut ai[0..imaginary]);
-    let third = fill_pivots(input, &mut ip[0..pivots]);
-    first & second & third
-}
-
-// The right side that the case gives.
-fn given_side<R: Read>(input: &mut R, case: Case, br: &mut [f64], bi: &mut [f64]) -> bool {
-    let side = within(case.side, br.len());
-    let imaginary = within(case.side_imaginary, bi.len());
-    let first = fill(input, &mut br[0..side]);
-    let second = fill(input, &mut bi[0..imaginary]);
-    first & second
-}
-
-// Holds all that a decomposition may write against the next lines.
-fn met_factors<R: Read>(
-    input: &mut R,
-    case: Case,
-    found: Found,
-    ar: &[f64],
-    ai: &[f64],
-    ip: &[usize],
-) -> Found {
-    let entries = within(case.matrix, ar.len());
-    let imaginary = within(case.matrix_imaginary, ai.len());
-    let pivots = within(case.pivots, ip.len());
-    let first = meet(input, &ar[0..entries], found);
-    let second = meet(input, &ai[0..imaginary], first);
-    meet_pivots(input, &ip[0..pivots], second)
-}
-
-// Holds all that another routine may write against the next lines.
-fn met_side<R: Read>(input: &mut R, case: Case, found: Found, br: &[f64], bi: &[f64]) -> Found {
-    let side = within(case.side, br.len());
-    let imaginary = within(case.side_imaginary, bi.len());
-    let first = meet(input, &br[0..side], found);
-    meet(input, &bi[0..imaginary], first)
+// Fills the memory as the case says: the matrix and the pivots where it gives them, and the right side.
+fn given<R: Read>(input: &mut R, case: Case, memory: &mut Memory) -> bool {
+    let Lent { ar, ai, br, bi, ip } = memory.lend(case);
+    let factors = case.held || fill(input, ar) & fill(input, ai) & fill(input, ip);
+    let side = fill(input, br) & fill(input, bi);
+    factors & side
 }
 
 // Holds the answer against the head, and with 17 the column against the next line.
-fn met_answer<R: Read>(input: &mut R, case: Case, told: Answered) -> Found {
-    let found = Found::nothing().compared(told.answer, case.wanted);
+fn met_answer<R: Read>(input: &mut R, case: Case, answer: Result<(), Refusal>) -> Found {
+    let found = met_number(case, answer);
     if case.wanted == SINGULAR {
-        return found.held_against(told.column, read_word(input, b'\n'));
+        let column = match answer {
+            Err(Refusal::Singular(column)) => column,
+            _ => 0,
+        };
+        return found.held_against(column as u64, read_word(input, b'\n'));
     }
     found
 }
 
-// A case in which the routine works: the lines after it tell what is then in the memory.
-fn worked<R: Read>(
-    input: &mut R,
-    case: Case,
-    ar: &mut [f64; ROOM],
-    ai: &mut [f64; ROOM],
-    br: &mut [f64; ROOM],
-    bi: &mut [f64; ROOM],
-    ip: &mut [usize; ROOM],
-) -> Found {
-    let told = called(case, ar, ai, br, bi, ip);
-    let found = met_answer(input, case, told);
-    if is_decomposition(case.letter) {
-        return met_factors(input, case, found, ar, ai, ip);
+// Document 01's number of the answer, and 0 where the routine did its work.
+fn met_number(case: Case, answer: Result<(), Refusal>) -> Found {
+    let number = match answer {
+        Ok(()) => 0,
+        Err(refusal) => refusal.number(),
+    };
+    Found::nothing().compared(number, case.wanted)
+}
+
+// A case in which the routine works: the lines after it tell all that it may have written.
+fn worked<R: Read>(input: &mut R, case: Case, routine: Routine, memory: &mut Memory) -> Found {
+    let answer = called(case, routine, memory);
+    let found = met_answer(input, case, answer);
+    let Lent { ar, ai, br, bi, ip } = memory.lend(case);
+    if routine.is_decomposition() {
+        let found = meet(input, ar, found);
+        let found = meet(input, ai, found);
+        return meet(input, ip, found);
     }
-    met_side(input, case, found, br, bi)
+    let found = meet(input, br, found);
+    meet(input, bi, found)
 }
 
 // A case that the routine refuses: nothing is written to the memory.
-fn refused(
-    case: Case,
-    ar: &mut [f64; ROOM],
-    ai: &mut [f64; ROOM],
-    br: &mut [f64; ROOM],
-    bi: &mut [f64; ROOM],
-    ip: &mut [usize; ROOM],
-) -> Found {
-    let ar_before = *ar;
-    let ai_before = *ai;
-    let br_before = *br;
-    let bi_before = *bi;
-    let ip_before = *ip;
-    let told = called(case, ar, ai, br, bi, ip);
-    let start = Found::nothing().compared(told.answer, case.wanted);
-    let first = keep(ar, &ar_before, start);
-    let second = keep(ai, &ai_before, first);
-    let third = keep(br, &br_before, second);
-    let fourth = keep(bi, &bi_before, third);
-    keep_pivots(ip, &ip_before, fourth)
+fn refused(case: Case, routine: Routine, memory: &mut Memory) -> Found {
+    let before = *memory;
+    let answer = called(case, routine, memory);
+    memory.kept(&before, met_number(case, answer))
 }
 
-// The counts after one case more.
+// The counts after one case more. A case whose letter means no routine is read like one of `lin_solve_complex`.
 fn judged<R: Read>(
     input: &mut R,
-    out: &Out,
+    to: Teller<'_>,
     counts: Counts,
-    names: &[u8],
     case: Case,
-    ar: &mut [f64; ROOM],
-    ai: &mut [f64; ROOM],
-    br: &mut [f64; ROOM],
-    bi: &mut [f64; ROOM],
-    ip: &mut [usize; ROOM],
+    memory: &mut Memory,
 ) -> Counts {
-    let mut good = true;
-    if !case.held {
-        good = given_factors(input, case, ar, ai, ip);
-    }
-    let side = given_side(input, case, br, bi);
-    let found = if is_worked(case.wanted) {
-        worked(input, case, ar, ai, br, bi, ip)
+    let good = given(input, case, memory);
+    let routine = case.routine.unwrap_or(Routine::LinSolveComplex);
+    let (row, found) = if case.is_worked() {
+        (routine.row(), worked(input, case, routine, memory))
     } else {
-        refused(case, ar, ai, br, bi, ip)
+        (REFUSALS, refused(case, routine, memory))
     };
-    let at = row(case.letter, case.wanted);
-    if good & side & (at < ROWS) {
-        return counted(out, counts, names, at, found);
+    if good & case.routine.is_some() {
+        return to.counted(counts, row, found);
     }
-    malformed(out, counts)
+    to.malformed(counts)
 }
 
-fn replayed<R: Read>(input: &mut R, out: &Out, names: &[u8]) -> Counts {
+fn replayed<R: Read>(input: &mut R, to: Teller<'_>) -> Counts {
     let mut counts = Counts::none();
-    let mut ar = [0.0; ROOM];
-    let mut ai = [0.0; ROOM];
-    let mut br = [0.0; ROOM];
-    let mut bi = [0.0; ROOM];
-    let mut ip = [0usize; ROOM];
+    let mut memory = Memory::empty();
     for _ in 0..MOST_CASES {
-        let head = read_head(input);
-        match head {
-            Head::End => return counts,
-            Head::Malformed => return malformed(out, counts),
-            Head::Good(case) => {
-                counts = judged(
-                    input, out, counts, names, case, &mut ar, &mut ai, &mut br, &mut bi, &mut ip,
-                );
-            }
+        match read_head(input) {
+            Ok(case) => counts = judged(input, to, counts, case, &mut memory),
+            Err(ReadError::Malformed) => return to.malformed(counts),
+            Err(ReadError::End) => return counts,
         }
     }
     counts
 }
 
-// The names of the rows, in the order of `row`.
 fn main(rt: HostRuntime) -> io::Result<()> {
-    let names =
-        b"lu_decomp\nlu_decomp_complex\nlin_solve\nlin_solve_complex\ninterpolate\nbounds\nrefusals\n";
+    let names = [
+        "lu_decomp",
+        "lu_decomp_complex",
+        "lin_solve",
+        "lin_solve_complex",
+        "interpolate",
+        "bounds",
+        "refusals",
+    ];
     let out = Out::new(rt.stdout());
     let mut input = rt.stdin();
-    write_summary(&out, replayed(&mut input, &out, names), names);
+    let to = Teller {
+        out: &out,
+        names: &names,
+    };
+    to.summary(replayed(&mut input, to));
     out.end()
 }

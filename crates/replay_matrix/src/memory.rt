@@ -1,71 +1,95 @@
 // The memory that the routines are lent: filled from the lines of standard input, and held
 // against them or against a copy.
-use bits::{double, pattern};
+use crate::line::Case;
 use replay::found::Found;
-use replay::word::{Word, read_word};
+use replay::memory::Entry;
+use replay::word::read_word;
 use std::io::Read;
 
 // The entries of each part of the memory: as many as the matrix of the first order that is refused has.
-pub const ROOM: usize = 1089;
+const ROOM: usize = 1089;
 
-// Fills the doubles with the next lines. False where one is no value; the others are read all the same.
-pub fn fill<R: Read>(input: &mut R, part: &mut [f64]) -> bool {
+// A matrix and a right side, each with its imaginary parts, and the pivots.
+#[derive(Clone, Copy)]
+pub struct Memory {
+    pub ar: [f64; ROOM],
+    pub ai: [f64; ROOM],
+    pub br: [f64; ROOM],
+    pub bi: [f64; ROOM],
+    pub ip: [usize; ROOM],
+}
+
+// As much of each as a case says.
+#[derive(Drop)]
+pub struct Lent<'a> {
+    pub ar: &'a mut [f64],
+    pub ai: &'a mut [f64],
+    pub br: &'a mut [f64],
+    pub bi: &'a mut [f64],
+    pub ip: &'a mut [usize],
+}
+
+fn cut<E>(entries: &mut [E; ROOM], length: usize) -> &mut [E] {
+    &mut entries[..length.min(ROOM)]
+}
+
+impl Memory {
+    pub fn empty() -> Memory {
+        Memory {
+            ar: [0.0; ROOM],
+            ai: [0.0; ROOM],
+            br: [0.0; ROOM],
+            bi: [0.0; ROOM],
+            ip: [0; ROOM],
+        }
+    }
+
+    pub fn lend(&mut self, case: Case) -> Lent<'_> {
+        Lent {
+            ar: cut(&mut self.ar, case.matrix),
+            ai: cut(&mut self.ai, case.matrix_imaginary),
+            br: cut(&mut self.br, case.side),
+            bi: cut(&mut self.bi, case.side_imaginary),
+            ip: cut(&mut self.ip, case.pivots),
+        }
+    }
+
+    // Holds all of it against a copy.
+    pub fn kept(&self, before: &Memory, found: Found) -> Found {
+        let found = kept(&self.ar, &before.ar, found);
+        let found = kept(&self.ai, &before.ai, found);
+        let found = kept(&self.br, &before.br, found);
+        let found = kept(&self.bi, &before.bi, found);
+        kept(&self.ip, &before.ip, found)
+    }
+}
+
+// Fills the part with the next lines. False where one is no value; the others are read all the same.
+pub fn fill<R: Read, E: Entry>(input: &mut R, part: &mut [E]) -> bool {
     let mut good = true;
-    for i in 0..part.len() {
-        let next = read_word(input, b'\n');
-        match next {
-            Word::Value(x) => part[i] = double(x),
-            _ => good = false,
+    for entry in part {
+        match read_word(input, b'\n') {
+            Ok(word) => *entry = E::from_word(word),
+            Err(_) => good = false,
         }
     }
     good
 }
 
-// The same for pivots.
-pub fn fill_pivots<R: Read>(input: &mut R, part: &mut [usize]) -> bool {
-    let mut good = true;
-    for i in 0..part.len() {
-        let next = read_word(input, b'\n');
-        match next {
-            Word::Value(x) => part[i] = x as usize,
-            _ => good = false,
-        }
-    }
-    good
-}
-
-// Holds the doubles against the next lines.
-pub fn meet<R: Read>(input: &mut R, part: &[f64], found: Found) -> Found {
+// Holds the part against the next lines.
+pub fn meet<R: Read, E: Entry>(input: &mut R, part: &[E], found: Found) -> Found {
     let mut now = found;
-    for i in 0..part.len() {
-        now = now.held_against(pattern(part[i]), read_word(input, b'\n'));
+    for entry in part {
+        now = now.held_against(entry.to_word(), read_word(input, b'\n'));
     }
     now
 }
 
-// The same for pivots.
-pub fn meet_pivots<R: Read>(input: &mut R, part: &[usize], found: Found) -> Found {
+// Holds the part against a copy.
+fn kept<E: Entry>(part: &[E; ROOM], before: &[E; ROOM], found: Found) -> Found {
     let mut now = found;
-    for i in 0..part.len() {
-        now = now.held_against(part[i] as u64, read_word(input, b'\n'));
-    }
-    now
-}
-
-// Holds the doubles against a copy.
-pub fn keep(part: &[f64; ROOM], copy: &[f64; ROOM], found: Found) -> Found {
-    let mut now = found;
-    for i in 0..ROOM {
-        now = now.compared(pattern(part[i]), pattern(copy[i]));
-    }
-    now
-}
-
-// The same for pivots.
-pub fn keep_pivots(part: &[usize; ROOM], copy: &[usize; ROOM], found: Found) -> Found {
-    let mut now = found;
-    for i in 0..ROOM {
-        now = now.compared(part[i] as u64, copy[i] as u64);
+    for (entry, entry_before) in part.iter().zip(before) {
+        now = now.compared(entry.to_word(), entry_before.to_word());
     }
     now
 }

@@ -4,6 +4,7 @@ use crate::case::{
     WANTED_NIND1, WANTED_NIND2, WANTED_NIND3, WANTED_ODE, WANTED_POSNEG, WANTED_RTOL,
 };
 use replay::found::Found;
+use replay::memory::Entry;
 use replay::settings::{
     BOOK, DENSE_OUTPUT, FIRST_STEP, FIRST_STEP_GIVEN, HOST, LISTS, MASS_FULL, MAX_STEP,
     MAX_STEP_GIVEN, MAX_STEPS, MIN_STEP, MIN_STEP_GIVEN, N, NEWTON_MAXITER, NEWTON_TOL,
@@ -13,8 +14,8 @@ use replay::settings::{
 use replay::word::quarter;
 use state::refusal_number;
 use state::run::{Control, Counts, Fixed, Numbers, Run, Shape, Stage, Tolerances};
-use state::settings::{Mass, Number, Rule, Settings, Source, Whole};
-use state::talk::{Opened, Place, Refusal, Request, Value};
+use state::settings::{Mass, Rule, Settings, Source};
+use state::talk::{Call, Place, Refusal, Request, Value};
 
 const ONE: u64 = 0x3ff0_0000_0000_0000;
 
@@ -40,122 +41,80 @@ fn float(value: Value) -> u64 {
 
 fn place(value: Value) -> u64 {
     match value {
-        Value::Amount(i) => i as u64,
-        Value::MassEntry(i) => i as u64,
-        Value::Rtol(i) => i as u64,
-        Value::Atol(i) => i as u64,
+        Value::Amount(i) | Value::MassEntry(i) | Value::Rtol(i) | Value::Atol(i) => i as u64,
         _ => 0,
     }
 }
 
-// The float that a refusal tells, or 0.
-fn float_told(refusal: Refusal) -> u64 {
+// The float that a refusal tells, and its place in a list, or 0.
+fn told(refusal: Refusal) -> (u64, u64) {
     match refusal {
-        Refusal::NotFinite(value) => float(value),
-        Refusal::Tolerance(value) => float(value),
-        Refusal::MaxStep => 11,
-        Refusal::MinStep => 12,
-        _ => 0,
-    }
-}
-
-fn place_told(refusal: Refusal) -> u64 {
-    match refusal {
-        Refusal::NotFinite(value) => place(value),
-        Refusal::Tolerance(value) => place(value),
-        _ => 0,
+        Refusal::NotFinite(value) | Refusal::Tolerance(value) => (float(value), place(value)),
+        Refusal::MaxStep => (float(Value::MaxStep), 0),
+        Refusal::MinStep => (float(Value::MinStep), 0),
+        _ => (0, 0),
     }
 }
 
 fn met_refusal(found: Found, case: Case, refusal: Refusal) -> Found {
-    let words = case.words;
+    let outcome = case.words[OUTCOME];
+    let (float, place) = told(refusal);
     found
-        .compared(refusal_number(refusal), quarter(words[OUTCOME], 0))
-        .compared(float_told(refusal), quarter(words[OUTCOME], 1))
-        .compared(place_told(refusal), quarter(words[OUTCOME], 2))
+        .compared(refusal_number(refusal), quarter(outcome, 0))
+        .compared(float, quarter(outcome, 1))
+        .compared(place, quarter(outcome, 2))
 }
 
-fn met_number(found: Found, gave: Number, given: bool, wanted: u64) -> Found {
+// What may be absent: whether it is given, and then the value.
+fn met_given<E: Entry>(found: Found, gave: Option<E>, given: bool, wanted: u64) -> Found {
     match gave {
-        Number::Absent => found.truth(false, given),
-        Number::Given(x) => found.truth(true, given).double(x, wanted),
-    }
-}
-
-fn met_whole(found: Found, gave: Whole, given: bool, wanted: u64) -> Found {
-    match gave {
-        Whole::Absent => found.truth(false, given),
-        Whole::Given(k) => found.truth(true, given).compared(k as u64, wanted),
-    }
-}
-
-fn is_full(mass: Mass) -> bool {
-    match mass {
-        Mass::Full => true,
-        Mass::Identity => false,
-    }
-}
-
-fn is_host(source: Source) -> bool {
-    match source {
-        Source::Host => true,
-        Source::Differences => false,
-    }
-}
-
-fn is_book(rule: Rule) -> bool {
-    match rule {
-        Rule::Book => true,
-        Rule::Rust => false,
+        None => found.truth(false, given),
+        Some(value) => found.truth(true, given).compared(value.to_word(), wanted),
     }
 }
 
 fn met_switches(found: Found, case: Case, settings: Settings) -> Found {
-    let mass = settings.mass;
-    let source = settings.source;
-    let rule = settings.rule;
     found
         .truth(settings.predictive, case.choice(PREDICTIVE))
         .truth(settings.dense_output, case.choice(DENSE_OUTPUT))
-        .truth(is_full(mass), case.choice(MASS_FULL))
-        .truth(is_host(source), case.choice(HOST))
-        .truth(is_book(rule), case.choice(BOOK))
+        .truth(matches!(settings.mass, Mass::Full), case.choice(MASS_FULL))
+        .truth(matches!(settings.source, Source::Host), case.choice(HOST))
+        .truth(matches!(settings.rule, Rule::Book), case.choice(BOOK))
 }
 
 fn met_wholes(found: Found, case: Case, settings: Settings) -> Found {
     let words = case.words;
-    let nind1 = settings.nind1;
-    let nind2 = settings.nind2;
-    let nind3 = settings.nind3;
-    let steps = found.compared(settings.max_steps as u64, words[MAX_STEPS]);
-    let rounds = steps.compared(settings.newton_maxiter as u64, words[NEWTON_MAXITER]);
-    let one = met_whole(rounds, nind1, case.choice(NIND1_GIVEN), words[NIND1]);
-    let two = met_whole(one, nind2, case.choice(NIND2_GIVEN), words[NIND2]);
-    met_whole(two, nind3, case.choice(NIND3_GIVEN), words[NIND3])
+    let now = found
+        .compared(settings.max_steps as u64, words[MAX_STEPS])
+        .compared(settings.newton_maxiter as u64, words[NEWTON_MAXITER]);
+    let now = met_given(now, settings.nind1, case.choice(NIND1_GIVEN), words[NIND1]);
+    let now = met_given(now, settings.nind2, case.choice(NIND2_GIVEN), words[NIND2]);
+    met_given(now, settings.nind3, case.choice(NIND3_GIVEN), words[NIND3])
 }
 
 fn met_steps(found: Found, case: Case, settings: Settings) -> Found {
     let words = case.words;
-    let max_step = settings.max_step;
-    let min_step = settings.min_step;
-    let newton_tol = settings.newton_tol;
-    let first_step = settings.first_step;
-    let most = met_number(
+    let now = met_given(
         found,
-        max_step,
+        settings.max_step,
         case.choice(MAX_STEP_GIVEN),
         words[MAX_STEP],
     );
-    let least = met_number(most, min_step, case.choice(MIN_STEP_GIVEN), words[MIN_STEP]);
-    let newton = met_number(
-        least,
-        newton_tol,
+    let now = met_given(
+        now,
+        settings.min_step,
+        case.choice(MIN_STEP_GIVEN),
+        words[MIN_STEP],
+    );
+    let now = met_given(
+        now,
+        settings.newton_tol,
         case.choice(NEWTON_TOL_GIVEN),
         words[NEWTON_TOL],
     );
-    met_number(
-        newton,
-        first_step,
+    met_given(
+        now,
+        settings.first_step,
         case.choice(FIRST_STEP_GIVEN),
         words[FIRST_STEP],
     )
@@ -231,7 +190,6 @@ fn met_control(found: Found, control: Control) -> Found {
 // Points and steps; what the Rust sets later is +0.
 fn met_numbers(found: Found, case: Case, numbers: Numbers) -> Found {
     let words = case.words;
-    let xout = numbers.xout;
     let steps = found
         .double(numbers.x, words[X0])
         .double(numbers.xold, words[X0])
@@ -247,56 +205,39 @@ fn met_numbers(found: Found, case: Case, numbers: Numbers) -> Found {
         .double(numbers.theta, 0)
         .double(numbers.dynold, 0)
         .double(numbers.thqold, 0);
-    met_number(later, xout, false, 0)
-}
-
-fn is_first(stage: Stage) -> bool {
-    match stage {
-        Stage::FirstDerivative => true,
-        _ => false,
-    }
+    met_given(later, numbers.xout, false, 0)
 }
 
 fn met_run(found: Found, case: Case, run: Run) -> Found {
-    let settings = run.settings;
-    let shape = run.shape;
-    let fixed = run.fixed;
-    let counts = run.counts;
-    let control = run.control;
-    let numbers = run.numbers;
-    let stage = run.stage;
-    let first = met_settings(found.truth(is_first(stage), true), case, settings);
-    let second = met_fixed(met_shape(first, case, shape), case, fixed);
-    let third = met_control(met_counts(second, case, counts), control);
-    met_numbers(third, case, numbers)
+    let first = found.truth(matches!(run.stage, Stage::FirstDerivative), true);
+    let now = met_settings(first, case, run.settings);
+    let now = met_fixed(met_shape(now, case, run.shape), case, run.fixed);
+    let now = met_control(met_counts(now, case, run.counts), run.control);
+    met_numbers(now, case, run.numbers)
 }
 
 // The first request is the derivative at x0.
 fn met_request(found: Found, case: Case, request: Request) -> Found {
-    let words = case.words;
     match request {
-        Request::Derivative(x) => found.truth(true, true).double(x, words[X0]),
+        Request::Derivative(x) => found.truth(true, true).double(x, case.words[X0]),
         _ => found.truth(false, true),
     }
 }
 
-// It takes the amounts from y and is to fill f0.
-fn is_y_to_f0(place: Place) -> bool {
-    match place {
-        Place::YToF0 => true,
-        _ => false,
-    }
-}
-
-// The first value compared is the number of the row, 0 where the opening is accepted.
-pub fn met_answer(case: Case, answer: Opened) -> Found {
+// The first value compared is the number of the row, 0 where the opening is accepted. The first request takes the
+// amounts from y and is to fill f0.
+pub fn met_answer(case: Case, answer: Result<Call, Refusal>) -> Found {
     let nothing = Found::nothing();
     match answer {
-        Opened::Refused(refusal) => met_refusal(nothing, case, refusal),
-        Opened::Asked(run, request, place) => {
+        Err(refusal) => met_refusal(nothing, case, refusal),
+        Ok(call) => {
             let accepted = nothing.compared(0, case.row());
-            let asked = met_request(accepted, case, request);
-            met_run(asked.truth(is_y_to_f0(place), true), case, run)
+            let asked = met_request(accepted, case, call.request);
+            met_run(
+                asked.truth(matches!(call.place, Place::YToF0), true),
+                case,
+                call.run,
+            )
         }
     }
 }

@@ -2,8 +2,8 @@
 // the settings, then under the places that are named here. tests/replays/replay_opening.py, which writes them,
 // says what they stand for.
 use bits::double;
-use replay::settings::{CHOICES, LISTS, N, X0, XEND, choice, settings_of, tolerances_of};
-use replay::word::{Reading, quarter, read_block, read_well, read_words};
+use replay::settings::{LISTS, N, X0, XEND, choice, settings_of, tolerances_of};
+use replay::word::{ReadError, quarter, read_block, read_words};
 use state::run::Tolerances;
 use state::settings::Settings;
 use std::io::Read;
@@ -65,19 +65,16 @@ pub struct Ask {
 pub struct Case {
     pub words: [u64; WORDS],
     pub pairs: [u64; PAIRS],
-    pub reading: Reading,
 }
 
 impl Case {
     pub fn choice(self, bit: u64) -> bool {
-        let words = self.words;
-        choice(&words, bit)
+        choice(&self.words, bit)
     }
 
     // The row that refuses, or 0.
     pub fn row(self) -> u64 {
-        let words = self.words;
-        quarter(words[OUTCOME], 0)
+        quarter(self.words[OUTCOME], 0)
     }
 
     pub fn is_accepted(self) -> bool {
@@ -97,47 +94,23 @@ impl Case {
 }
 
 // How many words tell the converted lists: whole lines of two pairs, where lists are given.
-fn pair_words(choices: u64, n: u64) -> usize {
-    if choices / LISTS % 2 == 0 {
-        return 0;
-    }
-    if n <= 32 {
+fn pair_words(words: &[u64; WORDS]) -> usize {
+    let n = words[N];
+    if choice(words, LISTS) && n <= 32 {
         ((n + 1) / 2 * 4) as usize
     } else {
         0
     }
 }
 
-// What is wanted of an accepted one.
-fn read_wanted<R: Read>(
-    input: &mut R,
-    words: &mut [u64; WORDS],
-    pairs: &mut [u64; PAIRS],
-) -> Reading {
-    let count = pair_words(words[CHOICES], words[N]);
-    let answer = read_words(input, words, OPENING, WORDS);
-    let lists = read_words(input, pairs, 0, count);
-    read_well(answer & lists)
-}
-
-fn is_good(reading: Reading) -> bool {
-    match reading {
-        Reading::Good => true,
-        _ => false,
+// The next case of standard input. What is wanted of an accepted one follows.
+pub fn read_case<R: Read>(input: &mut R) -> Result<Case, ReadError> {
+    let mut words = [0; WORDS];
+    let mut pairs = [0; PAIRS];
+    read_block(input, &mut words, OPENING)?;
+    if quarter(words[OUTCOME], 0) == 0 {
+        read_words(input, &mut words, OPENING, WORDS)?;
+        read_words(input, &mut pairs, 0, pair_words(&words))?;
     }
-}
-
-// The next case of standard input.
-pub fn read_case<R: Read>(input: &mut R) -> Case {
-    let mut words = [0u64; WORDS];
-    let mut pairs = [0u64; PAIRS];
-    let mut reading = read_block(input, &mut words, OPENING);
-    if is_good(reading) & (quarter(words[OUTCOME], 0) == 0) {
-        reading = read_wanted(input, &mut words, &mut pairs);
-    }
-    Case {
-        words,
-        pairs,
-        reading,
-    }
+    Ok(Case { words, pairs })
 }

@@ -10,41 +10,50 @@ mod memory;
 mod part;
 
 use call::judged;
-use case::{Case, read_case};
+use case::read_case;
 use replay::count::Counts;
 use replay::out::Out;
-use replay::told::{counted, malformed, write_summary};
-use replay::word::Reading;
+use replay::told::Teller;
+use replay::word::ReadError;
 use std::io::{self, Read};
 
 // More cases than there are.
 const MOST_CASES: u64 = 20_000;
 
-// The counts after one case more.
-fn with_case(out: &Out, counts: Counts, names: &[u8], case: Case) -> Counts {
-    counted(out, counts, names, case.row() as usize, judged(case))
-}
-
-fn replayed<R: Read>(input: &mut R, out: &Out, names: &[u8]) -> Counts {
+fn replayed<R: Read>(input: &mut R, to: Teller<'_>) -> Counts {
     let mut counts = Counts::none();
     for _ in 0..MOST_CASES {
-        let case = read_case(input);
-        let reading = case.reading;
-        match reading {
-            Reading::End => return counts,
-            Reading::Malformed => return malformed(out, counts),
-            Reading::Good => counts = with_case(out, counts, names, case),
+        match read_case(input) {
+            Ok(case) => counts = to.counted(counts, case.row() as usize, judged(case)),
+            Err(ReadError::Malformed) => return to.malformed(counts),
+            Err(ReadError::End) => return counts,
         }
     }
     counts
 }
 
 fn main(rt: HostRuntime) -> io::Result<()> {
-    let names =
-        b"accepted:\nrefused 1:\nrefused 2:\nrefused 3:\nrefused 4:\nrefused 5:\nrefused 6:\n\
-        refused 7:\nrefused 8:\nrefused 9:\nrefused 10:\nrefused 11:\nrefused 12:\n";
+    let names = [
+        "accepted:",
+        "refused 1:",
+        "refused 2:",
+        "refused 3:",
+        "refused 4:",
+        "refused 5:",
+        "refused 6:",
+        "refused 7:",
+        "refused 8:",
+        "refused 9:",
+        "refused 10:",
+        "refused 11:",
+        "refused 12:",
+    ];
     let out = Out::new(rt.stdout());
     let mut input = rt.stdin();
-    write_summary(&out, replayed(&mut input, &out, names), names);
+    let to = Teller {
+        out: &out,
+        names: &names,
+    };
+    to.summary(replayed(&mut input, to));
     out.end()
 }

@@ -3,12 +3,11 @@
 ghost use Rattle.std.specs.Prelude.{◌≤◌};
 
 use crate::case::{CONTENTS, Case, EXCEPTION, LENGTHS};
-use bits::{double, pattern};
 use replay::found::Found;
-use replay::memory::{COEFFICIENTS, MATRIX, VECTOR};
+use replay::memory::{Entry, PARTS};
 use replay::settings::{LISTS, MASS_FULL, word};
-use replay::word::{quarter, within};
-use std::num::wrapping_add_u64;
+use replay::word::quarter;
+use std::array;
 
 // The numbers of the parts that have rules of their own. Parts are counted from 0 in the order in
 // which `open` takes them.
@@ -24,22 +23,28 @@ const IP1: usize = 17;
 
 const IP2: usize = 18;
 
+// An entry that stands outside of its part's rule.
+#[derive(Clone, Copy)]
+struct Exception {
+    place: usize,
+    pattern: u64,
+}
+
 // What a part holds before the call: the patterns start with `first` and rise by `step`, but for one place.
 #[derive(Clone, Copy)]
-pub struct Contents {
-    pub first: u64,
-    pub step: u64,
-    pub exception: usize,
-    pub pattern: u64,
+struct Contents {
+    first: u64,
+    step: u64,
+    exception: Option<Exception>,
 }
 
 impl Contents {
-    // The entry at a place, where the rule has `word`.
-    fn entry(self, place: usize, word: u64) -> u64 {
-        if place == self.exception {
-            self.pattern
-        } else {
-            word
+    fn entry(self, place: usize) -> u64 {
+        match self.exception {
+            Some(other) if other.place == place => other.pattern,
+            _ => self
+                .first
+                .wrapping_add(self.step.wrapping_mul(place as u64)),
         }
     }
 }
@@ -61,64 +66,31 @@ fn rule_of(part: usize) -> usize
 fn contents_of(case: Case, part: usize) -> Contents {
     let words = case.words;
     let at = rule_of(part);
-    let mut exception = MATRIX;
-    if quarter(words[EXCEPTION], 0) == part as u64 {
-        exception = quarter(words[EXCEPTION], 1) as usize;
-    }
+    let exception = Exception {
+        place: quarter(words[EXCEPTION], 1) as usize,
+        pattern: words[EXCEPTION + 1],
+    };
     Contents {
         first: words[at],
         step: words[at + 1],
-        exception,
-        pattern: words[EXCEPTION + 1],
+        exception: (quarter(words[EXCEPTION], 0) == part as u64).then_some(exception),
     }
 }
 
-// The length of a part, which lies in an array of `room` entries.
-pub fn length(case: Case, part: usize, room: usize) -> usize
-    ensures { result ≤ room }
-{
-    let words = case.words;
-    within(
-        quarter(word(&words, LENGTHS + part / 4), part % 4) as usize,
-        room,
-    )
+// The length of a part.
+fn length(case: Case, part: usize) -> usize {
+    quarter(word(&case.words, LENGTHS + part / 4), part % 4) as usize
 }
 
-fn fill(part: &mut [f64], contents: Contents) {
-    let mut word = contents.first;
-    for i in 0..part.len() {
-        part[i] = double(contents.entry(i, word));
-        word = wrapping_add_u64(word, contents.step);
-    }
+// The lengths of all parts.
+pub fn lengths(case: Case) -> [usize; PARTS] {
+    array::from_fn(|part| length(case, part))
 }
 
-pub fn vector(case: Case, part: usize) -> [f64; VECTOR] {
-    let mut made = [0.0; VECTOR];
-    fill(&mut made, contents_of(case, part));
-    made
-}
-
-pub fn coefficients(case: Case, part: usize) -> [f64; COEFFICIENTS] {
-    let mut made = [0.0; COEFFICIENTS];
-    fill(&mut made, contents_of(case, part));
-    made
-}
-
-pub fn matrix(case: Case, part: usize) -> [f64; MATRIX] {
-    let mut made = [0.0; MATRIX];
-    fill(&mut made, contents_of(case, part));
-    made
-}
-
-pub fn pivots(case: Case, part: usize) -> [usize; VECTOR] {
+// What a part holds before the call, in its array.
+pub fn filled<E: Entry, const N: usize>(case: Case, part: usize) -> [E; N] {
     let contents = contents_of(case, part);
-    let mut made = [0usize; VECTOR];
-    let mut word = contents.first;
-    for i in 0..VECTOR {
-        made[i] = contents.entry(i, word) as usize;
-        word = wrapping_add_u64(word, contents.step);
-    }
-    made
+    array::from_fn(|place| E::from_word(contents.entry(place)))
 }
 
 // Whether an accepted opening leaves a part as it is.
@@ -130,90 +102,37 @@ fn is_kept(case: Case, part: usize) -> bool {
     }
 }
 
-// How many entries of a part the call sets to +0. Converted lists are judged apart.
+// How many entries of a part the call sets to 0. Converted lists are judged apart.
 fn cleared(case: Case, part: usize) -> usize {
-    if case.is_accepted() & !is_kept(case, part) {
-        return length(case, part, MATRIX);
+    if case.is_accepted() && !is_kept(case, part) {
+        return length(case, part);
     }
     0
 }
 
 // Holds all entries of an array against what its part is to hold after the call.
-fn met(found: Found, case: Case, part: usize, values: &[f64]) -> Found {
+pub fn met<E: Entry>(found: Found, case: Case, part: usize, values: &[E]) -> Found {
     let contents = contents_of(case, part);
     let zeros = cleared(case, part);
     let mut now = found;
-    let mut word = contents.first;
-    for i in 0..values.len() {
-        let before = pattern(double(contents.entry(i, word)));
-        let wanted = if i < zeros { 0 } else { before };
-        now = now.double(values[i], wanted);
-        word = wrapping_add_u64(word, contents.step);
+    for (place, value) in values.iter().enumerate() {
+        let before = E::from_word(contents.entry(place)).to_word();
+        now = now.compared(value.to_word(), if place < zeros { 0 } else { before });
     }
     now
 }
 
-pub fn met_vector(found: Found, case: Case, part: usize, values: &[f64; VECTOR]) -> Found {
-    met(found, case, part, values)
-}
-
-pub fn met_coefficients(
-    found: Found,
-    case: Case,
-    part: usize,
-    values: &[f64; COEFFICIENTS],
-) -> Found {
-    met(found, case, part, values)
-}
-
-pub fn met_matrix(found: Found, case: Case, part: usize, values: &[f64; MATRIX]) -> Found {
-    met(found, case, part, values)
-}
-
-// The same for pivots.
-pub fn met_pivots(found: Found, case: Case, part: usize, values: &[usize; VECTOR]) -> Found {
-    let contents = contents_of(case, part);
-    let zeros = cleared(case, part);
-    let mut now = found;
-    let mut word = contents.first;
-    for i in 0..VECTOR {
-        let before = contents.entry(i, word);
-        let wanted = if i < zeros { 0 } else { before };
-        now = now.compared(values[i] as u64, wanted);
-        word = wrapping_add_u64(word, contents.step);
+// The same for the parts of tolerances: where lists are given, an accepted opening leaves them converted, as the first
+// of each of the wanted pairs (rtol) or the second (atol).
+pub fn met_tolerances(found: Found, case: Case, part: usize, values: &[f64]) -> Found {
+    if !(case.is_accepted() && case.choice(LISTS)) {
+        return met(found, case, part, values);
     }
-    now
-}
-
-// The place of a tolerance in its pair.
-fn side_of(part: usize) -> usize
-    ensures { result ≤ 1 }
-{
-    if part == RTOL { 0 } else { 1 }
-}
-
-// The same for the parts of tolerances: where lists are given, an accepted opening leaves them converted.
-pub fn met_tolerances(found: Found, case: Case, part: usize, values: &[f64; VECTOR]) -> Found {
-    if case.is_accepted() & case.choice(LISTS) {
-        return met_list(
-            found,
-            case,
-            side_of(part),
-            length(case, part, VECTOR),
-            values,
-        );
-    }
-    met(found, case, part, values)
-}
-
-// Holds a converted list of `count` entries against the first (side 0) or second (side 1) of the wanted pairs.
-fn met_list(found: Found, case: Case, side: usize, count: usize, values: &[f64; VECTOR]) -> Found
-    requires { (side ≤ 1) × (count ≤ 34) }
-{
-    let pairs = case.pairs;
+    let side = usize::from(part != RTOL);
+    let wanted = case.pairs.iter().skip(side).step_by(2);
     let mut now = found;
-    for i in 0..count {
-        now = now.double(values[i], pairs[2 * i + side]);
+    for (value, wanted) in values.iter().zip(wanted).take(length(case, part)) {
+        now = now.double(*value, *wanted);
     }
     now
 }

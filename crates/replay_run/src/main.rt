@@ -9,15 +9,14 @@ mod memory;
 mod stored;
 mod turn;
 
-use call::{CallOutcome, Talk, start};
 use replay::count::Counts;
 use replay::found::Found;
 use replay::out::Out;
-use replay::told::{counted, malformed, write_summary};
-use replay::word::Reading;
+use replay::told::Teller;
+use replay::word::ReadError;
 use std::io::{self, Read};
 use stored::{HEAD, Opening, read_asked, read_opening};
-use turn::{met, next};
+use turn::Replay;
 
 // More runs than there are.
 const MOST_RUNS: u64 = 1_000;
@@ -52,98 +51,79 @@ fn row_of(head: u64) -> usize {
     }
 }
 
-fn is_refused(talk: Talk) -> bool {
-    match talk {
-        Talk::Asked(_, _, _) => false,
-        Talk::Refused => true,
-    }
-}
-
 // The counts after one reply more, which is not to be refused. The end of a run has none.
-fn with_reply(out: &Out, counts: Counts, names: &[u8], talk: Talk, head: u64) -> Counts {
-    if head % 0x10 == 0 {
+fn with_reply(to: Teller<'_>, counts: Counts, run: &Replay, head: u64) -> Counts {
+    let reply = head % 0x10;
+    if reply == 0 {
         return counts;
     }
-    let taken = Found::nothing().truth(is_refused(talk), false);
-    counted(out, counts, names, REPLIES + (head % 0x10) as usize, taken)
+    let taken = Found::nothing().truth(run.is_refused(), false);
+    to.counted(counts, REPLIES + reply as usize, taken)
 }
 
-// All requests of a run, of which the last is to be its end.
-fn with_requests<R: Read>(
-    input: &mut R,
-    out: &Out,
-    before: Counts,
-    names: &[u8],
-    n: usize,
-    requests: u64,
-    opened: CallOutcome,
-) -> Counts {
+// The counts after one run more: all its requests, of which the last is to be its end.
+fn with_run<R: Read>(input: &mut R, to: Teller<'_>, before: Counts, opening: Opening) -> Counts {
     let mut counts = before;
-    let mut outcome = opened;
+    let mut run = Replay::new(opening);
     let mut head = 0;
-    for _ in 0..requests {
-        let asked = read_asked(input, n);
-        if !asked.good {
-            return malformed(out, counts);
-        }
-        let words = asked.words;
+    for _ in 0..opening.requests() {
+        let Ok(words) = read_asked(input, run.n) else {
+            return to.malformed(counts);
+        };
         head = words[HEAD];
-        counts = counted(out, counts, names, row_of(head), met(outcome, n, words));
-        outcome = next(outcome, n, words);
-        let talk = outcome.talk;
-        counts = with_reply(out, counts, names, talk, head);
+        counts = to.counted(counts, row_of(head), run.met(words));
+        run.reply(words);
+        counts = with_reply(to, counts, &run, head);
     }
-    let ended = Found::nothing().compared(head / 0x1000, 4);
-    counted(out, counts, names, RUNS, ended)
-}
-
-// The counts after one run more.
-fn with_run<R: Read>(
-    input: &mut R,
-    out: &Out,
-    counts: Counts,
-    names: &[u8],
-    opening: Opening,
-) -> Counts {
-    let outcome = start(opening.ask(), opening.n(), opening.memory());
-    with_requests(
-        input,
-        out,
-        counts,
-        names,
-        opening.n(),
-        opening.requests(),
-        outcome,
-    )
+    to.counted(counts, RUNS, Found::nothing().compared(head / 0x1000, 4))
 }
 
 // Nothing is read behind what is malformed.
-fn replayed<R: Read>(input: &mut R, out: &Out, names: &[u8]) -> Counts {
+fn replayed<R: Read>(input: &mut R, to: Teller<'_>) -> Counts {
     let mut counts = Counts::none();
     for _ in 0..MOST_RUNS {
         if counts.malformed != 0 {
             return counts;
         }
-        let opening = read_opening(input);
-        let reading = opening.reading;
-        match reading {
-            Reading::End => return counts,
-            Reading::Malformed => return malformed(out, counts),
-            Reading::Good => counts = with_run(input, out, counts, names, opening),
+        match read_opening(input) {
+            Ok(opening) => counts = with_run(input, to, counts, opening),
+            Err(ReadError::Malformed) => return to.malformed(counts),
+            Err(ReadError::End) => return counts,
         }
     }
     counts
 }
 
 fn main(rt: HostRuntime) -> io::Result<()> {
-    let names =
-        b"derivative y to f0:\nderivative cont to z1:\nderivative cont to z2:\nderivative cont to z3:\n\
-        derivative cont to f1:\nderivative y to f_origin:\nderivative y_perturbed to f_perturbed:\n\
-        Jacobian:\nreport:\nreport with coefficients:\n\
-        ended, status 0:\nended, status 1:\nended, status 2:\nended, status 3:\nended, status 5:\n\
-        reply filled:\nreply continue:\nreply interrupt:\nreply modified:\nreply mark:\nruns:\n";
+    let names = [
+        "derivative y to f0:",
+        "derivative cont to z1:",
+        "derivative cont to z2:",
+        "derivative cont to z3:",
+        "derivative cont to f1:",
+        "derivative y to f_origin:",
+        "derivative y_perturbed to f_perturbed:",
+        "Jacobian:",
+        "report:",
+        "report with coefficients:",
+        "ended, status 0:",
+        "ended, status 1:",
+        "ended, status 2:",
+        "ended, status 3:",
+        "ended, status 5:",
+        "reply filled:",
+        "reply continue:",
+        "reply interrupt:",
+        "reply modified:",
+        "reply mark:",
+        "runs:",
+    ];
     let out = Out::new(rt.stdout());
     let mut input = rt.stdin();
-    write_summary(&out, replayed(&mut input, &out, names), names);
+    let to = Teller {
+        out: &out,
+        names: &names,
+    };
+    to.summary(replayed(&mut input, to));
     out.end()
 }

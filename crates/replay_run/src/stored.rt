@@ -3,11 +3,11 @@
 ghost use Rattle.std.specs.Prelude.{◌≤◌};
 
 use crate::call::Ask;
-use crate::memory::{ORDER, lent, matrix, matrix_length, vector, vector_length};
+use crate::memory::{ORDER, lent, matrix_length, part, vector_length};
 use bits::double;
 use replay::memory::Memory;
 use replay::settings::{LISTS, MASS_FULL, N, X0, XEND, choice, settings_of, tolerances_of};
-use replay::word::{Reading, read_block, read_well, read_words};
+use replay::word::{ReadError, read_block, read_words};
 use std::io::Read;
 
 // How many requests follow an opening.
@@ -32,14 +32,7 @@ pub const ASKED: usize = 20;
 
 #[derive(Clone, Copy)]
 pub struct Opening {
-    pub words: [u64; OPENING],
-    pub reading: Reading,
-}
-
-#[derive(Clone, Copy)]
-pub struct Asked {
-    pub words: [u64; ASKED],
-    pub good: bool,
+    words: [u64; OPENING],
 }
 
 // Where the lists of tolerances begin.
@@ -65,20 +58,15 @@ fn opening_end(words: &[u64; OPENING]) -> usize {
 }
 
 impl Opening {
-    pub fn n(self) -> usize {
-        let words = self.words;
-        words[N] as usize
-    }
-
     pub fn requests(self) -> u64 {
-        let words = self.words;
-        words[REQUESTS]
+        self.words[REQUESTS]
     }
 
     pub fn ask(self) -> Ask {
         let words = self.words;
         Ask {
             settings: settings_of(&words),
+            n: words[N] as usize,
             x0: double(words[X0]),
             xend: double(words[XEND]),
             tolerances: tolerances_of(&words),
@@ -90,30 +78,24 @@ impl Opening {
         let n = vector_length(words[N] as usize);
         let lists = lists_at(&words);
         lent(
-            vector(&words, GIVEN),
-            matrix(&words, GIVEN + n),
-            vector(&words, lists),
-            vector(&words, lists + n),
+            part(&words, GIVEN),
+            part(&words, GIVEN + n),
+            part(&words, lists),
+            part(&words, lists + n),
         )
     }
 }
 
 // The next opening of standard input.
-pub fn read_opening<R: Read>(input: &mut R) -> Opening {
-    let mut words = [0u64; OPENING];
-    let first = read_block(input, &mut words, GIVEN);
-    match first {
-        Reading::Good => {
-            let end = opening_end(&words);
-            let rest = read_words(input, &mut words, GIVEN, end);
-            let reading = read_well(rest & (words[N] <= ORDER as u64));
-            Opening { words, reading }
-        }
-        _ => Opening {
-            words,
-            reading: first,
-        },
+pub fn read_opening<R: Read>(input: &mut R) -> Result<Opening, ReadError> {
+    let mut words = [0; OPENING];
+    read_block(input, &mut words, GIVEN)?;
+    let end = opening_end(&words);
+    read_words(input, &mut words, GIVEN, end)?;
+    if words[N] > ORDER as u64 {
+        return Err(ReadError::Malformed);
     }
+    Ok(Opening { words })
 }
 
 // How many words a host's reply to a report has.
@@ -139,13 +121,10 @@ fn asked_end(head: u64, n: usize) -> usize {
 }
 
 // The next request of a run of order n.
-pub fn read_asked<R: Read>(input: &mut R, n: usize) -> Asked {
-    let mut words = [0u64; ASKED];
-    let first = read_words(input, &mut words, 0, FLOATS);
+pub fn read_asked<R: Read>(input: &mut R, n: usize) -> Result<[u64; ASKED], ReadError> {
+    let mut words = [0; ASKED];
+    read_words(input, &mut words, 0, FLOATS)?;
     let end = asked_end(words[HEAD], n);
-    let rest = read_words(input, &mut words, FLOATS, end);
-    Asked {
-        words,
-        good: first & rest,
-    }
+    read_words(input, &mut words, FLOATS, end)?;
+    Ok(words)
 }

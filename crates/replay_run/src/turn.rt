@@ -1,13 +1,13 @@
 // What an advance led to, held against the stored request, and the host's reply to it.
-use crate::call::{CallOutcome, Talk, advance};
-use crate::memory::{digest, matrix, vector, with_amounts, with_derivative, with_jacobian};
-use crate::stored::{ASKED, DIGEST, FLOATS, HEAD};
+use crate::call::{advance, start};
+use crate::memory::{digest, part, write_derivative};
+use crate::stored::{ASKED, DIGEST, FLOATS, HEAD, Opening};
 use bits::double;
 use radau::advance::Resumed;
 use replay::found::Found;
 use replay::memory::Memory;
 use state::run::{Counts, Run};
-use state::talk::{IntegrationResult, Place, Reply, Request, Result};
+use state::talk::{Call, IntegrationResult, Place, Reply, Request};
 use state::{blame_column, blame_kind, status_number};
 
 fn place_number(place: Place) -> u64 {
@@ -35,7 +35,7 @@ fn kind(request: Request) -> u64 {
 // Of a report whether coefficients are offered, of an end the status.
 fn flag(request: Request) -> u64 {
     match request {
-        Request::Report(_, _, offered) => { if offered { 1 } else { 0 } }
+        Request::Report(_, _, offered) => u64::from(offered),
         Request::Ended(status) => status_number(status),
         _ => 0,
     }
@@ -65,61 +65,28 @@ fn met_end(found: Found, ended: IntegrationResult, words: [u64; ASKED]) -> Found
 
 fn met_result(found: Found, run: Run, words: [u64; ASKED]) -> Found {
     match run.result() {
-        Result::Ended(ended) => met_end(found, ended, words),
-        Result::NotEnded => found.truth(false, true),
+        Some(ended) => met_end(found, ended, words),
+        None => found.truth(false, true),
     }
 }
 
-fn met_floats(found: Found, run: Run, request: Request, words: [u64; ASKED]) -> Found {
-    match request {
-        Request::Derivative(x) => found.double(x, words[FLOATS]),
-        Request::Jacobian(x) => found.double(x, words[FLOATS]),
+fn met_floats(found: Found, call: Call, words: [u64; ASKED]) -> Found {
+    match call.request {
+        Request::Derivative(x) | Request::Jacobian(x) => found.double(x, words[FLOATS]),
         Request::Report(xold, x, _) => found
             .double(xold, words[FLOATS])
             .double(x, words[FLOATS + 1]),
-        Request::Ended(_) => met_result(found, run, words),
+        Request::Ended(_) => met_result(found, call.run, words),
     }
 }
 
-fn met_request(
-    found: Found,
-    run: Run,
-    request: Request,
-    place: Place,
-    words: [u64; ASKED],
-) -> Found {
+fn met_call(found: Found, call: Call, words: [u64; ASKED]) -> Found {
     let head = words[HEAD];
     let same = found
-        .compared(kind(request), head / 0x1000)
-        .compared(place_number(place), head / 0x100 % 0x10)
-        .compared(flag(request), head / 0x10 % 0x10);
-    met_floats(same, run, request, words)
-}
-
-fn met_talk(found: Found, talk: Talk, words: [u64; ASKED]) -> Found {
-    match talk {
-        Talk::Asked(run, request, place) => met_request(found, run, request, place, words),
-        Talk::Refused => found.truth(false, true),
-    }
-}
-
-// The values are compared in this order: the digest of memory, the request's kind, place and flag, then its floats, or
-// at the end h, x, the six counts, the singular matrix that is blamed, with its column, and the two strides.
-pub fn met(outcome: CallOutcome, n: usize, words: [u64; ASKED]) -> Found {
-    let memory = outcome.memory;
-    let talk = outcome.talk;
-    let found = Found::nothing().compared(digest(memory, n), words[DIGEST]);
-    met_talk(found, talk, words)
-}
-
-// What the host wrote before it replied.
-fn written(memory: Memory, words: [u64; ASKED]) -> Memory {
-    let head = words[HEAD];
-    match head {
-        0x2001 => with_jacobian(memory, matrix(&words, FLOATS + 1)),
-        0x3004 | 0x3014 => with_amounts(memory, vector(&words, FLOATS + 3)),
-        _ => with_derivative(memory, head / 0x100 % 0x10, vector(&words, FLOATS + 1)),
-    }
+        .compared(kind(call.request), head / 0x1000)
+        .compared(place_number(call.place), head / 0x100 % 0x10)
+        .compared(flag(call.request), head / 0x10 % 0x10);
+    met_floats(same, call, words)
 }
 
 fn reply_of(words: [u64; ASKED]) -> Reply {
@@ -132,18 +99,66 @@ fn reply_of(words: [u64; ASKED]) -> Reply {
     }
 }
 
-// What the host's reply leads to; a run that has ended or was refused has none.
-pub fn next(outcome: CallOutcome, n: usize, words: [u64; ASKED]) -> CallOutcome {
-    if words[HEAD] % 0x10 == 0 {
-        return outcome;
-    }
-    let memory = outcome.memory;
-    let talk = outcome.talk;
-    match talk {
-        Talk::Asked(run, _, _) => {
-            let reply = reply_of(words);
-            advance(Resumed { run, reply }, n, written(memory, words))
+// A run that is replayed: its order, its memory, and the call that waits for a reply, where none was refused.
+#[derive(Clone, Copy)]
+pub struct Replay {
+    pub n: usize,
+    memory: Memory,
+    call: Option<Call>,
+}
+
+impl Replay {
+    pub fn new(opening: Opening) -> Replay {
+        let ask = opening.ask();
+        let mut memory = opening.memory();
+        let call = start(ask, &mut memory);
+        Replay {
+            n: ask.n,
+            memory,
+            call,
         }
-        Talk::Refused => outcome,
+    }
+
+    pub fn is_refused(&self) -> bool {
+        self.call.is_none()
+    }
+
+    // The values are compared in this order: the digest of memory, the request's kind, place and flag, then its
+    // floats, or at the end h, x, the six counts, the singular matrix that is blamed, with its column, and the strides.
+    pub fn met(&self, words: [u64; ASKED]) -> Found {
+        let found = Found::nothing().compared(digest(&self.memory, self.n), words[DIGEST]);
+        match self.call {
+            Some(call) => met_call(found, call, words),
+            None => found.truth(false, true),
+        }
+    }
+
+    // What the host writes before it replies.
+    fn write(&mut self, words: [u64; ASKED]) {
+        let head = words[HEAD];
+        match head {
+            0x2001 => self.memory.jac = part(&words, FLOATS + 1),
+            0x3004 | 0x3014 => self.memory.y = part(&words, FLOATS + 3),
+            _ => write_derivative(
+                &mut self.memory,
+                head / 0x100 % 0x10,
+                part(&words, FLOATS + 1),
+            ),
+        }
+    }
+
+    // Goes on by the host's reply. A run that has ended or was refused gets none.
+    pub fn reply(&mut self, words: [u64; ASKED]) {
+        if words[HEAD] % 0x10 == 0 {
+            return;
+        }
+        if let Some(call) = self.call {
+            self.write(words);
+            let turn = Resumed {
+                run: call.run,
+                reply: reply_of(words),
+            };
+            self.call = advance(turn, self.n, &mut self.memory);
+        }
     }
 }

@@ -7,12 +7,12 @@ mod line;
 mod routine;
 
 use bits::pattern;
-use line::{Decoded, decode};
+use line::decode;
 use replay::count::Counts;
 use replay::input::read_full;
 use replay::out::Out;
-use replay::told::{MOST_TOLD, write_summary};
-use routine::{ROUTINES, result, row};
+use replay::told::{MOST_TOLD, Teller};
+use routine::result;
 use std::io::{self, Read};
 
 // More lines than the vectors have.
@@ -39,13 +39,10 @@ fn differing(out: &Out, counts: Counts, text: &[u8; 73], at: usize, gave: u64) -
 
 // The counts after one line more.
 fn judged(out: &Out, counts: Counts, text: &[u8; 73]) -> Counts {
-    let Decoded::Good(vector) = decode(text) else {
+    let Some(vector) = decode(text) else {
         return malformed(out, counts, text);
     };
-    let at = row(vector.letter);
-    if ROUTINES <= at {
-        return malformed(out, counts, text);
-    }
+    let at = vector.routine as usize;
     let gave = pattern(result(vector));
     if gave == vector.answer {
         return counts.agreed(at);
@@ -65,12 +62,29 @@ fn replayed<R: Read>(input: &mut R, out: &Out) -> Counts {
     counts
 }
 
-// The names of the rows, in the order of `row`.
+// The names of the rows, in the order of `Routine`.
 fn main(rt: HostRuntime) -> io::Result<()> {
-    let names = b"sqrt\nroot\ninverse_root\npower\ntwo_thirds\nfour_fifths\nquarter\n\
-        abs\nmax\nmin\nclamp\nsignum\ncoefficient\n";
+    let names = [
+        "sqrt",
+        "root",
+        "inverse_root",
+        "power",
+        "two_thirds",
+        "four_fifths",
+        "quarter",
+        "abs",
+        "max",
+        "min",
+        "clamp",
+        "signum",
+        "coefficient",
+    ];
     let out = Out::new(rt.stdout());
     let mut input = rt.stdin();
-    write_summary(&out, replayed(&mut input, &out), names);
+    let to = Teller {
+        out: &out,
+        names: &names,
+    };
+    to.summary(replayed(&mut input, &out));
     out.end()
 }

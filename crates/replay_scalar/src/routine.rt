@@ -1,57 +1,63 @@
 // The routines under test: which one a letter means, and what it gives.
 use crate::line::Vector;
 
-pub const ROUTINES: usize = 13;
-
-// The routine's row in the summary, or ROUTINES where the letter means none.
-pub fn row(letter: u8) -> usize {
-    match letter {
-        b's' => 0,
-        b'r' => 1,
-        b'i' => 2,
-        b'p' => 3,
-        b't' => 4,
-        b'f' => 5,
-        b'q' => 6,
-        b'a' => 7,
-        b'x' => 8,
-        b'n' => 9,
-        b'c' => 10,
-        b'g' => 11,
-        b'k' => 12,
-        _ => ROUTINES,
-    }
+// In the order of the summary's rows.
+#[derive(Clone, Copy)]
+pub enum Routine {
+    Sqrt,
+    Root,
+    InverseRoot,
+    Power,
+    TwoThirds,
+    FourFifths,
+    Quarter,
+    Abs,
+    Max,
+    Min,
+    Clamp,
+    Signum,
+    Coefficient,
 }
 
-// A NaN where there is no such coefficient.
-fn coefficient(index: u64) -> f64 {
-    let entry = scalar::coefficient(index as usize);
-    match entry {
-        scalar::Entry::Value(x) => x,
-        scalar::Entry::Outside => 0.0 / 0.0,
+// None where the letter means none.
+pub fn meant(letter: u8) -> Option<Routine> {
+    match letter {
+        b's' => Some(Routine::Sqrt),
+        b'r' => Some(Routine::Root),
+        b'i' => Some(Routine::InverseRoot),
+        b'p' => Some(Routine::Power),
+        b't' => Some(Routine::TwoThirds),
+        b'f' => Some(Routine::FourFifths),
+        b'q' => Some(Routine::Quarter),
+        b'a' => Some(Routine::Abs),
+        b'x' => Some(Routine::Max),
+        b'n' => Some(Routine::Min),
+        b'c' => Some(Routine::Clamp),
+        b'g' => Some(Routine::Signum),
+        b'k' => Some(Routine::Coefficient),
+        _ => None,
     }
 }
 
 // What the vector's routine gives at its operands.
 pub fn result(vector: Vector) -> f64 {
-    let letter = vector.letter;
     let digits = vector.digits;
     let a = vector.a;
     let b = vector.b;
-    match letter {
-        b's' => scalar::sqrt(a),
-        b'r' => scalar::root(digits, a),
-        b'i' => scalar::inverse_root(digits, a),
-        b'p' => scalar::power((digits % 256) as u8, a),
-        b't' => scalar::two_thirds(a),
-        b'f' => scalar::four_fifths(a),
-        b'q' => scalar::quarter(a),
-        b'a' => scalar::abs(a),
-        b'x' => scalar::max(a, b),
-        b'n' => scalar::min(a, b),
-        b'c' => scalar::clamp(a, b, vector.c),
-        b'g' => scalar::signum(a),
-        b'k' => coefficient(digits),
-        _ => 0.0 / 0.0,
+    match vector.routine {
+        Routine::Sqrt => scalar::sqrt(a),
+        Routine::Root => scalar::root(digits, a),
+        Routine::InverseRoot => scalar::inverse_root(digits, a),
+        Routine::Power => scalar::power((digits % 256) as u8, a),
+        Routine::TwoThirds => scalar::two_thirds(a),
+        Routine::FourFifths => scalar::four_fifths(a),
+        Routine::Quarter => scalar::quarter(a),
+        Routine::Abs => scalar::abs(a),
+        Routine::Max => scalar::max(a, b),
+        Routine::Min => scalar::min(a, b),
+        Routine::Clamp => scalar::clamp(a, b, vector.c),
+        Routine::Signum => scalar::signum(a),
+        // A NaN where there is no such coefficient.
+        Routine::Coefficient => scalar::coefficient(digits as usize).unwrap_or(f64::NAN),
     }
 }

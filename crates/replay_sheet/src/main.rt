@@ -7,18 +7,18 @@
 mod record;
 
 use forecast::forecast;
-use forecast_text::ending::Ending;
+use forecast_text::ending::{ForecastError, Reached};
 use forecast_text::print;
 use record::{Head, read_head};
-use replay::count::Counts;
+use replay::count::{Counts, ROWS};
 use replay::found::Found;
-use replay::input::read_full;
+use replay::input::read_text;
 use replay::out::Out;
-use replay::told::{counted, malformed, write_summary};
-use replay::word::within;
+use replay::told::Teller;
+use replay::word::ReadError;
 use sheet_write::rewrite;
 use state::run::Status;
-use state::talk::{IntegrationResult, Refusal};
+use state::talk::Refusal;
 use std::io::{self, Read};
 
 // More records than there are.
@@ -33,160 +33,117 @@ const OUT: usize = 1024;
 // Room for every sheet that is written.
 const SHEET: usize = 4096;
 
-// From this row on bytes are no sheet.
-const NO_SHEET: usize = 7;
+// The rows of the summary. From `Malformed` on bytes are no sheet.
+#[derive(Clone, Copy)]
+enum Row {
+    Success,
+    NeedLargerNMax,
+    StepSizeTooSmall,
+    SingularMatrix,
+    NotFinite,
+    MaxSteps,
+    Tolerance,
+    Malformed,
+    TooLong,
+}
 
-// No row of the summary: a case of it is malformed.
-const NO_ROW: usize = 99;
-
-fn status_row(res: IntegrationResult) -> usize {
-    let status = res.status;
-    match status {
-        Status::Success => 0,
-        Status::UserInterrupt => NO_ROW,
-        Status::NeedLargerNMax => 1,
-        Status::StepSizeTooSmall => 2,
-        Status::SingularMatrix => 3,
+// What else becomes of a sheet has no row: opening refuses it for these three reasons alone, and nobody interrupts.
+fn row_of(told: Result<Reached, ForecastError>) -> Option<Row> {
+    match told {
+        Ok(reached) => match reached.result.status {
+            Status::Success => Some(Row::Success),
+            Status::UserInterrupt => None,
+            Status::NeedLargerNMax => Some(Row::NeedLargerNMax),
+            Status::StepSizeTooSmall => Some(Row::StepSizeTooSmall),
+            Status::SingularMatrix => Some(Row::SingularMatrix),
+        },
+        Err(ForecastError::Opening(refusal)) => match refusal {
+            Refusal::NotFinite(_) => Some(Row::NotFinite),
+            Refusal::MaxSteps => Some(Row::MaxSteps),
+            Refusal::Tolerance(_) => Some(Row::Tolerance),
+            _ => None,
+        },
+        Err(ForecastError::Malformed(_)) => Some(Row::Malformed),
+        Err(ForecastError::TooLong) => Some(Row::TooLong),
     }
 }
 
-// Of opening's refusals a sheet can meet these three.
-fn refusal_row(refusal: Refusal) -> usize {
-    match refusal {
-        Refusal::NotFinite(_) => 4,
-        Refusal::MaxSteps => 5,
-        Refusal::Tolerance(_) => 6,
-        _ => NO_ROW,
-    }
-}
-
-fn row_of(ending: Ending) -> usize {
-    match ending {
-        Ending::Ended(reached) => {
-            let result = reached.result;
-            status_row(result)
-        }
-        Ending::Refused(refusal) => refusal_row(refusal),
-        Ending::Malformed(_) => 7,
-        Ending::TooLong => 8,
-    }
-}
-
-// That a byte fits is known of an argument.
-fn number_of(byte: u8) -> u64 {
-    byte as u64
-}
-
-// The lengths are compared first, and then the bytes.
-fn met(gave: &[u8], wanted: &[u8]) -> Found {
-    let mut found = Found::nothing().compared(gave.len() as u64, wanted.len() as u64);
-    for i in 0..within(gave.len(), wanted.len()) {
-        found = found.compared(number_of(gave[i]), number_of(wanted[i]));
-    }
-    found
-}
-
-// Whether as many bytes were read as were asked for.
-fn read_first<R: Read>(input: &mut R, bytes: &mut [u8], count: usize) -> bool {
-    let end = within(count, bytes.len());
-    read_full(input, &mut bytes[0..end]) == count
-}
-
-// What was printed, held against the stored answer. Of what lies behind a reference the length is known.
-fn met_first(out: &[u8; OUT], printed: usize, wanted: &[u8]) -> Found {
-    let bytes: &[u8] = out;
-    met(&bytes[0..within(printed, bytes.len())], wanted)
-}
-
-// The same of a sheet that was rewritten.
-fn met_sheet(out: &[u8; SHEET], count: usize, wanted: &[u8]) -> Found {
-    let bytes: &[u8] = out;
-    met(&bytes[0..within(count, bytes.len())], wanted)
+// As much of an array as was written. Of what lies behind a reference the length is known.
+fn front<const N: usize>(out: &[u8; N], count: usize) -> &[u8] {
+    let bytes = &out[..];
+    let end = count.min(bytes.len());
+    &bytes[..end]
 }
 
 // A sheet once more: the same bytes, or the stored answer where it is no sheet.
-fn rewritten(row: usize, sheet: &[u8], wanted: &[u8]) -> Found {
+fn rewritten(row: Option<Row>, sheet: &[u8], wanted: &[u8]) -> Found {
     let mut out = [0u8; SHEET];
     let count = rewrite(sheet, &mut out);
-    if row < NO_SHEET {
-        return met_sheet(&out, count, sheet);
-    }
-    met_sheet(&out, count, wanted)
+    let expected = match row {
+        None | Some(Row::Malformed | Row::TooLong) => wanted,
+        Some(_) => sheet,
+    };
+    Found::of_texts(front(&out, count), expected)
 }
 
-// Of two comparisons the first that differs.
-fn both(first: Found, second: Found) -> Found {
-    if first.differ == 0 {
-        return second;
-    }
-    first
-}
-
-// The counts after one record more, whose sheet and answer were read.
-fn with_answer(out: &Out, counts: Counts, names: &[u8], sheet: &[u8], wanted: &[u8]) -> Counts {
+// The counts after one record more, whose sheet and answer were read. Of two comparisons the first that differs counts.
+fn with_answer(to: Teller<'_>, counts: Counts, sheet: &[u8], wanted: &[u8]) -> Counts {
     let mut text = [0u8; OUT];
     let told = forecast(sheet);
     let printed = print(told, &mut text);
-    let ending = told.ending;
-    let row = row_of(ending);
-    let found = met_first(&text, printed, wanted);
-    counted(
-        out,
-        counts,
-        names,
-        row,
-        both(found, rewritten(row, sheet, wanted)),
-    )
+    let row = row_of(told);
+    let found = Found::of_texts(front(&text, printed), wanted);
+    let other = rewritten(row, sheet, wanted);
+    let found = if found.first.is_none() { other } else { found };
+    to.counted(counts, row.map_or(ROWS, |row| row as usize), found)
 }
 
 // The counts after one record more, of which the head was read.
-fn with_record<R: Read>(
-    input: &mut R,
-    out: &Out,
-    counts: Counts,
-    names: &[u8],
-    sheet: usize,
-    answer: usize,
-) -> Counts {
+fn with_record<R: Read>(input: &mut R, to: Teller<'_>, counts: Counts, head: Head) -> Counts {
     let mut bytes = [0u8; ROOM];
     let mut wanted = [0u8; ROOM];
-    let first = read_first(input, &mut bytes, sheet);
-    let second = read_first(input, &mut wanted, answer);
-    if first & second {
-        return with_answer(
-            out,
-            counts,
-            names,
-            &bytes[0..within(sheet, ROOM)],
-            &wanted[0..within(answer, ROOM)],
-        );
+    let sheet = read_text(input, &mut bytes, head.sheet);
+    let answer = read_text(input, &mut wanted, head.answer);
+    match (sheet, answer) {
+        (Some(sheet), Some(answer)) => with_answer(to, counts, sheet, answer),
+        _ => to.malformed(counts),
     }
-    malformed(out, counts)
 }
 
 // Nothing is read behind what is malformed.
-fn replayed<R: Read>(input: &mut R, out: &Out, names: &[u8]) -> Counts {
+fn replayed<R: Read>(input: &mut R, to: Teller<'_>) -> Counts {
     let mut counts = Counts::none();
     for _ in 0..MOST_RECORDS {
         if counts.malformed != 0 {
             return counts;
         }
         match read_head(input) {
-            Head::End => return counts,
-            Head::Malformed => return malformed(out, counts),
-            Head::Record(sheet, answer) => counts = with_record(
-                input, out, counts, names, sheet, answer,
-            ),
+            Ok(head) => counts = with_record(input, to, counts, head),
+            Err(ReadError::Malformed) => return to.malformed(counts),
+            Err(ReadError::End) => return counts,
         }
     }
     counts
 }
 
 fn main(rt: HostRuntime) -> io::Result<()> {
-    let names =
-        b"status 0:\nstatus 2:\nstatus 3:\nstatus 5:\nrefused 3:\nrefused 4:\nrefused 9:\nrefused 20:\nrefused 21:\n";
+    let names = [
+        "status 0:",
+        "status 2:",
+        "status 3:",
+        "status 5:",
+        "refused 3:",
+        "refused 4:",
+        "refused 9:",
+        "refused 20:",
+        "refused 21:",
+    ];
     let out = Out::new(rt.stdout());
     let mut input = rt.stdin();
-    write_summary(&out, replayed(&mut input, &out, names), names);
+    let to = Teller {
+        out: &out,
+        names: &names,
+    };
+    to.summary(replayed(&mut input, to));
     out.end()
 }

@@ -1,55 +1,43 @@
 // The head of a stored record: how many bytes the sheet and the answer have, in four decimal digits each.
-ghost use Rattle.std.specs.Prelude.{◌≤◌};
-
 use replay::input::read_full;
+use replay::word::ReadError;
 use std::io::Read;
 
+// The lengths of the texts that follow.
 #[derive(Clone, Copy)]
-pub enum Head {
-    Record(usize, usize),
-    Malformed,
-    End,
+pub struct Head {
+    pub sheet: usize,
+    pub answer: usize,
 }
 
-// Greater than any number of four digits.
-const WRONG: usize = 10_000;
-
-// '0' is 48, so two more end in the digit itself.
-fn digit(byte: u8) -> usize
-    ensures { result ≤ 9 }
-{
-    (byte as usize + 2) % 10
-}
-
-// The number that four digits spell.
-fn spelled(text: &[u8; 10], from: usize) -> usize {
+// The number that digits spell. Of more than four, the last four count.
+fn spelled(text: &[u8]) -> Option<usize> {
     let mut value = 0;
-    let mut good = true;
-    for i in 0..4 {
-        let byte = text[(from % 10 + i) % 10];
-        good = good & (b'0' <= byte) & (byte <= b'9');
-        value = value % 1_000 * 10 + digit(byte);
+    for byte in text {
+        value = match byte {
+            b'0'..=b'9' => value % 1_000 * 10 + usize::from(byte - b'0'),
+            _ => return None,
+        };
     }
-    if good { value } else { WRONG }
+    Some(value)
 }
 
-// The next head of standard input.
-pub fn read_head<R: Read>(input: &mut R) -> Head {
-    let mut text = [0u8; 10];
-    let got = read_full(input, &mut text);
-    if got == 0 {
-        return Head::End;
+fn decoded(text: &[u8; 10]) -> Option<Head> {
+    if text[4] != b' ' || text[9] != b'\n' {
+        return None;
     }
-    let sheet = spelled(&text, 0);
-    let answer = spelled(&text, 5);
-    let good = (got == 10)
-        & (text[4] == b' ')
-        & (text[9] == b'\n')
-        & (sheet < WRONG)
-        & (answer < WRONG);
-    if good {
-        Head::Record(sheet, answer)
-    } else {
-        Head::Malformed
+    Some(Head {
+        sheet: spelled(&text[0..4])?,
+        answer: spelled(&text[5..9])?,
+    })
+}
+
+// The next head of standard input. One that breaks off is malformed.
+pub fn read_head<R: Read>(input: &mut R) -> Result<Head, ReadError> {
+    let mut text = [0; 10];
+    match read_full(input, &mut text) {
+        0 => Err(ReadError::End),
+        10 => decoded(&text).ok_or(ReadError::Malformed),
+        _ => Err(ReadError::Malformed),
     }
 }

@@ -7,21 +7,20 @@ use native.Mathlib.Omega.{arith}
 use lib.Ieee.{Float}
 use Rattle.words.specs.Words.{double}
 use Rattle.state.specs.declared.run.Run.{Run}
-use Rattle.state.specs.declared.talk.Opened.{Opened}
-use Rattle.state.specs.declared.talk.Opened.TheVariants as opened
 use Rattle.state.specs.declared.talk.Place.{Place}
 use Rattle.state.specs.declared.talk.Refusal.{Refusal}
 use Rattle.state.specs.declared.talk.Request.{Request}
 use Rattle.opening.specs.Opening.{open_of}
 use Rattle.sheet.specs.Reader.{Read, accepted, malformed, too_long, heading_of, answer_of, amounts_left}
 use Rattle.sheet.specs.declared.sheet.Heading.{Heading}
-use Rattle.sheet.specs.declared.sheet.Reading.TheVariants as reading
+use Rattle.std.proofs.Common.{Ok, Err, None, Some, Option}
+use Rattle.sheet.specs.declared.sheet.SheetError.{SheetError}
 use Rattle.model_run.specs.Budget.{opening_of}
 use Rattle.model_run.specs.declared.run.Task.{Task}
 use Rattle.forecast.specs.Told.{task_from}
-use Rattle.reports.specs.declared.beginning.Beginning.{Beginning}
-use Rattle.reports.specs.declared.beginning.Beginning.TheVariants as beginning
 use Rattle.reports.specs.Beginning.{begun_by, opened_from, begin_of}
+use Rattle.state.specs.Talk.{Opened, call}
+use Rattle.reports.specs.declared.beginning.Begun.{Begun}
 
 -- ---- how the opening was answered
 
@@ -34,12 +33,12 @@ module _ (h : Heading) (amounts : List ℕ) {floats : List Float} {t : Task} {a 
       ap (begun_by t) answered
       ∙ ap (λ (x : Task). begun_by x (open_of (opening_of x)).answer) (is ∙ ap (task_from h) converted)
 
-  pub opened-refused : (x : Refusal) → a ≡ opened.Refused x → beginning.Refused ≡ opened_from h amounts
+  pub opened-refused : (x : Refusal) → a ≡ Err x → None ≡ opened_from h amounts
   unfolding begun_by
   opened-refused x e = sym (ap (begun_by t) e) ∙ answered-so
 
-  pub opened-asked : (r : Run) (q : Request) (p : Place) → a ≡ opened.Asked r q p
-      → beginning.Begun (record {
+  pub opened-asked : (r : Run) (q : Request) (p : Place) → a ≡ Ok (call r q p)
+      → Some (record {
         n = t.n;
         reactions = t.reactions;
         pending = record { run = r; request = q; place = p };
@@ -50,8 +49,8 @@ module _ (h : Heading) (amounts : List ℕ) {floats : List Float} {t : Task} {a 
 
 -- ---- what was read
 
-pub begin-read : (x : Read) (h : Heading) (amounts : List ℕ) {left : List ℕ} {r : Beginning}
-    → reading.Read h ≡ answer_of x → left ≡ amounts_left x amounts → r ≡ opened_from h left → r ≡ begin_of x amounts
+pub begin-read : (x : Read) (h : Heading) (amounts : List ℕ) {left : List ℕ} {r : Option Begun}
+    → Ok h ≡ answer_of x → left ≡ amounts_left x amounts → r ≡ opened_from h left → r ≡ begin_of x amounts
 unfolding answer_of begin_of
 begin-read (accepted m) h amounts e l o =
     let same : h ≡ heading_of m = cc in
@@ -59,16 +58,9 @@ begin-read (accepted m) h amounts e l o =
 begin-read (malformed k) h amounts e l o = absurd (let z : ◌≡◌ {A = ℕ} 0 1 = cc in let no : ⊥ = omega arith in no)
 begin-read too_long h amounts e l o = absurd (let z : ◌≡◌ {A = ℕ} 0 1 = cc in let no : ⊥ = omega arith in no)
 
-pub begin-malformed : (x : Read) (k : ℕ) (amounts : List ℕ) → reading.Malformed k ≡ answer_of x
-    → beginning.Refused ≡ begin_of x amounts
+pub begin-refused : (x : Read) (e : SheetError) (amounts : List ℕ) → Err e ≡ answer_of x
+    → None ≡ begin_of x amounts
 unfolding answer_of begin_of
-begin-malformed (accepted m) k amounts e = absurd (let z : ◌≡◌ {A = ℕ} 0 1 = cc in let no : ⊥ = omega arith in no)
-begin-malformed (malformed j) k amounts e = refl
-begin-malformed too_long k amounts e = refl
-
-pub begin-too-long : (x : Read) (amounts : List ℕ) → reading.TooLong ≡ answer_of x
-    → beginning.Refused ≡ begin_of x amounts
-unfolding answer_of begin_of
-begin-too-long (accepted m) amounts e = absurd (let z : ◌≡◌ {A = ℕ} 0 1 = cc in let no : ⊥ = omega arith in no)
-begin-too-long (malformed j) amounts e = refl
-begin-too-long too_long amounts e = refl
+begin-refused (accepted m) e amounts q = absurd (let z : ◌≡◌ {A = ℕ} 0 1 = cc in let no : ⊥ = omega arith in no)
+begin-refused (malformed j) e amounts q = refl
+begin-refused too_long e amounts q = refl

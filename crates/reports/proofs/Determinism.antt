@@ -4,17 +4,18 @@ use mathlib.Core.List.{List}
 use Rattle.words.specs.Contract.{Settles}
 use Rattle.words.proofs.OneOutcome.{◌▹◌, one-part, four-parts}
 use Rattle.history.specs.History.{Point}
-use Rattle.reports.specs.declared.beginning.Beginning.{Beginning}
-use Rattle.reports.specs.declared.beginning.Pending.{Pending}
+use Rattle.state.specs.declared.talk.Call.{Call}
+use Rattle.reports.specs.declared.beginning.Begun.{Begun}
 use Rattle.reports.specs.Line.{Noted}
 use Rattle.reports.proofs.beginning.begin as begin
 use Rattle.reports.proofs.line.put_report as put_report
 use Rattle.reports.proofs.step.next_report as next_report
+use Rattle.std.specs.Prelude.{Option}
 
 pub begin-once : Settles begin.Kinds.ps begin.Kinds.r begin.Reads.Asked begin.Reads.Post
 begin-once κs a = (
   tt,
-  λ o p. λ e f. four-parts (λ (answer : Beginning) (amounts rates species : List ℕ).
+  λ o p. λ e f. four-parts (λ (answer : Option Begun) (amounts rates species : List ℕ).
       answer ▹ tt ▹ amounts ▹ rates ▹ species ▹ tt)
       (e.0, e.1.0, e.1.1.0, e.1.1.1) (f.0, f.1.0, f.1.1.0, f.1.1.1),
 )
@@ -23,7 +24,7 @@ pub put-report-once : Settles put_report.Kinds.ps put_report.Kinds.r put_report.
 put-report-once κs a = (tt, λ o p. one-part (λ (e : Noted). e.answer ▹ tt ▹ tt ▹ e.buffer ▹ tt))
 
 -- what is pending at a point, its memory apart
-abbrev pending_at : Point → Pending
+abbrev pending_at : Point → Call
 pending_at x = record { run = x.run; request = x.request; place = x.place }
 
 pub next-report-once : Settles next_report.Kinds.ps next_report.Kinds.r next_report.Reads.Asked next_report.Reads.Post

@@ -17,7 +17,7 @@ use Rattle.sheet.specs.Reader.{over}
 use Rattle.forecast_text.specs.Printed.{text}
 use Rattle.csv_table.specs.NumberText.{trimmed, pointed, exponent_text, magnitude_text, sign_text}
 use Rattle.csv_table.specs.Table.{amounts_text, line_of, ordered_of, record_of}
-use Rattle.reports.specs.declared.line.Line.TheVariants.{Put}
+use Rattle.std.specs.Prelude.{Some}
 use Rattle.reports.specs.Line.{Noted, noted, line_at}
 use Rattle.reports.specs.Step.{is_told}
 use Rattle.reports.specs.Reports.{reported, report_at}
@@ -41,7 +41,7 @@ opening-put same =
 
 -- the record of a report with the point that it comes from
 abbrev pub record_of_old : Float → List Float → List ℕ → Noted
-record_of_old xold y buffer = let e = record_of xold y buffer in noted (Put e.answer) e.buffer
+record_of_old xold y buffer = let e = record_of xold y buffer in noted (Some e.answer) e.buffer
 
 -- of a report from -0 to +0 the first byte: a minus, where a 0 is wanted
 pub old-point-put : ((xold x : Float) (offered : Bool) (y : List Float) (buffer : List ℕ)

@@ -8,7 +8,6 @@ use native.Mathlib.Omega.{arith}
 use lib.ListN.{length, take}
 use lib.Ieee.{Float}
 use Rattle.state.specs.declared.run.Run.{Run}
-use Rattle.state.specs.declared.talk.Opened.TheVariants as opened
 use Rattle.state.specs.declared.talk.Place.{Place}
 use Rattle.state.specs.declared.talk.Request.{Request}
 use Rattle.state.specs.declared.talk.Request.TheVariants as request
@@ -39,15 +38,16 @@ use Rattle.forecast.proofs.ModelRead.{rates_for, species_for}
 use Rattle.forecast.proofs.HostsAgree.{code_host, model_host, reached, same_at, model-talks, model-fair}
 use Rattle.forecast.proofs.Solves.{left, room, opening-same}
 use Rattle.reports.specs.declared.beginning.Begun.{Begun}
-use Rattle.reports.specs.declared.beginning.Beginning.TheVariants as beginning
 use Rattle.reports.specs.Beginning.{begun_by, opened_from, begin_of}
 use Rattle.reports.specs.Reports.{Reported, report_at, report_here, reports_in, met_from, points_of, points_read}
 use Rattle.reports.proofs.Meeting.{EndsAfter, ends-after, reports_of, met-reports, played-reports, play-alike}
+use Rattle.std.specs.Prelude.{None, Some, Ok}
+use Rattle.state.specs.Talk.{call}
 
 -- ---- from the first request of a model to its end
 
 module _ (m : Model) (valid : Valid m) (r : Run) (q : Request) (p : Place) (memory : Memory)
-    (opened : open_of (opening_for m) ≡ opening_outcome (opened.Asked r q p) memory) where
+    (opened : open_of (opening_for m) ≡ opening_outcome (Ok (call r q p)) memory) where
   abbrev start : Point
   start = point r q p memory
 
@@ -107,7 +107,7 @@ module _ (m : Model) (valid : Valid m) (r : Run) (q : Request) (p : Place) (memo
 
 -- ---- the journal of an account
 
-module _ (m : Model) (valid : Valid m) (e : Reached) (y : List Float) (a : Accounted m e y) where
+module _ (m : Model) (valid : Valid m) (e : Reached) (a : Accounted m e) where
   abbrev r : Run
   r = a.start.run
 
@@ -139,7 +139,7 @@ module _ (m : Model) (valid : Valid m) (e : Reached) (y : List Float) (a : Accou
   abbrev task : Task
   task = task_from (heading_of m) (left m valid)
 
-  answered : (open_of (opening_of task)).answer ≡ opened.Asked r q p
+  answered : (open_of (opening_of task)).answer ≡ Ok (call r q p)
   answered =
       ap (λ (o : Opening). (open_of o).answer) (opening-same m valid)
       ∙ ap (λ (x : OpeningOutcome). x.answer) a.opens
@@ -158,7 +158,7 @@ module _ (m : Model) (valid : Valid m) (e : Reached) (y : List Float) (a : Accou
         pending = record { run = r; request = q; place = p };
       }
 
-  pub begins : begin_of (accepted m) (noughts 32) ≡ beginning.Begun begun
+  pub begins : begin_of (accepted m) (noughts 32) ≡ Some begun
   unfolding begin_of opened_from begun_by heading_of
   begins = ap (begun_by task) answered
 
@@ -176,7 +176,7 @@ module _ (m : Model) (valid : Valid m) (e : Reached) (y : List Float) (a : Accou
 
 -- ---- from the bytes of a sheet
 
-module _ (bytes : List ℕ) (e : Reached) (y : List Float) (a : Accounts bytes e y) where
+module _ (bytes : List ℕ) (e : Reached) (a : Accounts bytes e) where
   abbrev m : Model
   m = a.model
 
@@ -184,21 +184,21 @@ module _ (bytes : List ℕ) (e : Reached) (y : List Float) (a : Accounts bytes e
   valid = (accepted-sound bytes m a.holds).1
 
   abbrev starts_with : Begun
-  starts_with = begun m valid e y a.accounted
+  starts_with = begun m valid e a.accounted
 
-  begins-so : begin_of (read_of bytes) (noughts 32) ≡ beginning.Begun starts_with
-  begins-so = ap (λ (x : Read). begin_of x (noughts 32)) a.holds ∙ begins m valid e y a.accounted
+  begins-so : begin_of (read_of bytes) (noughts 32) ≡ Some starts_with
+  begins-so = ap (λ (x : Read). begin_of x (noughts 32)) a.holds ∙ begins m valid e a.accounted
 
-  pub points-reported-proof : (b : Begun) → begin_of (read_of bytes) (noughts 32) ≡ beginning.Begun b
+  pub points-reported-proof : (b : Begun) → begin_of (read_of bytes) (noughts 32) ≡ Some b
       → points_read b (read_of bytes) ≡ reports_in a.accounted.journal.turns
   points-reported-proof b is =
       let both = sym begins-so ∙ is in
       let same : starts_with ≡ b = cc in
       ap (λ (s : Begun). points_read s (read_of bytes)) (sym same)
       ∙ ap (points_read starts_with) a.holds
-      ∙ begun-met m valid e y a.accounted
+      ∙ begun-met m valid e a.accounted
 
-  pub begun-told-proof : begin_of (read_of bytes) (noughts 32) ≡ beginning.Refused → ⊥
+  pub begun-told-proof : begin_of (read_of bytes) (noughts 32) ≡ None → ⊥
   begun-told-proof is =
       let both = sym begins-so ∙ is in
       let z : ◌≡◌ {A = ℕ} 0 1 = cc in

@@ -11,12 +11,10 @@ use Rattle.state.specs.declared.talk.Request.TheVariants.{Report}
 use Rattle.state.specs.Memory.{noughts}
 use Rattle.sheet.specs.Reader.{over, read_of}
 use Rattle.csv_table.specs.Table.{export, header_text, record_text, header_of}
-use Rattle.csv_table.specs.declared.answers.Exported.TheVariants.{Written}
+use Rattle.std.specs.Prelude.{None, Some, Ok}
 use Rattle.forecast_text.specs.declared.ending.Reached.{Reached}
 use Rattle.forecast.specs.Account.{Accounts}
 use Rattle.reports.specs.declared.beginning.Begun.{Begun}
-use Rattle.reports.specs.declared.beginning.Beginning.TheVariants as beginning
-use Rattle.reports.specs.declared.line.Line.TheVariants.{Put}
 use Rattle.reports.specs.Beginning.{begin_of}
 use Rattle.reports.specs.Line.{noted, line_at}
 use Rattle.reports.specs.Reports.{reports_in, points_read}
@@ -25,26 +23,26 @@ use Rattle.reports.proofs.WrittenLaws.{header-written-proof, report-written-proo
 
 -- The points that are met, from the beginning of a sheet's run to its end, are the reports of the journal by which the
 -- forecast of the same bytes is accounted for, all of them and in their order.
-pub points-reported : (bytes : List ℕ) (e : Reached) (y : List Float) (a : Accounts bytes e y) (b : Begun)
-    → begin_of (read_of bytes) (noughts 32) ≡ beginning.Begun b
+pub points-reported : (bytes : List ℕ) (e : Reached) (a : Accounts bytes e) (b : Begun)
+    → begin_of (read_of bytes) (noughts 32) ≡ Some b
     → points_read b (read_of bytes) ≡ reports_in a.accounted.journal.turns
 points-reported = points-reported-proof
 
 -- A sheet that begins no run has a forecast that refuses it: one that tells an end would be accounted for.
-pub begun-told : (bytes : List ℕ) (e : Reached) (y : List Float) → Accounts bytes e y
-    → begin_of (read_of bytes) (noughts 32) ≡ beginning.Refused → ⊥
+pub begun-told : (bytes : List ℕ) (e : Reached) → Accounts bytes e
+    → begin_of (read_of bytes) (noughts 32) ≡ None → ⊥
 begun-told = begun-told-proof
 
 -- No line is refused: of a sheet whose run begins, the header and the record of each report with as many amounts are
 -- written over the first bytes of any buffer that has 826.
 pub header-written : (bytes amounts buffer : List ℕ) (b : Begun)
-    → begin_of (read_of bytes) amounts ≡ beginning.Begun b → 826 ≤ length buffer
-    → header_of b.n buffer ≡ export (Written (length (header_text b.n))) (over (header_text b.n) buffer)
+    → begin_of (read_of bytes) amounts ≡ Some b → 826 ≤ length buffer
+    → header_of b.n buffer ≡ export (Ok (length (header_text b.n))) (over (header_text b.n) buffer)
 header-written = header-written-proof
 
 pub report-written : (bytes amounts buffer : List ℕ) (b : Begun)
-    → begin_of (read_of bytes) amounts ≡ beginning.Begun b → 826 ≤ length buffer
+    → begin_of (read_of bytes) amounts ≡ Some b → 826 ≤ length buffer
     → (xold x : Float) (offered : Bool) (y : List Float) → length y ≡ b.n
     → line_at (Report xold x offered) y buffer
-    ≡ noted (Put (Written (length (record_text x y)))) (over (record_text x y) buffer)
+    ≡ noted (Some (Ok (length (record_text x y)))) (over (record_text x y) buffer)
 report-written = report-written-proof

@@ -6,9 +6,8 @@ ghost use Rattle.model_run.specs.Host.{answered_by};
 ghost use Rattle.model_run.specs.Budget.{budget};
 ghost use Rattle.reports.specs.Step.{is_told, told_of};
 
-use crate::beginning::Pending;
 use crate::turn::turned;
-use state::talk::Request;
+use state::talk::{Call, Request};
 
 // More requests than any run has: 2 to the 28th.
 pub const BUDGET: u64 = 268_435_456;
@@ -26,7 +25,7 @@ fn is_told(request: Request) -> bool
 
 // One turn at least, and on until a point is reported or the run has ended.
 pub fn next_report(
-    pending: Pending,
+    pending: Call,
     reactions: usize,
     rates: &[f64],
     species: &[usize],
@@ -52,7 +51,7 @@ pub fn next_report(
     y_perturbed: &mut [f64],
     f_perturbed: &mut [f64],
     f_origin: &mut [f64],
-) -> Pending
+) -> Call
     ensures { point result.run result.request result.place (memory
         (amounts y.new f0.new scal.new cont.new)
         (newton z1.new z2.new z3.new f1.new f2.new f3.new)

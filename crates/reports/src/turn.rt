@@ -5,38 +5,29 @@ ghost use Rattle.history.specs.History.{point, next_point};
 ghost use Rattle.model_run.specs.Host.{answered_by};
 ghost use Rattle.model_run.specs.Budget.{turn_of};
 
-use crate::beginning::Pending;
 use model_run::host::answer;
 use radau::advance::Resumed;
-use state::talk::Answer;
+use state::talk::{Call, Refused};
 
 // Where an answer leaves the talk; a refusal leaves the request open.
-fn next(pending: Pending, answer: Answer) -> Pending
+fn next(pending: Call, answer: Result<Call, Refused>) -> Call
     ensures { (m w : Memory)
         → point result.run result.request result.place w
         ≡ next_point (point pending.run pending.request pending.place m) answer w }
 {
     match answer {
-        Answer::Asked(run, request, place) => Pending {
-            run,
-            request,
-            place,
+        Ok(call) => call,
+        Err(refused) => Call {
+            run: refused.run,
+            request: pending.request,
+            place: pending.place,
         },
-        Answer::Refused(run, _) => {
-            let request = pending.request;
-            let place = pending.place;
-            Pending {
-                run,
-                request,
-                place,
-            }
-        }
     }
 }
 
 // The host does what is asked, and the run is advanced by its reply.
 pub fn turned(
-    pending: Pending,
+    pending: Call,
     reactions: usize,
     rates: &[f64],
     species: &[usize],
@@ -62,7 +53,7 @@ pub fn turned(
     y_perturbed: &mut [f64],
     f_perturbed: &mut [f64],
     f_origin: &mut [f64],
-) -> Pending
+) -> Call
     ensures { point result.run result.request result.place
         (memory
         (amounts y.new f0.new scal.new cont.new)

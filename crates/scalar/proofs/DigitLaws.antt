@@ -1,16 +1,16 @@
 -- The arithmetic of src/digits.rt and of a number at full width: a root digit by digit, what a number has beyond
 -- a square, and m * 2 ^ w.
 use Prim.Native.Nat.{ℕ, zero, suc, ◌+◌, ◌-◌, ◌*◌, ◌/◌, ◌%◌, ◌^◌, ◌≤◌, ◌<◌}
-use mathlib.Core.Path.{◌≡◌, refl, sym, ap, subst, ◌∙◌}
-use native.Mathlib.Nat.{pow-succ', mul_assoc, mul_comm, mul_left_comm, lt_of_not-le, mul-le-mul, mul-le-mul_right}
-use native.Mathlib.Nat.{mul-le-mul_left, not-suc-le-zero, div-le_self, mod-eq_of_lt}
+use mathlib.Core.Path.{◌≡◌, sym, ap, subst, ◌∙◌}
+use native.Mathlib.Nat.{pow-succ', mul_assoc, mul_left_comm, lt_of_not-le, mul-le-mul_right}
+use native.Mathlib.Nat.{not-suc-le-zero, mod-eq_of_lt}
 use native.Mathlib.Nat.{le_trans, le_of_eq, not-le_of_lt}
 use native.Mathlib.Omega.{arith}
 use lib.Pow.{pow-add, pow_mono, shr-shr, shl_lt}
 use lib.Count.{count_leading_zeros, leading_top}
 use Rattle.words.specs.Patterns.{units_in_one}
 use Rattle.scalar.specs.Steps.{Digits, Near, FullWidth}
-use Rattle.scalar.proofs.Squares.{square-mono, square-shows, square_above}
+use Rattle.scalar.proofs.Squares.{square-shows}
 
 -- ---- a root digit by digit
 
@@ -24,66 +24,35 @@ two-more m l p h e =
     let s : p ≡ m / 2 ^ (2 * (l - 1)) / 4 = e ∙ ap (λ (n : ℕ). m / 2 ^ n) k ∙ sym (shr-shr m (2 * (l - 1)) 2) in
     omega arith
 
-pub no_shift : (m l : ℕ) → l ≤ 0 → m / 2 ^ (2 * l) ≡ m
-no_shift m zero h = omega arith
-no_shift m (suc l) h = absurd (not-suc-le-zero h)
+-- two zeros more
+pub zeros-more : (m k p : ℕ) → p ≡ m * 2 ^ (2 * k) → 4 * p + 0 ≡ m * 2 ^ (2 * (k + 1))
+zeros-more m k p e =
+    let two : 2 * (k + 1) ≡ 2 * k + 2 = omega arith in
+    rw (two, pow-add 2 (2 * k) 2) (omega arith)
 
--- two zeros more, where l pairs of 26 are left
-four-times : (m i : ℕ) → 4 * (m * 2 ^ i) ≡ m * 2 ^ (i + 2)
-four-times m i = mul_left_comm 4 m (2 ^ i) ∙ ap (λ (x : ℕ). m * x) (mul_comm 4 (2 ^ i) ∙ sym (pow-add 2 i 2))
-
-pub zeros-more : (m l p : ℕ) → 0 < l → l ≤ 26 → p ≡ m * 2 ^ (52 - 2 * l) → 4 * p + 0 ≡ m * 2 ^ (52 - 2 * (l - 1))
-zeros-more m l p h g e =
-    let k : 52 - 2 * l + 2 ≡ 52 - 2 * (l - 1) = omega arith in
-    omega (arith, four-times m (52 - 2 * l) ∙ ap (λ (n : ℕ). m * 2 ^ n) k)
-
-pub all-zeros : (m l : ℕ) → l ≤ 0 → m * 2 ^ (52 - 2 * l) ≡ m * 2 ^ 52
-all-zeros m zero h = refl
-all-zeros m (suc l) h = absurd (not-suc-le-zero h)
-
--- the roots of these numbers are small
-pub root-of-part : (m l q r : ℕ) → m < 2 ^ 54 → q * q + r ≡ m / 2 ^ (2 * l) → q < 2 ^ 54
-root-of-part m l q r h e = omega (arith, square_above q, div-le_self m (2 ^ (2 * l)))
-
-pub root-small : (m l q r : ℕ) → m < 2 ^ 54 → q * q + r ≡ m * 2 ^ (52 - 2 * l) → q < 2 ^ 53
-root-small m l q r h e =
-    let p : m * 2 ^ (52 - 2 * l) ≤ m * 2 ^ 52 = mul-le-mul_left m (pow_mono {i = 52 - 2 * l} {j = 52} (omega arith)) in
-    square-shows (omega arith)
+-- the root of such a number is small
+pub root-small : (m q r : ℕ) → m < 2 ^ 54 → q * q + r ≡ m * 2 ^ 52 → q < 2 ^ 53
+root-small m q r h e = square-shows (omega arith)
 
 -- ---- what m * 2 ^ 52 has beyond the square of q = h * 2 ^ 27 + l
-
-pub halves-fit : (q : ℕ) → q < 2 ^ 53 → q / 2 ^ 27 * (q % 2 ^ 27) ≤ 2 ^ 26 * 2 ^ 27
-halves-fit q h =
-    mul-le-mul (let a : q / 2 ^ 27 ≤ 2 ^ 26 = omega arith in a) (let b : q % 2 ^ 27 ≤ 2 ^ 27 = omega arith in b)
-
-pub low_fits : (q : ℕ) → q % 2 ^ 27 * (q % 2 ^ 27) ≤ 2 ^ 27 * 2 ^ 27
-low_fits q = square-mono {a = q % 2 ^ 27} {b = 2 ^ 27} (omega arith)
-
-pub high_fits : (q : ℕ) → q < 2 ^ 53 → q / 2 ^ 27 * (q / 2 ^ 27) ≤ 2 ^ 26 * 2 ^ 26
-high_fits q h = square-mono {a = q / 2 ^ 27} {b = 2 ^ 26} (omega arith)
 
 parts : (m h l d e r : ℕ) → m ≡ 4 * (h * h) + d → d * 2 ^ 24 ≡ h * l + e → e * 2 ^ 28 ≡ l * l + r
     → (h * 2 ^ 27 + l) * (h * 2 ^ 27 + l) + r ≡ m * 2 ^ 52
 parts m h l d e r x y z = omega arith
 
-module _ (m q : ℕ) where
+module _ (m q d e r : ℕ) where
   abbrev h : ℕ
   h = q / 2 ^ 27
 
   abbrev l : ℕ
   l = q % 2 ^ 27
 
-  abbrev d : ℕ
-  d = m - 4 * (h * h)
-
-  abbrev e : ℕ
-  e = d * 2 ^ 24 - h * l
-
-  pub beyond : 4 * (h * h) ≤ m → h * l ≤ d * 2 ^ 24 → l * l ≤ e * 2 ^ 28 → q * q + (e * 2 ^ 28 - l * l) ≡ m * 2 ^ 52
+  pub beyond : (4 * (h * h) ≤ m) × (d ≡ m - 4 * (h * h)) → (h * l ≤ d * 2 ^ 24) × (e ≡ d * 2 ^ 24 - h * l)
+      → (l * l ≤ e * 2 ^ 28) × (r ≡ e * 2 ^ 28 - l * l) → q * q + r ≡ m * 2 ^ 52
   beyond a b c =
       let s : h * 2 ^ 27 + l ≡ q = omega arith in
-      subst (λ (x : ℕ). x * x + (e * 2 ^ 28 - l * l) ≡ m * 2 ^ 52) s
-      (parts m h l d e (e * 2 ^ 28 - l * l) (omega arith) (omega arith) (omega arith))
+      subst (λ (x : ℕ). x * x + r ≡ m * 2 ^ 52) s
+      (parts m h l d e r (omega (arith, a.0, a.1)) (omega (arith, b.0, b.1)) (omega (arith, c.0, c.1)))
 
 pub near-of-digits : {n q r : ℕ} → Digits n q r → Near n q r
 near-of-digits d = record { sum = d.sum; left = omega (arith, d.left) }

@@ -110,11 +110,11 @@ module _ (m : ℕ) (v : Float) (l : 1 ≤ m) (h : m ≤ 17) where
   unfolding root_of pick
   of-form = rw (le-leb 1 m l, le-leb m 17 h)
 
-  pub of_nan : is_nan v ≡ true → v ≡ root_of m v
+  pub of_nan : is_nan v ≡ true → root_of m v ≡ nan
   unfolding root_of_form is_nan
-  of_nan e = by v e ∙ sym of-form
+  of_nan e = of-form ∙ by v e
     where
-      by : (x : Float) → is_nan x ≡ true → x ≡ root_of_form m x
+      by : (x : Float) → is_nan x ≡ true → root_of_form m x ≡ nan
       by nan t = refl
       by (inf s) t = never (sym t)
       by (fin s n d) t = never (sym t)

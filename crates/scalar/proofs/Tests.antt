@@ -1,5 +1,5 @@
--- What the code's tests of one double say of it: `x != x`, `x < 0.0`, `0.0 < x`, `x == 0.0` and `x == 1.0 / 0.0`, each
--- as a function of the double's form. Every proof that goes by such tests cites these five laws and then goes by form.
+-- What the code's tests of one double say of it: `x < 0.0`, `0.0 < x`, `x == 0.0`, `x == f64::INFINITY` and `x != x`,
+-- each as a function of the double's form. Every proof that goes by such tests cites these laws, then goes by form.
 use Prim.Native.Nat.{ℕ, zero, suc, ◌+◌, ◌*◌, ◌<◌}
 use mathlib.Core.Path.{◌≡◌, refl, sym, subst, ◌∙◌}
 use mathlib.Core.Bool.{Bool, true, false, not}
@@ -7,12 +7,12 @@ use native.Mathlib.Nat.{zero-mul, mul-pos, zero-lt-suc}
 use native.Mathlib.Omega.{arith}
 use lib.Dec.{T, lt→ltb}
 use lib.IntN.{ℤ}
-use lib.Ieee.{Float, nan, inf, fin, lt, eq, ne, div, is_nan, of_bits, up, down}
+use lib.Ieee.{Float, nan, inf, fin, lt, eq, ne, is_nan, of_bits, up, down}
 use lib.Ieee.Fits.{up_pos}
 use lib.Ieee.Positive.{positive}
 use borrow.Author.Tests.{lt-ltb, le-ltb, eq-eqb, ne_eqb}
-use Rattle.words.specs.Words.{◌⊘◌}
-use Rattle.words.specs.Constants.{«0·0», «1·0»}
+use Rattle.words.specs.Words.{double}
+use Rattle.words.specs.Constants.{«0·0»}
 
 -- ---- the forms
 
@@ -83,8 +83,8 @@ equals-zero (fin true zero e) =
 equals-zero (fin false zero e) = rw (eq-eqb (0 * up e * 1) (0 * 1 * down e) (none e ∙ sym (zeros e)))
 equals-zero (fin s (suc m) e) = rw (ne_eqb (suc m * up e * 1) (0 * 1 * down e) (omega (arith, some m e, zeros e)))
 
-pub equals-infinity : (x : Float) → eq x («1·0» ⊘ «0·0») ≡ infinite x
-unfolding eq div of_bits
+pub equals-infinity : (x : Float) → eq x (double 0x7ff0_0000_0000_0000) ≡ infinite x
+unfolding eq of_bits
 equals-infinity nan = refl
 equals-infinity (inf true) = refl
 equals-infinity (inf false) = refl
@@ -98,7 +98,7 @@ differs (inf false) = refl
 differs (fin true m e) = rw (eq-eqb (m * up e * down e) (m * up e * down e) refl)
 differs (fin false m e) = rw (eq-eqb (m * up e * down e) (m * up e * down e) refl)
 
--- what passes `x != x`, `x < 0.0`, `x == 0.0` and `x == 1.0 / 0.0` is finite and above zero
+-- what passes `x.is_nan()`, `x < 0.0`, `x == 0.0` and `x == f64::INFINITY` is finite and above zero
 pub past-tests : (x : Float) → is_nan x ≡ false → negative x ≡ false
     → is_zero x ≡ false → infinite x ≡ false → T (positive x)
 unfolding is_nan
@@ -110,6 +110,6 @@ past-tests (fin true (suc m) e) a b c d = never b
 past-tests (fin false (suc m) e) a b c d = lt→ltb 0 (suc m) (zero-lt-suc m)
 
 -- the code's NaN
-pub nan_is : «0·0» ⊘ «0·0» ≡ nan
-unfolding div of_bits
+pub nan_is : double 0x7ff8_0000_0000_0000 ≡ nan
+unfolding of_bits
 nan_is = refl

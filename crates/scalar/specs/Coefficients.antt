@@ -1,10 +1,8 @@
 -- The coefficients of radau.rs (lines 816-846), each the double nearest to the Rust's decimal. specs/Exact.antt holds
 -- nine of them to exact numbers; the program replay_scalar holds all of them to the Rust's text.
-use Rattle.std.specs.Prelude.{ℕ, List, [], ◌∷◌, ltb, Float}
+use Rattle.std.specs.Prelude.{ℕ, List, [], ◌∷◌, ltb, Option, Some, None, Float}
 use Rattle.words.specs.Words.{double, ◌!◌}
 use Rattle.words.specs.Loop.{pick}
-use Rattle.scalar.specs.declared.coefficients.Entry.{Entry}
-use Rattle.scalar.specs.declared.coefficients.Entry.TheVariants.{Value, Outside}
 
 -- 0.155_051_025_721_682_2 [radau.rs:816]
 abbrev pub C1 : Float
@@ -123,5 +121,5 @@ coefficients =
     ∷ []
 
 -- what stands at place k of the table
-unfoldable pub entry_of : ℕ → Entry
-entry_of k = pick (ltb k 27) (Value (coefficients ! k)) Outside
+unfoldable pub entry_of : ℕ → Option Float
+entry_of k = pick (ltb k 27) (Some (coefficients ! k)) None

@@ -4,13 +4,11 @@
 -- double; the cubic u^3-9u^2+36u-60 changes sign within two doubles either way of U1.' Every comparison is one of whole
 -- numbers, in units of the smallest double.
 use Rattle.std.specs.Prelude.{ℕ, suc, ◌+◌, ◌-◌, ◌*◌, ◌^◌, ◌≤◌, ◌<◌, Bool, true, false, ◌&&◌, List, [], ◌∷◌, T, ltb, ℤ}
-use Rattle.std.specs.Prelude.{pos, negsuc, neg_ℤ, ◌-ℤ◌, ◌*ℤ◌, get_or, Float}
+use Rattle.std.specs.Prelude.{pos, negsuc, neg_ℤ, ◌-ℤ◌, ◌*ℤ◌, get_or, Option, Some, None, Float}
 use Rattle.std.specs.Float.{binary64}
 use Rattle.std.specs.Float.Ieee.{to_bits}
 use Rattle.words.specs.Loop.{pick}
 use Rattle.words.specs.Patterns.{units, units_in_one}
-use Rattle.scalar.specs.declared.coefficients.Entry.{Entry}
-use Rattle.scalar.specs.declared.coefficients.Entry.TheVariants.{Value, Outside}
 
 -- (a + b * q) / d; the root of the cubic; or no rule, where the source is copied
 pub data Exact : Type 0 where
@@ -91,9 +89,9 @@ pub record Between (x : Float) (e : Exact) : Type 0 where
   pub upper : T (more (signed_units (up (reach e) (to_bits binary64 x))) e)
 
 -- what may stand at place k of the table: a double that is right for its exact number; past the 27 entries nothing
-pub data RightAt : ℕ → Entry → Type 0 where
-  entry : (k : ℕ) (x : Float) → k < 27 → Between x (exact_at k) → RightAt k (Value x)
-  past : (k : ℕ) → 27 ≤ k → RightAt k Outside
+pub data RightAt : ℕ → Option Float → Type 0 where
+  entry : (k : ℕ) (x : Float) → k < 27 → Between x (exact_at k) → RightAt k (Some x)
+  past : (k : ℕ) → 27 ≤ k → RightAt k None
 
 -- the one test that runs over the table
 unfoldable pub between : Float → Exact → Bool

@@ -1,11 +1,10 @@
 -- What one step of the code hands to the next, in roots.rt, square_root.rt and digits.rt. Contracts of private
 -- functions cite these; no promise does.
-use Rattle.std.specs.Prelude.{ℕ, ◌+◌, ◌-◌, ◌*◌, ◌%◌, ◌^◌, ◌≤◌, ◌<◌, ◌≡◌, Bool, true, false, T, Float}
+use Rattle.std.specs.Prelude.{ℕ, ◌+◌, ◌-◌, ◌*◌, ◌%◌, ◌^◌, ◌≤◌, ◌<◌, ◌≡◌, Bool, true, false, T}
+use Rattle.std.specs.Prelude.{Option, Some, None, Float}
 use Rattle.std.specs.Float.Ieee.Positive.{positive}
 use Rattle.words.specs.Patterns.{units_in_one, infinity_pattern}
 use Rattle.scalar.specs.Root.{keeps}
-use Rattle.scalar.specs.declared.digits.Beyond.{Beyond}
-use Rattle.scalar.specs.declared.digits.Beyond.TheVariants.{Small, Other}
 
 -- v is positive and finite, and m an order that has a root
 pub record Ordered (m : ℕ) (v : Float) : Type 0 where
@@ -58,6 +57,6 @@ pub record Near (n q r : ℕ) : Type 0 where
   pub left : r ≤ 4 * q + 3
 
 -- what m * 2 ^ 52 has beyond the square of q, where it was found to be small
-unfoldable pub Remains : ℕ → ℕ → Beyond → Type 0
-Remains m q (Small r) = Near (m * 2 ^ 52) q r
-Remains m q Other = Unit
+unfoldable pub Remains : ℕ → ℕ → Option ℕ → Type 0
+Remains m q (Some r) = Near (m * 2 ^ 52) q r
+Remains m q None = Unit

@@ -1,8 +1,7 @@
 // The coefficients of the three-stage Radau IIA method, copied from radau.rs:816-846, and the table of them all.
-ghost use Rattle.std.specs.Prelude.{◌≡◌, ◌<◌};
-ghost use Rattle.words.specs.Words.{◌!◌};
-ghost use Rattle.scalar.specs.Coefficients.{coefficients, entry_of};
-ghost use Rattle.scalar.specs.Exact.{exact_at, Between, RightAt};
+ghost use Rattle.std.specs.Prelude.{◌≡◌};
+ghost use Rattle.scalar.specs.Coefficients.{entry_of};
+ghost use Rattle.scalar.specs.Exact.{RightAt};
 
 pub const C1: f64 = 0.155_051_025_721_682_2;
 
@@ -65,28 +64,10 @@ const TABLE: [f64; 27] = [
     TI00, TI01, TI02, TI10, TI11, TI12, TI20, TI21, TI22,
 ];
 
-// What stands at a place of the table.
-#[derive(Clone, Copy)]
-pub enum Entry {
-    Value(f64),
-    Outside,
-}
-
 // Entry k of the table, in the order of the text, from 0 on. Its exact number lies where 01 says: strictly between the
 // neighbours of the double.
-pub fn coefficient(k: usize) -> Entry
+pub fn coefficient(k: usize) -> Option<f64>
     ensures { (result ≡ entry_of k) × RightAt k result }
 {
-    if k < 27 {
-        return Entry::Value(table_entry(k));
-    }
-    Entry::Outside
-}
-
-// The entry itself, and the rule that its exact number lies where 01 says.
-fn table_entry(k: usize) -> f64
-    requires { k < 27 }
-    ensures { (result ≡ coefficients ! k) × Between result (exact_at k) }
-{
-    TABLE[k]
+    TABLE.get(k).copied()
 }

@@ -9,57 +9,40 @@ pub struct Cut {
     pub rem: u64,
 }
 
-// What a number has beyond the square of a guess, where that is small.
-#[derive(Clone, Copy)]
-pub enum Beyond {
-    Small(u64),
-    Other,
-}
-
 // The root of m * 2^52, or one less: the guess q, if its square is so near; else digit by digit.
+#[tactic(auto, unfolding(crate::specs::Steps::Remains))]
 pub fn wide_root(m: u64, q: u64) -> Cut
     requires { (m < 2 ^ 54) × (q < 2 ^ 53) }
     ensures { Near (m * 2 ^ 52) result.q result.rem }
 {
     match beyond_square(m, q) {
-        Beyond::Small(rem) => Cut { q, rem },
-        Beyond::Other => wide_digits(m),
+        Some(rem) => Cut { q, rem },
+        None => wide_digits(m),
     }
 }
 
 // What m * 2^52 has beyond the square of q, if that is small: taken off by the halves h and l of q, 26 and 27 digits,
 // so that each product fits.
 #[tactic(auto, unfolding(crate::specs::Steps::Remains))]
-fn beyond_square(m: u64, q: u64) -> Beyond
+fn beyond_square(m: u64, q: u64) -> Option<u64>
     requires { (m < 2 ^ 54) × (q < 2 ^ 53) }
     ensures { Remains m q result }
 {
     let h = q / 0x800_0000;
     let l = q % 0x800_0000;
-    let a = 4 * (h * h);
-    if m < a {
-        return Beyond::Other;
+    let d = m.checked_sub(4 * (h * h))?;
+    if 0x80_0000_0000 <= d {
+        return None;
     }
-    if 0x80_0000_0000 <= m - a {
-        return Beyond::Other;
+    let e = (d * 0x100_0000).checked_sub(h * l)?;
+    if 0x8_0000_0000 <= e {
+        return None;
     }
-    let e = (m - a) * 0x100_0000;
-    let f = h * l;
-    if e < f {
-        return Beyond::Other;
+    let rem = (e * 0x1000_0000).checked_sub(l * l)?;
+    if 4 * q + 3 < rem {
+        return None;
     }
-    if 0x8_0000_0000 <= e - f {
-        return Beyond::Other;
-    }
-    let s = (e - f) * 0x1000_0000;
-    let t = l * l;
-    if s < t {
-        return Beyond::Other;
-    }
-    if 4 * q + 3 < s - t {
-        return Beyond::Other;
-    }
-    Beyond::Small(s - t)
+    Some(rem)
 }
 
 // The root of m * 2^52, digit by digit: the digits of m, two at a time, then 26 pairs of zeros.
@@ -68,9 +51,7 @@ fn wide_digits(m: u64) -> Cut
     ensures { Digits (m * 2 ^ 52) result.q result.rem }
 {
     let mut cut = whole_digits(m);
-    let mut left: u64 = 26;
-    while 0 < left {
-        left -= 1;
+    for _ in 0..26u64 {
         cut = digit(cut, 0);
     }
     cut
@@ -81,9 +62,7 @@ fn whole_digits(m: u64) -> Cut
     ensures { Digits m result.q result.rem }
 {
     let mut cut = Cut { q: 0, rem: 0 };
-    let mut left: u64 = 27;
-    while 0 < left {
-        left -= 1;
+    for left in (0..27u64).rev() {
         cut = digit(cut, (m >> (2 * left)) % 4);
     }
     cut

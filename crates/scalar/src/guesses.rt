@@ -1,12 +1,12 @@
 // Guesses at roots, in plain arithmetic on doubles. Nothing rests on them: whoever takes a guess tests it, and
 // a bad one only costs time. A guess starts from the pattern b of v, divided by the order, which is the
 // logarithm cut to a few digits.
-ghost use Rattle.std.specs.Prelude.{◌<◌, ◌≤◌, ◌^◌};
+ghost use Rattle.std.specs.Prelude.{◌<◌, ◌≤◌, ◌/◌, ◌^◌};
 ghost use Rattle.words.specs.Patterns.{infinity_pattern};
 
-use crate::patterns::{number, pattern};
+use crate::patterns::{INFINITY, number, pattern};
 
-// Orders 3, 4 and 5: y is the inverse root to four digits, r how far it is off (v * y^m is 1 - r), w * series the root
+// Orders 2 to 5: y is the inverse root to four digits, r how far it is off (v * y^m is 1 - r), w * series the root
 // to 29 digits, and a step by the tangent doubles them. The series are fits to (1 - r)^(1/m - 1) on r's range.
 const THIRD: [f64; 8] = [
     0.999_999_999_967_272_1,
@@ -58,40 +58,19 @@ fn series(c: [f64; 8], r: f64) -> f64 {
     c[0] + c[1] * r + (c[2] + c[3] * r) * s + (c[4] + c[5] * r + (c[6] + c[7] * r) * s) * (s * s)
 }
 
-fn third(b: u64, v: f64) -> f64
-    requires { b < infinity_pattern }
+// A guess at the root of order M, by the series of that order, and the pattern that is less b / M the inverse root's.
+fn fitted<const M: u32>(from: u64, c: [f64; 8], b: u64, v: f64) -> f64
+    requires { (0 < M) × (M < 8) × (infinity_pattern / M ≤ from) × (from ≤ infinity_pattern) × (b < infinity_pattern) }
 {
-    let inverse = 0.333_333_333_333_333_3 / v;
-    let y = number(0x553e_f4c7_9b20_5241 - b / 3);
-    let h = y * y;
-    let x = v * h * series(THIRD, 1.0 - v * y * h);
-    x - (x * x * x - v) * (x * inverse)
-}
-
-fn fourth(b: u64, v: f64) -> f64
-    requires { b < infinity_pattern }
-{
-    let inverse = 0.25 / v;
-    let y = number(0x4feb_0f10_8648_2b73 - b / 4);
-    let w = v * y * (y * y);
-    let x = w * series(FOURTH, 1.0 - w * y);
-    let x2 = x * x;
-    x - (x2 * x2 - v) * (x * inverse)
-}
-
-fn fifth(b: u64, v: f64) -> f64
-    requires { b < infinity_pattern }
-{
-    let inverse = 0.2 / v;
-    let y = number(0x4cb8_abd6_f191_fd58 - b / 5);
-    let h = y * y;
-    let k = h * h;
-    let x = v * k * series(FIFTH, 1.0 - v * y * k);
-    let x2 = x * x;
-    x - (x2 * x2 * x - v) * (x * inverse)
+    let m = u64::from(M);
+    let y = number(from - b / m);
+    let p = about_power(m - 1, y);
+    let x = v * p * series(c, 1.0 - v * y * p);
+    x - (about_power(m, x) - v) * (x * (1.0 / f64::from(M) / v))
 }
 
 // About x to the power m, for an m below 32: by squares, where the definition multiplies m times.
+#[inline(always)]
 fn about_power(m: u64, x: f64) -> f64 {
     let x2 = x * x;
     let x4 = x2 * x2;
@@ -101,16 +80,16 @@ fn about_power(m: u64, x: f64) -> f64 {
         p = x;
     }
     if m / 2 % 2 == 1 {
-        p = p * x2;
+        p *= x2;
     }
     if m / 4 % 2 == 1 {
-        p = p * x4;
+        p *= x4;
     }
     if m / 8 % 2 == 1 {
-        p = p * x8;
+        p *= x8;
     }
     if m / 16 == 1 {
-        p = p * (x8 * x8);
+        p *= (x8 * x8);
     }
     p
 }
@@ -131,7 +110,7 @@ fn other(m: u64, b: u64, v: f64) -> f64
     let c = (2.0 * f + 1.0) * (f + 1.0) / (12.0 * f);
     let inverse = 1.0 / v;
     let g = 0x3fef_4000_0000_0000 - 0x3fef_4000_0000_0000 / m + b / m;
-    if 0x7ff0_0000_0000_0000 < g {
+    if INFINITY < g {
         return 1.0;
     }
     better(m, v, f, c, inverse, better(m, v, f, c, inverse, number(g)))
@@ -142,16 +121,12 @@ pub fn root_guess(m: u64, b: u64, v: f64) -> u64
     requires { (1 ≤ m) × (m ≤ 17) × (b < infinity_pattern) }
     ensures { result < infinity_pattern }
 {
-    if m == 3 {
-        return pattern(third(b, v));
-    }
-    if m == 4 {
-        return pattern(fourth(b, v));
-    }
-    if m == 5 {
-        return pattern(fifth(b, v));
-    }
-    pattern(other(m, b, v))
+    pattern(match m {
+        3 => fitted::<3>(0x553e_f4c7_9b20_5241, THIRD, b, v),
+        4 => fitted::<4>(0x4feb_0f10_8648_2b73, FOURTH, b, v),
+        5 => fitted::<5>(0x4cb8_abd6_f191_fd58, FIFTH, b, v),
+        _ => other(m, b, v),
+    })
 }
 
 // A guess at the 53 digits of the square root of the number with the pattern b, less one: so the root that the digits
@@ -160,11 +135,6 @@ pub fn digits_guess(b: u64) -> u64
     requires { b < infinity_pattern }
     ensures { result < 2 ^ 53 }
 {
-    let v = number(b);
-    let inverse = 0.5 / v;
-    let y = number(0x5fe6_f011_1b84_788f - b / 2);
-    let w = v * y;
-    let x = w * series(SECOND, 1.0 - w * y);
-    let t = x - (x * x - v) * (x * inverse);
-    pattern(t) % 0x10_0000_0000_0000 + 0xf_ffff_ffff_ffff
+    let guess = fitted::<2>(0x5fe6_f011_1b84_788f, SECOND, b, number(b));
+    pattern(guess) % 0x10_0000_0000_0000 + 0xf_ffff_ffff_ffff
 }

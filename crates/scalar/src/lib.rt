@@ -11,7 +11,7 @@ pub mod powers;
 pub mod roots;
 pub mod square_root;
 
-pub use coefficients::{Entry, coefficient};
+pub use coefficients::coefficient;
 pub use order::{abs, clamp, max, min, signum};
 pub use powers::{four_fifths, inverse_root, power, quarter, two_thirds};
 pub use roots::root;

@@ -11,7 +11,7 @@ pub fn power(n: u8, x: f64) -> f64
 {
     let mut p = 1.0;
     for _ in 0..n {
-        p = p * x;
+        p *= x;
     }
     p
 }

@@ -14,19 +14,13 @@ use crate::guesses::digits_guess;
 pub fn sqrt(x: f64) -> f64
     ensures { (result ≡ sqrt_of x) × IsSquareRoot x result }
 {
-    if x != x {
-        return x;
-    }
     if x < 0.0 {
-        return 0.0 / 0.0;
+        return f64::NAN;
     }
-    if x == 0.0 {
+    if x.is_nan() || x == 0.0 || x == f64::INFINITY {
         return x;
     }
-    if x == 1.0 / 0.0 {
-        return x;
-    }
-    f64::from_bits(root_pattern(f64::to_bits(x)))
+    f64::from_bits(root_pattern(x.to_bits()))
 }
 
 // The pattern of the root of the number with the pattern b. The digits may be one less than the root's,

@@ -24,7 +24,7 @@ use Rattle.sheet.specs.declared.kind.Phase.TheVariants as phase
 use Rattle.sheet.specs.Writes.{spell_of, writes, Fit}
 use Rattle.sheet.proofs.Inverse.{length_digits, width-by-few}
 use Rattle.sheet.proofs.Passages.{ended, Passed, numbers-passed, numbers-right}
-use Rattle.sheet.proofs.ReaderLaws.{sheet-by, settings-good, amounts-good, count-good, reactions-all}
+use Rattle.sheet.proofs.ReaderLaws.{read-whole}
 use Rattle.sheet.proofs.Parts.{Parts, parts-of, Lengths, lengths-of}
 use Rattle.sheet.proofs.FillLaws.{length-reactions}
 use Rattle.sheet.proofs.AnswerLaws.{read_whole}
@@ -221,15 +221,13 @@ module _ (m : Model) (v : Valid m) where
       + ended (kind_of phase.Count 0) 0
       (length m.reactions ∷ [])) [] [] fits.reactions) in
       rw (sheet-written m)
-      (sheet-by _
-      (settings-good (sym e1) (amounts-good (settings_of m) (sym e2) (count-good (settings_of m) m.amounts (sym e3)
-      (reactions-all (settings_of m) m.amounts (length m.reactions ∷ []) (sym e4) refl)))))
+      (read-whole _ _ _ _ (sym e1) _ _ _ (sym e2) _ _ _ (sym e3) (sym e4))
 
 -- ---- a sheet is short
 
 pub spell-short : (k : Kind) (v : ℕ) → length (spell_of k v) ≤ 16
 unfolding spell_of
-spell-short k v = rw length_digits (width-by-few k.hex v)
+spell-short k v = rw length_digits (width-by-few k.notation v)
 
 writes_short : (k : ℕ → Kind) (us : List ℕ) (i : ℕ) → length (writes k i us) ≤ length us * 17
 unfolding writes

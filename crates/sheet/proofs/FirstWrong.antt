@@ -20,8 +20,7 @@ use Rattle.sheet.specs.Numbers.{number_of, Piece, got, wrong, followed, piece_of
 use Rattle.sheet.specs.Numbers.{ends_of, Passage, passed, stuck, pursued, numbers_of}
 use Rattle.sheet.specs.Reader.{Judged, whole, broken, at_end, after_reactions, after_count, after_amounts}
 use Rattle.sheet.specs.Reader.{after_settings, sheet_of, malformed, too_long, told_of, read_of}
-use Rattle.sheet.specs.declared.digits.Spelt.{Spelt}
-use Rattle.sheet.specs.declared.digits.Spelt.TheVariants.{Value, Wrong}
+use Rattle.std.proofs.Common.{Option, None, Some}
 use Rattle.sheet.specs.declared.kind.Kind.{Kind}
 use Rattle.sheet.specs.declared.kind.Phase.{Phase}
 use Rattle.sheet.specs.declared.kind.Phase.TheVariants as phase
@@ -109,11 +108,11 @@ module _ (k : Kind) (low : k.mark < 48) (p : List ℕ) where
             k.mark p + 1) p r (let z : found_of k.mark p + 1 ≤ length p = omega arith in z),
       )))
 
-  near-local : (l : found_of k.mark p < length p) (t : Spelt)
+  near-local : (l : found_of k.mark p < length p) (t : Option ℕ)
       → number_of k (take (found_of k.mark p) p) ≡ t → Local k p
   unfolding followed lines_in
-  near-local l Wrong e = bad (λ r. near l r ∙ ap (λ t. followed t (drop (found_of k.mark p + 1) p ++ r)) e)
-  near-local l (Value v) e =
+  near-local l None e = bad (λ r. near l r ∙ ap (λ t. followed t (drop (found_of k.mark p + 1) p ++ r)) e)
+  near-local l (Some v) e =
       let d : p ≡ take (found_of k.mark p) p ++ (k.mark ∷ drop (found_of k.mark p + 1) p) =
       split_at p (found_of k.mark p) 0 l ∙ (rw (found_at k.mark p l, add-one)) in
       let x : lines_in (take (found_of k.mark p) p)

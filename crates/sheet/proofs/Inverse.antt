@@ -16,12 +16,13 @@ use lib.Seq.{split_at, take-append_seam, drop-append-add}
 use Rattle.words.specs.Loop.{pick}
 use Rattle.words.proofs.Branch.{yes, no, pick_yes, pick_no, pick_all}
 use Rattle.bits.specs.Digit.{digit_of}
-use Rattle.sheet.specs.Digits.{byte_of, power, digits, width_of, spelled_of, base_of, width_by, found_of}
+use Rattle.sheet.specs.Digits.{byte_of, power, digits, width_of, after_digit, spelled_of, base_of, width_by, found_of}
 use Rattle.sheet.specs.Sheet.{Every}
 use Rattle.sheet.specs.Numbers.{judged_of, number_of, got, wrong, followed, piece_of}
 use Rattle.sheet.specs.Writes.{spell_of, Of}
-use Rattle.sheet.specs.declared.digits.Spelt.{Spelt}
-use Rattle.sheet.specs.declared.digits.Spelt.TheVariants.{Value, Wrong}
+use Rattle.std.proofs.Common.{Option, None, Some}
+use Rattle.sheet.specs.declared.spelling.Notation.{Notation}
+use Rattle.sheet.specs.declared.spelling.Notation.TheVariants.{Decimal, Hexadecimal}
 use Rattle.sheet.specs.declared.kind.Kind.{Kind}
 use Rattle.sheet.proofs.NumbersLaws.{base-small, number-judged, judged-right}
 
@@ -38,7 +39,12 @@ module _ {A : Type 0} {x y z : A} where
   passed-by true never e = absurd (never e)
   passed-by false never e = (refl, e)
 
-no_value : {v : ℕ} → Wrong ≡ Value v → ⊥
+  either : {P : Type 0} (t : Bool) → (t ≡ true → x ≡ z → P) → (t ≡ false → y ≡ z → P) → pick t x y ≡ z → P
+  unfolding pick
+  either true f g e = f refl e
+  either false f g e = g refl e
+
+no_value : {v : ℕ} → None ≡ Some v → ⊥
 no_value e = let z : ◌≡◌ {A = ℕ} 0 1 = cc in omega arith
 
 not-got : {v : ℕ} {rest : List ℕ} → wrong ≡ got v rest → ⊥
@@ -46,31 +52,33 @@ not-got e = let z : ◌≡◌ {A = ℕ} 0 1 = cc in omega arith
 
 -- ---- a digit
 
-digit-of-byte : (d : ℕ) → d < 16 → digit_of (byte_of d) ≡ d
+digit-of-byte : (d : ℕ) → d < 16 → digit_of (byte_of d) ≡ Some d
 unfolding byte_of digit_of
 digit-of-byte d h =
-    pick_all (λ x. digit_of x ≡ d) (ltb d 10) (48 + d) (87 + d)
+    pick_all (λ x. digit_of x ≡ Some d) (ltb d 10) (48 + d) (87 + d)
     (λ e. let l : d < 10 = ltb-true _ _ e in
     let r : 48 + d - 48 ≡ d = omega arith in
-    pick_no _ _ (le-ltb (48 + d) 48 (omega arith)) ∙ pick_yes _ _ (le-leb (48 + d) 57 (omega arith)) ∙ r)
+    pick_no _ _ (le-ltb (48 + d) 48 (omega arith)) ∙ pick_yes _ _ (le-leb (48 + d) 57 (omega arith)) ∙ ap Some r)
     (λ e. let l : 10 ≤ d = ltb-false _ _ e in
     let r : 87 + d - 87 ≡ d = omega arith in
     pick_no _ _ (le-ltb (87 + d) 48 (omega arith)) ∙ pick_no _ _ (lt-leb (87 + d) 57 (omega arith))
     ∙ pick_no _ _ (le-ltb (87 + d) 97 (omega arith))
-    ∙ pick_yes _ _ (le-leb (87 + d) 102 (omega arith)) ∙ r)
+    ∙ pick_yes _ _ (le-leb (87 + d) 102 (omega arith)) ∙ ap Some r)
 
-byte-of-digit : (x : ℕ) → digit_of x < 16 → x ≡ byte_of (digit_of x)
+byte-of-digit : (x d : ℕ) → digit_of x ≡ Some d → x ≡ byte_of d
 unfolding byte_of digit_of
-byte-of-digit x =
-    pick_all (λ t. t < 16 → x ≡ byte_of t) (ltb x 48) 16 _ (λ e h. absurd (let z : ⊥ = omega arith in z))
-    (λ e. let l : 48 ≤ x = ltb-false _ _ e in
-    pick_all (λ t. t < 16 → x ≡ byte_of t) (leb x 57) (x - 48) _
-    (λ e. let u : x ≤ 57 = leb-true _ _ e in λ h. yes _ _ _ (lt-ltb (x - 48) 10 (omega arith)) (omega arith))
-    (λ e. pick_all (λ t. t < 16 → x ≡ byte_of t) (ltb x 97) 16 _ (λ e h. absurd (let z : ⊥ = omega arith in z))
-    (λ e. let l : 97 ≤ x = ltb-false _ _ e in
-    pick_all (λ t. t < 16 → x ≡ byte_of t) (leb x 102) (x - 87) 16
-    (λ e h. no _ _ _ (le-ltb (x - 87) 10 (omega arith)) (omega arith))
-    (λ e h. absurd (let z : ⊥ = omega arith in z)))))
+byte-of-digit x d e =
+    let a = passed-by (ltb x 48) no_value e in
+    let l : 48 ≤ x = ltb-false _ _ a.0 in
+    either (leb x 57) (λ u h. let z : x ≤ 57 = leb-true _ _ u in let y : x - 48 ≡ d = (let h1 = h in cc) in
+    yes _ _ _ (lt-ltb d 10 (omega arith)) (omega arith))
+    (λ u h. let b = passed-by (ltb x 97) no_value h in
+    let m : 97 ≤ x = ltb-false _ _ b.0 in
+    let c = taken (leb x 102) no_value b.1 in
+    let n : x ≤ 102 = leb-true _ _ c.0 in
+    let y : x - 87 ≡ d = (let h1 = c.1 in cc) in
+    no _ _ _ (le-ltb d 10 (omega arith)) (omega arith))
+    a.1
 
 byte_high : (d : ℕ) → 48 ≤ byte_of d
 unfolding byte_of
@@ -94,18 +102,18 @@ digits-high b zero v = tt
 digits-high b (suc k) v = (byte_high (v / power b k), digits-high b k (v % power b k))
 
 module _ (b : ℕ) (some : 0 < b) (few : b ≤ 16) where
-  pub spelled-digits : (k v acc : ℕ) → v < power b k → spelled_of b acc (digits b k v) ≡ Value (acc * power b k + v)
-  unfolding spelled_of digits power
-  spelled-digits zero v acc h = ap Value (let e : acc ≡ acc * 1 + v = omega arith in e)
+  pub spelled-digits : (k v acc : ℕ) → v < power b k → spelled_of b acc (digits b k v) ≡ Some (acc * power b k + v)
+  unfolding spelled_of after_digit digits power
+  spelled-digits zero v acc h = ap Some (let e : acc ≡ acc * 1 + v = omega arith in e)
   spelled-digits (suc k) v acc h =
       let P : ℕ = power b k in
       let pos : 0 < power b k = power-some b k some in
       let below : v / power b k
       < b = (div-lt_iff_lt-mul pos).1 (let z : v < b * power b k = omega (arith, mul_comm (power b k) b) in z) in
-      let d : digit_of (byte_of (v / power b k)) ≡ v / power b k = digit-of-byte (v / power b k) (omega arith) in
+      let d : digit_of (byte_of (v / power b k)) ≡ Some (v / power b k) = digit-of-byte (v / power b k) (omega arith) in
       rw d (pick_yes _ _ (lt-ltb (v / power b k) b below)
       ∙ spelled-digits k (v % power b k) (acc * b + v / power b k) (mod-lt v pos)
-      ∙ ap Value (let e : (acc * b + v / power b k) * power b k + v % power b k ≡ acc * (power b k * b) + v = omega (
+      ∙ ap Some (let e : (acc * b + v / power b k) * power b k + v % power b k ≡ acc * (power b k * b) + v = omega (
         arith,
         add-mul (acc * b) (v / power b k) (power b k),
         mul_assoc acc b (power b k),
@@ -120,55 +128,69 @@ module _ (b : ℕ) (some : 0 < b) (few : b ≤ 16) where
     pub is : v ≡ acc * power b (length text) + value
     pub by : text ≡ digits b (length text) value
 
-  spelled-inverse : (text : List ℕ) (acc v : ℕ) → spelled_of b acc text ≡ Value v → Spells text acc v
+  -- a digit that was taken, and what followed
+  record Taken (t : Option ℕ) (more : ℕ → Option ℕ) (v : ℕ) : Type 0 where
+    digit : ℕ
+    is : t ≡ Some digit
+    below : digit < b
+    then : more digit ≡ Some v
+
+  digit-taken : (t : Option ℕ) {more : ℕ → Option ℕ} {v : ℕ} → after_digit b t more ≡ Some v → Taken t more v
+  unfolding after_digit
+  digit-taken None e = absurd (no_value e)
+  digit-taken (Some d) e =
+      let t = taken (ltb d b) no_value e in
+      record { digit = d; is = refl; below = ltb-true _ _ t.0; then = t.1 }
+
+  spelled-inverse : (text : List ℕ) (acc v : ℕ) → spelled_of b acc text ≡ Some v → Spells text acc v
   unfolding spelled_of digits power
   spelled-inverse [] acc v e =
       let a : acc ≡ v = cc in
       record { value = 0; low = omega arith; is = omega arith; by = refl }
   spelled-inverse (x ∷ text) acc v e =
-      let t : (ltb (digit_of x) b ≡ true)
-      × (spelled_of b (acc * b + digit_of x) text ≡ Value v) = taken (ltb (digit_of x) b) no_value e in
-      let ih : Spells text (acc * b + digit_of x) v = spelled-inverse text (acc * b + digit_of x) v t.1 in
-      let d : ℕ = digit_of x in
+      let f = digit-taken (digit_of x) e in
+      let d : ℕ = f.digit in
+      let ih : Spells text (acc * b + f.digit) v = spelled-inverse text (acc * b + f.digit) v f.then in
       let P : ℕ = power b (length text) in
-      let l : digit_of x < b = ltb-true _ _ t.0 in
+      let l : f.digit < b = f.below in
       let pos : 0 < power b (length text) = power-some b (length text) some in
-      let q : (digit_of x * power b (length text) + ih.value) / power b (length text) ≡ digit_of x =
-      mul-add-div_right pos (digit_of x) ih.value
-      ∙ (let z : digit_of x + ih.value / power b (length text) ≡ digit_of x = omega (arith, div-eq_of_lt ih.low) in
+      let q : (f.digit * power b (length text) + ih.value) / power b (length text) ≡ f.digit =
+      mul-add-div_right pos f.digit ih.value
+      ∙ (let z : f.digit + ih.value / power b (length text) ≡ f.digit = omega (arith, div-eq_of_lt ih.low) in
       z) in
-      let r : (digit_of x * power b (length text) + ih.value) % power b (length text) ≡ ih.value =
-      mul-add-mod_self_right (digit_of x) (power b (length text)) ih.value ∙ mod-eq_of_lt ih.low in
+      let r : (f.digit * power b (length text) + ih.value) % power b (length text) ≡ ih.value =
+      mul-add-mod_self_right f.digit (power b (length text)) ih.value ∙ mod-eq_of_lt ih.low in
       record {
-        value = digit_of x * power b (length text) + ih.value;
+        value = f.digit * power b (length text) + ih.value;
         low = omega (
           arith,
           ih.low,
           mul-le-mul_right (power b (length text)) l,
-          suc-mul (digit_of x) (power b (length text)),
+          suc-mul f.digit (power b (length text)),
           mul_comm (power b (length text)) b,
         );
         is = omega (
           arith,
           ih.is,
-          add-mul (acc * b) (digit_of x) (power b (length text)),
+          add-mul (acc * b) f.digit (power b (length text)),
           mul_assoc acc b (power b (length text)),
           ap (λ y. acc * y)
               (mul_comm b (power b (length text))),
         );
-        by = rw (q, r, ← byte-of-digit x (let z : digit_of x < 16 = omega arith in z)) (ap (λ y. x ∷ y) ih.by);
+        by = rw (q, r, ← byte-of-digit x f.digit f.is) (ap (λ y. x ∷ y) ih.by);
       }
 
 -- ---- a number of a kind
 
 -- a kind whose values fit their digits, and whose mark is no digit
 pub record Fine (k : Kind) : Type 0 where
-  pub bound : (v : ℕ) → v ≤ k.high → v < power (base_of k.hex) (width_by k.hex v)
+  pub bound : (v : ℕ) → v ≤ k.high → v < power (base_of k.notation) (width_by k.notation v)
   pub mark : k.mark < 48
 
-base-some : (hex : Bool) → 0 < base_of hex
+base-some : (n : Notation) → 0 < base_of n
 unfolding base_of
-base-some hex = pick_all (λ x. 0 < x) hex 16 10 (λ e. omega arith) (λ e. omega arith)
+base-some Decimal = omega arith
+base-some Hexadecimal = omega arith
 
 width_few : (v : ℕ) → width_of v ≤ 16
 unfolding width_of
@@ -183,9 +205,10 @@ width_few v =
     (λ e. pick_all (λ x. x ≤ 16) _ 8 _ (λ e. omega arith)
     (λ e. pick_all (λ x. x ≤ 16) _ 9 10 (λ e. omega arith) (λ e. omega arith)))))))))
 
-pub width-by-few : (hex : Bool) (v : ℕ) → width_by hex v ≤ 16
+pub width-by-few : (n : Notation) (v : ℕ) → width_by n v ≤ 16
 unfolding width_by
-width-by-few hex v = pick_all (λ x. x ≤ 16) hex 16 (width_of v) (λ e. omega arith) (λ e. width_few v)
+width-by-few Decimal v = width_few v
+width-by-few Hexadecimal v = omega arith
 
 pub width-bound : (v : ℕ) → v ≤ 9999999999 → v < power 10 (width_of v)
 unfolding width_of power
@@ -201,40 +224,43 @@ width-bound v h =
     (λ e. pick_all (λ x. v < power 10 x) (ltb v 1000000000) 9 10 (λ e. ltb-true _ _ e) (λ e. omega arith)))))))))
 
 module _ (k : Kind) where
-  number-right : (v : ℕ) → Fine k → Of k v → number_of k (spell_of k v) ≡ Value v
+  number-right : (v : ℕ) → Fine k → Of k v → number_of k (spell_of k v) ≡ Some v
   unfolding spell_of
   number-right v f o =
-      let n : length (spell_of k v) ≡ width_by k.hex v = length_digits (base_of k.hex) (width_by k.hex v) v in
-      let z : 0 * power (base_of k.hex) (width_by k.hex v) + v ≡ v = omega arith in
-      let l : length (spell_of k v) ≤ 16 = omega (arith, width-by-few k.hex v) in
-      let e : spelled_of (base_of k.hex) 0 (spell_of k v)
-      ≡ Value v = spelled-digits (base_of k.hex) (base-some k.hex) (base-small k.hex) (width_by k.hex v) v 0
-      (f.bound v o.high) ∙ ap Value z in
+      let n : length (spell_of k v) ≡ width_by k.notation v =
+      length_digits (base_of k.notation) (width_by k.notation v) v in
+      let z : 0 * power (base_of k.notation) (width_by k.notation v) + v ≡ v = omega arith in
+      let l : length (spell_of k v) ≤ 16 = omega (arith, width-by-few k.notation v) in
+      let e : spelled_of (base_of k.notation) 0 (spell_of k v)
+      ≡ Some v =
+      spelled-digits (base_of k.notation) (base-some k.notation) (base-small k.notation) (width_by k.notation v) v 0
+      (f.bound v o.high) ∙ ap Some z in
       sym
-      (number-judged k (spell_of k v) l refl refl e (judged-right k (length (spell_of k v)) v refl n o.low o.high))
+      (number-judged k (spell_of k v) l refl refl e (judged-right k (length (spell_of k v)) v n o.low o.high))
 
-  judged-inverse : (text : List ℕ) (v : ℕ) (t : Spelt) → spelled_of (base_of k.hex) 0 text ≡ t
-      → judged_of k (length text) t ≡ Value v → (text ≡ spell_of k v) × Of k v
+  judged-inverse : (text : List ℕ) (v : ℕ) (t : Option ℕ) → spelled_of (base_of k.notation) 0 text ≡ t
+      → judged_of k (length text) t ≡ Some v → (text ≡ spell_of k v) × Of k v
   unfolding judged_of spell_of
-  judged-inverse text v Wrong es e = absurd (no_value e)
-  judged-inverse text v (Value u) es e =
-      let a = taken (eqb (length text) (width_by k.hex u)) no_value e in
+  judged-inverse text v None es e = absurd (no_value e)
+  judged-inverse text v (Some u) es e =
+      let a = taken (eqb (length text) (width_by k.notation u)) no_value e in
       let b = passed-by (ltb u k.low) no_value a.1 in
       let c = passed-by (ltb k.high u) no_value b.1 in
       let same : u ≡ v = (let c1 = c.1 in cc) in
-      let n : length text ≡ width_by k.hex u = eqb-true _ _ a.0 in
-      let sp : Spells (base_of k.hex) (base-some k.hex) (base-small k.hex) text 0 u =
-      spelled-inverse (base_of k.hex) (base-some k.hex)
-      (base-small k.hex) text 0 u es in
+      let n : length text ≡ width_by k.notation u = eqb-true _ _ a.0 in
+      let sp : Spells (base_of k.notation) (base-some k.notation) (base-small k.notation) text 0 u =
+      spelled-inverse (base_of k.notation) (base-some k.notation)
+      (base-small k.notation) text 0 u es in
       let w : sp.value ≡ u = omega (arith, sp.is) in (
         rw (← same) (sp.by ∙ (rw (w, n))),
         rw (← same) (record { low = ltb-false _ _ b.0; high = ltb-false _ _ c.0 }),
       )
 
-  pub number-inverse : (text : List ℕ) (v : ℕ) → number_of k text ≡ Value v → (text ≡ spell_of k v) × Of k v
+  pub number-inverse : (text : List ℕ) (v : ℕ) → number_of k text ≡ Some v → (text ≡ spell_of k v) × Of k v
   unfolding number_of
   number-inverse text v e =
-      judged-inverse text v (spelled_of (base_of k.hex) 0 text) refl (passed-by (ltb 16 (length text)) no_value e).1
+      judged-inverse text v (spelled_of (base_of k.notation) 0 text) refl
+      (passed-by (ltb 16 (length text)) no_value e).1
 
 -- ---- a number and its mark
 
@@ -255,12 +281,12 @@ found_at b (x ∷ s) =
 
 pub spell_high : (k : Kind) (v : ℕ) → Every (λ x. 48 ≤ x) (spell_of k v)
 unfolding spell_of
-spell_high k v = digits-high (base_of k.hex) (width_by k.hex v) v
+spell_high k v = digits-high (base_of k.notation) (width_by k.notation v) v
 
-followed-inverse : (t : Spelt) {r rest : List ℕ} {v : ℕ} → followed t r ≡ got v rest → (t ≡ Value v) × (r ≡ rest)
+followed-inverse : (t : Option ℕ) {r rest : List ℕ} {v : ℕ} → followed t r ≡ got v rest → (t ≡ Some v) × (r ≡ rest)
 unfolding followed
-followed-inverse (Value u) e = (cc, cc)
-followed-inverse Wrong e = absurd (not-got e)
+followed-inverse (Some u) e = (cc, cc)
+followed-inverse None e = absurd (not-got e)
 
 module _ (k : Kind) where
   pub piece-right : (v : ℕ) (rest : List ℕ) → Fine k → Of k v
@@ -284,7 +310,7 @@ module _ (k : Kind) where
       × (followed (number_of k (take (found_of k.mark s) s)) (drop (found_of k.mark s + 1) s) ≡ got v rest) =
       taken (ltb (found_of k.mark s) (length s)) not-got e in
       let l : found_of k.mark s < length s = ltb-true _ _ t.0 in
-      let u : (number_of k (take (found_of k.mark s) s) ≡ Value v)
+      let u : (number_of k (take (found_of k.mark s) s) ≡ Some v)
       × (drop (found_of k.mark s + 1) s ≡ rest) = followed-inverse (number_of k (take (found_of k.mark s) s))
       t.1 in
       let w : (take (found_of k.mark s) s ≡ spell_of k v)

@@ -1,25 +1,22 @@
--- The parts of a sheet read one after the other: each verdict of `compare/judge` is the definition's, and the counts of
+-- The parts of a sheet read one after the other: each verdict of `judge` is the definition's, and the counts of
 -- species and reactions are within bounds.
-use Prim.Native.Nat.{ℕ, zero, suc, ◌+◌, ◌*◌, ◌≤◌, ◌<◌}
-use mathlib.Core.Path.{◌≡◌, refl, sym, ap, ◌∙◌}
-use mathlib.Core.Bool.{Bool, true, false}
-use mathlib.Core.List.{List, [], ◌∷◌}
+use Rattle.std.proofs.Common.{◌≡◌, ℕ, zero, suc, ◌+◌, ◌*◌, ◌≤◌, ◌<◌, Result, Ok, Err, IfErr, List, [], ◌∷◌}
+use Rattle.std.proofs.Common.{refl, sym, ap, ◌∙◌, eqb}
 use native.Mathlib.Omega.{arith}
-use borrow.Author.Tests.{ltb-true, ltb-false}
-use lib.Dec.{ltb}
-use lib.ListN.{length, get_or, drop, take, drop_of_length-le}
-use lib.Seq.{drop-cons, take_all}
+use lib.ListN.{length, get_or, take}
+use lib.Seq.{take-append_seam}
+use Rattle.std.proofs.Common.{◌++◌}
 use Rattle.words.specs.Loop.{pick}
+use borrow.Author.Tests.{eq-eqb, ne_eqb}
 use Rattle.words.proofs.Branch.{pick_yes, pick_no, pick_all}
 use Rattle.sheet.specs.Kinds.{kind_of, setting_of}
-use Rattle.sheet.specs.Numbers.{Passage, passed, stuck, numbers_of, passage_at}
-use Rattle.sheet.specs.Reader.{Judged, whole, broken, at_end, after_reactions, after_count}
+use Rattle.sheet.specs.Numbers.{passed, stuck, numbers_of, part_of, passage_at}
+use Rattle.sheet.specs.Reader.{whole, broken, at_end, after_reactions, after_count}
 use Rattle.sheet.specs.Reader.{after_amounts, after_settings, sheet_of, judged_at, ended_of}
 use Rattle.sheet.specs.declared.kind.Kind.{Kind}
 use Rattle.sheet.specs.declared.kind.Phase.TheVariants as phase
 use Rattle.sheet.specs.declared.numbers.Progress.{Progress}
 use Rattle.sheet.specs.Writes.{Of, Fit}
-use Rattle.sheet.proofs.NumbersLaws.{good-passage, bad-passage}
 use Rattle.sheet.proofs.Passages.{Passed, numbers-passed}
 
 -- ---- bounds
@@ -56,179 +53,80 @@ count-bounded s n l L rest e =
     fit_at (kind_of phase.Count 0) p.us 0 0 p.came.fit (omega (arith, p.many)) in
     rw p.all (record { long = p.many; most = o.high })
 
--- ---- verdicts
+pub front-taken : (n : ℕ) (xs ys : List ℕ) → length xs ≡ n → take n (xs ++ ys) ≡ xs
+front-taken n xs ys e = rw (← e) (take-append_seam xs ys)
 
-by-good : {A : Type 0} (b : Bool) → (b ≡ true → A) → (b ≡ false → A) → A
-by-good true f g = f refl
-by-good false f g = g refl
+-- ---- how a part went
 
-pub bad-judged : (h a n r : List ℕ) (p : Progress) → p.good ≡ false → judged_at h a n r p ≡ broken p.lines
-unfolding judged_at
-bad-judged h a n r p e = pick_no _ _ e
+module _ (vs : List ℕ) {x : Result Progress ℕ} where
+  pub passage-good : {p : Progress} → x ≡ Ok p → passage_at vs x ≡ passed vs p.lines p.rest.now
+  unfolding passage_at
+  passage-good e = rw e refl
 
-pub good-judged : (h a n r : List ℕ) (p : Progress) → p.good ≡ true → judged_at h a n r p ≡ whole h a n r
-unfolding judged_at
-good-judged h a n r p e = pick_yes _ _ e
+  pub passage-bad : {lines : ℕ} → x ≡ Err lines → passage_at vs x ≡ stuck lines
+  unfolding passage_at
+  passage-bad e = rw e refl
 
-pub sheet-by : (s : List ℕ) {x : Judged}
-    → x ≡ after_settings (numbers_of (kind_of phase.Settings 0) 0 8 0 [] s) → x ≡ sheet_of s
-unfolding sheet_of
-sheet-by s e = e
+at-end : (h a n r : List ℕ) (p : Progress) (s : List ℕ) → p.rest.now ≡ s
+    → judged_at h a n r (ended_of p) ≡ at_end h a n r p.lines s
+unfolding judged_at ended_of at_end
+at-end h a n r p [] e = rw e (ap (judged_at h a n r) (pick_yes _ _ (eq-eqb 0 0 refl)))
+at-end h a n r p (x ∷ s) e =
+    rw e (ap (judged_at h a n r) (pick_no _ _ (ne_eqb (suc (length s)) 0 (λ q. let z : ⊥ = omega arith in z))))
 
-module _ {x : Judged} {p : Passage} where
-  pub settings-bad : {L : ℕ} → stuck L ≡ p → x ≡ broken L → x ≡ after_settings p
-  unfolding after_settings
-  settings-bad e f = f ∙ ap after_settings e
+-- ---- how far `judge` has come: the parts that were right, in the order in which they were read
 
-  pub settings-good : {h rest : List ℕ} {L : ℕ} → passed h L rest ≡ p
-      → x ≡ after_amounts h (numbers_of (kind_of phase.Amounts 0) 0 (get_or h 7 0) L [] rest) → x ≡ after_settings p
-  unfolding after_settings
-  settings-good e f = f ∙ ap after_settings e
+pub first-bad : (s : List ℕ) {L : ℕ} → stuck L ≡ part_of phase.Settings 0 8 0 s → broken L ≡ sheet_of s
+unfolding sheet_of after_settings
+first-bad s e = ap after_settings e
 
-  module _ (h : List ℕ) where
-    pub amounts-bad : {L : ℕ} → stuck L ≡ p → x ≡ broken L → x ≡ after_amounts h p
-    unfolding after_amounts
-    amounts-bad e f = f ∙ ap (after_amounts h) e
-
-    pub amounts-good : {a rest : List ℕ} {L : ℕ} → passed a L rest ≡ p
-        → x ≡ after_count h a (numbers_of (kind_of phase.Count 0) 0 1 L [] rest) → x ≡ after_amounts h p
-    unfolding after_amounts
-    amounts-good e f = f ∙ ap (after_amounts h) e
-
-  module _ (h a : List ℕ) where
-    pub count-bad : {L : ℕ} → stuck L ≡ p → x ≡ broken L → x ≡ after_count h a p
-    unfolding after_count
-    count-bad e f = f ∙ ap (after_count h a) e
-
-    pub count-good : {n rest : List ℕ} {L : ℕ} → passed n L rest ≡ p
-        → x ≡ after_reactions h a n (numbers_of (kind_of phase.Reactions (get_or h 7 0)) 0 (get_or n 0 0 * 5) L [] rest)
-        → x ≡ after_count h a p
-    unfolding after_count
-    count-good e f = f ∙ ap (after_count h a) e
-
-  module _ (h a n : List ℕ) where
-    pub reactions-bad : {L : ℕ} → stuck L ≡ p → x ≡ broken L → x ≡ after_reactions h a n p
-    unfolding after_reactions
-    reactions-bad e f = f ∙ ap (after_reactions h a n) e
-
-    pub reactions-all : {r : List ℕ} {L : ℕ} → passed r L [] ≡ p → x ≡ whole h a n r → x ≡ after_reactions h a n p
-    unfolding after_reactions at_end
-    reactions-all e f = f ∙ ap (after_reactions h a n) e
-
-    reactions-more : {r : List ℕ} {L : ℕ} (s : List ℕ) (at : ℕ) → passed r L (drop at s) ≡ p → at < length s
-        → x ≡ broken L → x ≡ after_reactions h a n p
-    unfolding after_reactions at_end
-    reactions-more {r} {L} s at e l f =
-        f ∙ ap (λ t. at_end h a n r L t) (sym (drop-cons s at 0 l)) ∙ ap (after_reactions h a n) e
-
-    reactions-done : {r : List ℕ} {L : ℕ} (s : List ℕ) (at : ℕ) → passed r L (drop at s) ≡ p → length s ≤ at
-        → x ≡ whole h a n r → x ≡ after_reactions h a n p
-    unfolding after_reactions at_end
-    reactions-done {r} {L} s at e l f =
-        f ∙ ap (λ t. at_end h a n r L t) (sym (drop_of_length-le s l)) ∙ ap (after_reactions h a n) e
-
--- the last two ways of `compare/judge`: bytes that follow are wrong whether or not the last part was right
-module _ (h a n r s : List ℕ) (p : Progress) (q : Passage) (is : passage_at s r p ≡ q) where
-  pub last_more : p.at < length s → broken p.lines ≡ after_reactions h a n q
-  last_more l =
-      by-good p.good (λ e. reactions-more h a n s p.at (sym (good-passage s r p e) ∙ is) l refl)
-      (λ e. reactions-bad h a n (sym (bad-passage s r p e) ∙ is) refl)
-
-  pub last_none : length s ≤ p.at → judged_at h a n r p ≡ after_reactions h a n q
-  last_none l =
-      by-good p.good
-      (λ e. reactions-done h a n s p.at (sym (good-passage s r p e) ∙ is) l (good-judged h a n r p e))
-      (λ e. reactions-bad h a n (sym (bad-passage s r p e) ∙ is) (bad-judged h a n r p e))
-
--- ---- how far `compare/judge` has come: the parts that were right, in the order in which they
--- were read into its memory
-
-pub record Settled (s S : List ℕ) (p : Progress) : Type 0 where
-  pub long : length S ≡ 8
-  pub is : passage_at s (take 8 S) p ≡ numbers_of (kind_of phase.Settings 0) 0 8 0 [] s
-  pub good : p.good ≡ true
-
-pub record Given (s S A : List ℕ) (p q : Progress) : Type 0 where
-  pub before : Settled s S p
-  pub is : passage_at s (take (get_or S 7 0) A) q
-      ≡ numbers_of (kind_of phase.Amounts 0) 0 (get_or S 7 0) p.lines [] (drop p.at s)
-  pub good : q.good ≡ true
-
-pub record Counted (s S A C : List ℕ) (p q t : Progress) : Type 0 where
-  pub before : Given s S A p q
-  pub long : length C ≡ 1
-  pub is : passage_at s (take 1 C) t ≡ numbers_of (kind_of phase.Count 0) 0 1 q.lines [] (drop q.at s)
-  pub good : t.good ≡ true
-
-module _ {s S : List ℕ} {p : Progress} (d : Settled s S p) where
-  settled : passed S p.lines (drop p.at s) ≡ numbers_of (kind_of phase.Settings 0) 0 8 0 [] s
-  settled =
-      let l : length S ≤ 8 = omega (arith, d.long) in
-      rw (take_all 8 S l) at (sym (good-passage s (take 8 S) p d.good) ∙ d.is)
-
+module _ (s S : List ℕ) (L₁ : ℕ) (s₁ : List ℕ) (settings : passed S L₁ s₁ ≡ part_of phase.Settings 0 8 0 s) where
   pub species-few : get_or S 7 0 ≤ 32
-  species-few = (settings-bounded s S p.lines (drop p.at s) settled).most
+  species-few = (settings-bounded s S L₁ s₁ settings).most
 
-  pub second-bad : {x : Judged} (A : List ℕ) (q : Progress)
-      → passage_at s (take (get_or S 7 0) A) q
-      ≡ numbers_of (kind_of phase.Amounts 0) 0 (get_or S 7 0) p.lines [] (drop p.at s)
-      → q.good ≡ false → x ≡ broken q.lines → x ≡ sheet_of s
-  second-bad A q e g f =
-      sheet-by s (settings-good settled (amounts-bad S (sym (bad-passage s (take (get_or S 7 0) A) q g) ∙ e) f))
+  to-amounts : after_amounts S (part_of phase.Amounts 0 (get_or S 7 0) L₁ s₁) ≡ sheet_of s
+  unfolding sheet_of after_settings
+  to-amounts = ap after_settings settings
 
-pub first-bad : {x : Judged} (s S : List ℕ) (p : Progress)
-    → passage_at s (take 8 S) p ≡ numbers_of (kind_of phase.Settings 0) 0 8 0 [] s
-    → p.good ≡ false → x ≡ broken p.lines
-    → x ≡ sheet_of s
-first-bad s S p e g f = sheet-by s (settings-bad (sym (bad-passage s (take 8 S) p g) ∙ e) f)
+  pub second-bad : {L : ℕ} → stuck L ≡ part_of phase.Amounts 0 (get_or S 7 0) L₁ s₁ → broken L ≡ sheet_of s
+  unfolding after_amounts
+  second-bad e = ap (after_amounts S) e ∙ to-amounts
 
-module _ {s S A : List ℕ} {p q : Progress} (d : Given s S A p q) where
-  given : {x : Judged}
-      → x ≡ after_count S (take (get_or S 7 0) A) (numbers_of (kind_of phase.Count 0) 0 1 q.lines [] (drop q.at s))
-      → x ≡ sheet_of s
-  given f =
-      sheet-by s (settings-good (settled d.before)
-      (amounts-good S (sym (good-passage s (take (get_or S 7 0) A) q d.good) ∙ d.is) f))
+  module _ (A : List ℕ) (L₂ : ℕ) (s₂ : List ℕ)
+      (amounts : passed A L₂ s₂ ≡ part_of phase.Amounts 0 (get_or S 7 0) L₁ s₁) where
+    to-count : after_count S A (part_of phase.Count 0 1 L₂ s₂) ≡ sheet_of s
+    unfolding after_amounts
+    to-count = ap (after_amounts S) amounts ∙ to-amounts
 
-  pub third-bad : {x : Judged} (C : List ℕ) (t : Progress)
-      → passage_at s (take 1 C) t ≡ numbers_of (kind_of phase.Count 0) 0 1 q.lines [] (drop q.at s)
-      → t.good ≡ false → x ≡ broken t.lines → x ≡ sheet_of s
-  third-bad C t e g f = given (count-bad S (take (get_or S 7 0) A) (sym (bad-passage s (take 1 C) t g) ∙ e) f)
+    pub third-bad : {L : ℕ} → stuck L ≡ part_of phase.Count 0 1 L₂ s₂ → broken L ≡ sheet_of s
+    unfolding after_count
+    third-bad e = ap (after_count S A) e ∙ to-count
 
-module _ {s S A C : List ℕ} {p q t : Progress} (d : Counted s S A C p q t) where
-  counted : passed C t.lines (drop t.at s) ≡ numbers_of (kind_of phase.Count 0) 0 1 q.lines [] (drop q.at s)
-  counted =
-      let l : length C ≤ 1 = omega (arith, d.long) in
-      rw (take_all 1 C l) at (sym (good-passage s (take 1 C) t d.good) ∙ d.is)
+    module _ (C : List ℕ) (L₃ : ℕ) (s₃ : List ℕ) (count : passed C L₃ s₃ ≡ part_of phase.Count 0 1 L₂ s₂) where
+      to-reactions : after_reactions S A C (part_of phase.Reactions (get_or S 7 0) (get_or C 0 0 * 5) L₃ s₃)
+          ≡ sheet_of s
+      unfolding after_count
+      to-reactions = ap (after_count S A) count ∙ to-count
 
-  pub reactions-few : get_or C 0 0 ≤ 64
-  reactions-few = (count-bounded (drop q.at s) C q.lines t.lines (drop t.at s) counted).most
+      pub fourth-bad : {L : ℕ} → stuck L ≡ part_of phase.Reactions (get_or S 7 0) (get_or C 0 0 * 5) L₃ s₃
+          → broken L ≡ sheet_of s
+      unfolding after_reactions
+      fourth-bad e = ap (after_reactions S A C) e ∙ to-reactions
 
-  module _ (R : List ℕ) (z : Progress) (is : passage_at s (take (get_or C 0 0 * 5) R) z
-      ≡ numbers_of (kind_of phase.Reactions (get_or S 7 0)) 0 (get_or C 0 0 * 5) t.lines [] (drop
-      t.at s)) where
-    fourth-more : {x : Judged} → z.at < length s → x ≡ broken z.lines → x ≡ sheet_of s
-    fourth-more l f =
-        given d.before (count-good S (take (get_or S 7 0) A) counted
-        (f ∙ last_more S (take (get_or S 7 0) A) C (take (get_or C 0 0 * 5) R) s z _ is l))
+      pub read-whole : {R : List ℕ} {L : ℕ}
+          → passed R L [] ≡ part_of phase.Reactions (get_or S 7 0) (get_or C 0 0 * 5) L₃ s₃ → whole S A C R ≡ sheet_of s
+      unfolding after_reactions at_end
+      read-whole e = ap (after_reactions S A C) e ∙ to-reactions
 
-    fourth-done : length s ≤ z.at → judged_at S (take (get_or S 7 0) A) C (take (get_or C 0 0 * 5) R) z ≡ sheet_of s
-    fourth-done l =
-        given d.before (count-good S (take (get_or S 7 0) A) counted
-        (last_none S (take (get_or S 7 0) A) C (take (get_or C 0 0 * 5) R) s z _ is l))
+      -- bytes that follow are wrong
+      pub last : {R : List ℕ} (p : Progress)
+          → passed R p.lines p.rest.now ≡ part_of phase.Reactions (get_or S 7 0) (get_or C 0 0 * 5) L₃ s₃
+          → judged_at S A C R (ended_of p) ≡ sheet_of s
+      unfolding after_reactions
+      last p e = at-end S A C _ p p.rest.now refl ∙ ap (after_reactions S A C) e ∙ to-reactions
 
-    pub fourth : {x : Progress} → x ≡ ended_of (length s) z
-        → judged_at S (take (get_or S 7 0) A) C (take (get_or C 0 0 * 5) R) x ≡ sheet_of s
-    unfolding ended_of
-    fourth e =
-        rw e
-        (pick_all (λ y. judged_at S (take (get_or S 7 0) A) C (take (get_or C 0 0 * 5) R) y ≡ sheet_of s)
-        (ltb z.at (length s))
-        (record { good = false; at = z.at; lines = z.lines }) z
-        (λ t. fourth-more (ltb-true _ _ t) (bad-judged _ _ _ _ _ refl)) (λ t. fourth-done (ltb-false _ _ t)))
-
-pub ended-lines : (n : ℕ) (p : Progress) → (ended_of n p).lines ≡ p.lines
+pub ended-few : (p : Progress) (n : ℕ) → p.lines ≤ n → IfErr (ended_of p) (λ lines. lines ≤ n)
 unfolding ended_of
-ended-lines n p =
-    pick_all (λ (y : Progress). y.lines ≡ p.lines) (ltb p.at n)
-    (record { good = false; at = p.at; lines = p.lines }) p (λ t. refl) (λ t. refl)
+ended-few p n h =
+    pick_all (λ r. IfErr {T = Unit {0}} r (λ lines. lines ≤ n)) (eqb (length p.rest.now) 0) (Ok tt) (Err p.lines)
+    (λ t. tt) (λ t. h)

@@ -1,11 +1,11 @@
 -- Numbers written with digits, and read. A text is a list of bytes, each below 256.
 --     hex_of v        the bits of a float: sixteen hexadecimal digits in lower case
 --     decimal_of v    any other number, below 10^10: as many decimal digits as it has
-use Rattle.std.specs.Prelude.{ℕ, zero, suc, ◌+◌, ◌*◌, ◌/◌, ◌%◌, Bool, List, [], ◌∷◌, eqb, ltb}
+use Rattle.std.specs.Prelude.{ℕ, zero, suc, ◌+◌, ◌*◌, ◌/◌, ◌%◌, Option, None, Some, List, [], ◌∷◌, eqb, ltb}
 use Rattle.words.specs.Loop.{pick}
 use Rattle.bits.specs.Digit.{byte0, ten_below_a, digit_of}
-use Rattle.sheet.specs.declared.digits.Spelt.{Spelt}
-use Rattle.sheet.specs.declared.digits.Spelt.TheVariants.{Value, Wrong}
+use Rattle.sheet.specs.declared.spelling.Notation.{Notation}
+use Rattle.sheet.specs.declared.spelling.Notation.TheVariants.{Decimal, Hexadecimal}
 
 -- ---- written
 
@@ -40,16 +40,23 @@ decimal_of v = digits 10 (width_of v) v
 
 -- ---- read
 
+-- what follows a digit; in base b a digit is below b
+unfoldable pub after_digit : ℕ → Option ℕ → (ℕ → Option ℕ) → Option ℕ
+after_digit b None then = None
+after_digit b (Some d) then = pick (ltb d b) (then d) None
+
 -- the number that a text spells in base b, after digits that spell v
-unfoldable pub spelled_of : ℕ → ℕ → List ℕ → Spelt
-spelled_of b v [] = Value v
-spelled_of b v (x ∷ text) = pick (ltb (digit_of x) b) (spelled_of b (v * b + digit_of x) text) Wrong
+unfoldable pub spelled_of : ℕ → ℕ → List ℕ → Option ℕ
+spelled_of b v [] = Some v
+spelled_of b v (x ∷ text) = after_digit b (digit_of x) (λ d. spelled_of b (v * b + d) text)
 
-unfoldable pub base_of : Bool → ℕ
-base_of hex = pick hex 16 10
+unfoldable pub base_of : Notation → ℕ
+base_of Decimal = 10
+base_of Hexadecimal = 16
 
-unfoldable pub width_by : Bool → ℕ → ℕ
-width_by hex v = pick hex 16 (width_of v)
+unfoldable pub width_by : Notation → ℕ → ℕ
+width_by Decimal v = width_of v
+width_by Hexadecimal v = 16
 
 -- where a byte first stands in a text; the text's length, where it doesn't
 unfoldable pub found_of : ℕ → List ℕ → ℕ

@@ -1,16 +1,17 @@
 -- What kind of number stands where in a sheet.
-use Rattle.std.specs.Prelude.{ℕ, ◌%◌, true, false, eqb, ltb}
+use Rattle.std.specs.Prelude.{ℕ, ◌%◌, eqb, ltb}
 use Rattle.words.specs.Loop.{pick}
+use Rattle.sheet.specs.declared.spelling.Notation.TheVariants.{Decimal, Hexadecimal}
 use Rattle.sheet.specs.declared.kind.Kind.{Kind}
 use Rattle.sheet.specs.declared.kind.Phase.{Phase}
 use Rattle.sheet.specs.declared.kind.Phase.TheVariants as phase
 use Rattle.sheet.specs.Sheet.{line_feed, space, most_steps}
 
 abbrev pub hex_kind : ℕ → Kind
-hex_kind mark = record { hex = true; low = 0; high = 0xffff_ffff_ffff_ffff; mark = mark }
+hex_kind mark = record { notation = Hexadecimal; low = 0; high = 0xffff_ffff_ffff_ffff; mark = mark }
 
 abbrev pub decimal_kind : ℕ → ℕ → ℕ → Kind
-decimal_kind low high mark = record { hex = false; low = low; high = high; mark = mark }
+decimal_kind low high mark = record { notation = Decimal; low = low; high = high; mark = mark }
 
 -- x0, xend, rtol and atol are the four floats; then max_steps, the rule and the number of species
 unfoldable pub setting_of : ℕ → Kind

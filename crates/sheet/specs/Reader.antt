@@ -1,7 +1,8 @@
 -- What the reader makes of any bytes: the model of a sheet, the first wrong line, or that there are more than 4,096
 -- bytes. The parts of a sheet are read in order, and the line of the first number that is wrong or missing is the wrong
 -- line; where all is right, nothing may follow.
-use Rattle.std.specs.Prelude.{ℕ, zero, suc, ◌+◌, ◌*◌, false, List, [], ◌∷◌, eqb, ltb, length, get_or, take, drop}
+use Rattle.std.specs.Prelude.{ℕ, zero, suc, ◌+◌, ◌*◌, Result, Ok, Err, List, [], ◌∷◌, eqb, ltb, length}
+use Rattle.std.specs.Prelude.{get_or, take, drop}
 use Rattle.words.specs.Loop.{pick}
 use Rattle.state.specs.declared.settings.Rule.{Rule}
 use Rattle.state.specs.declared.settings.Rule.TheVariants.{Rust, Book}
@@ -10,8 +11,8 @@ use Rattle.sheet.specs.Numbers.{Passage, passed, stuck, part_of}
 use Rattle.sheet.specs.declared.kind.Phase.TheVariants as phase
 use Rattle.sheet.specs.declared.numbers.Progress.{Progress}
 use Rattle.sheet.specs.declared.sheet.Heading.{Heading}
-use Rattle.sheet.specs.declared.sheet.Reading.{Reading}
-use Rattle.sheet.specs.declared.sheet.Reading.TheVariants as reading
+use Rattle.sheet.specs.declared.sheet.SheetError.{SheetError}
+use Rattle.sheet.specs.declared.sheet.SheetError.TheVariants as error
 
 -- ---- the parts, one after the other
 
@@ -45,16 +46,17 @@ unfoldable pub sheet_of : List ℕ → Judged
 sheet_of s = after_settings (part_of phase.Settings 0 8 0 s)
 
 -- what the code has of it: the numbers that it read, and how it went
-unfoldable pub judged_at : List ℕ → List ℕ → List ℕ → List ℕ → Progress → Judged
-judged_at h a n r p = pick p.good (whole h a n r) (broken p.lines)
+unfoldable pub judged_at : List ℕ → List ℕ → List ℕ → List ℕ → Result Unit ℕ → Judged
+judged_at h a n r (Ok done) = whole h a n r
+judged_at h a n r (Err lines) = broken lines
 
 -- the same of the reader's memory, of which the counts say how much was read
-abbrev pub judged_in : List ℕ → List ℕ → List ℕ → List ℕ → Progress → Judged
+abbrev pub judged_in : List ℕ → List ℕ → List ℕ → List ℕ → Result Unit ℕ → Judged
 judged_in h a n r p = judged_at h (take (get_or h 7 0) a) n (take (get_or n 0 0 * 5) r) p
 
 -- nothing may follow the last number
-unfoldable pub ended_of : ℕ → Progress → Progress
-ended_of n p = pick (ltb p.at n) (record { good = false; at = p.at; lines = p.lines }) p
+unfoldable pub ended_of : Progress → Result Unit ℕ
+ended_of p = pick (eqb (length p.rest.now) 0) (Ok tt) (Err p.lines)
 
 -- ---- the model
 
@@ -127,10 +129,10 @@ heading_from h reactions =
       reactions = reactions;
     }
 
-unfoldable pub answer_of : Read → Reading
-answer_of (accepted m) = reading.Read (heading_of m)
-answer_of (malformed k) = reading.Malformed k
-answer_of too_long = reading.TooLong
+unfoldable pub answer_of : Read → Result Heading SheetError
+answer_of (accepted m) = Ok (heading_of m)
+answer_of (malformed k) = Err (error.Malformed k)
+answer_of too_long = Err error.TooLong
 
 -- values over the first entries of a memory
 unfoldable pub over : List ℕ → List ℕ → List ℕ

@@ -5,7 +5,7 @@ use Rattle.sheet.specs.Digits.{digits, base_of, width_by}
 use Rattle.sheet.specs.declared.kind.Kind.{Kind}
 
 unfoldable pub spell_of : Kind → ℕ → List ℕ
-spell_of k v = digits (base_of k.hex) (width_by k.hex v) v
+spell_of k v = digits (base_of k.notation) (width_by k.notation v) v
 
 pub record Of (k : Kind) (v : ℕ) : Type 0 where
   pub low : k.low ≤ v

@@ -1,17 +1,7 @@
 // What was read, put into lent memory.
-ghost use Rattle.std.specs.Prelude.{◌≤◌, ◌≡◌, get_or};
+ghost use Rattle.std.specs.Prelude.{◌≤◌, ◌≡◌};
 ghost use Rattle.words.specs.Loop.{loop};
 ghost use Rattle.sheet.specs.Fill.{placed, rate_at, species_at};
-
-pub fn fill_amounts(given: &[u64; 32], n: usize, amounts: &mut [u64; 32])
-    requires { n ≤ 32 }
-    ensures { amounts.new
-        ≡ loop (placed (λ i. get_or given.now i 0)) 0 n amounts.old }
-{
-    for i in 0..n {
-        amounts[i] = given[i];
-    }
-}
 
 // Five numbers stand for a reaction.
 pub fn fill_rates(listed: &[u64; 320], n: usize, rates: &mut [u64; 64])

@@ -1,124 +1,83 @@
 // Numbers read one after the other, each ended by its mark.
-ghost use Rattle.std.specs.Prelude.{◌+◌, ◌≤◌, ◌≡◌, length, take, drop};
+ghost use Rattle.std.specs.Prelude.{◌+◌, ◌≤◌, ◌≡◌, length, MatchResult};
 ghost use Rattle.sheet.specs.Numbers.{number_of, piece_of, piece_at, ends_of, part_of, passage_at};
 
-use crate::digits::{Spelt, find, spelled};
+use crate::digits::spelled;
 use crate::kind::{Kind, Phase, kind_at};
-use crate::spelling::{base, width_by};
 
-// A number, and where what follows it begins; or a number that is wrong.
+// A number, and what stands behind its mark.
 #[derive(Clone, Copy)]
-pub struct Token {
-    pub good: bool,
+pub struct Token<'a> {
     pub value: u64,
-    pub next: usize,
+    pub rest: &'a [u8],
 }
 
-// Where the reader stands: whether all was right so far, where the next number begins, and how many
-// lines have ended before it.
+// Where the reader stands: what is left to read, and how many lines have ended before it.
 #[derive(Clone, Copy)]
-pub struct Progress {
-    pub good: bool,
-    pub at: usize,
+pub struct Progress<'a> {
+    pub rest: &'a [u8],
     pub lines: usize,
 }
 
 // The number that a text is. A decimal that is as long as its value has no zero in front.
-fn number(text: &[u8], kind: Kind) -> Spelt
+#[tactic(auto, unfolding(crate::specs::Numbers::number_of, crate::specs::Numbers::judged_of, words::specs::Loop::pick))]
+fn number(text: &[u8], kind: Kind) -> Option<u64>
     ensures { result ≡ number_of kind text.now }
 {
     if 16 < text.len() {
-        return Spelt::Wrong;
+        return None;
     }
-    let spelt = spelled(text, base(kind.hex));
-    match spelt {
-        Spelt::Wrong => Spelt::Wrong,
-        Spelt::Value(value) => {
-            if text.len() != width_by(kind.hex, value) {
-                return Spelt::Wrong;
-            }
-            if value < kind.low {
-                return Spelt::Wrong;
-            }
-            if kind.high < value {
-                return Spelt::Wrong;
-            }
-            Spelt::Value(value)
-        }
+    let value = spelled(text, kind.notation.base())?;
+    if text.len() != kind.notation.width(value) {
+        return None;
     }
+    if value < kind.low || kind.high < value {
+        return None;
+    }
+    Some(value)
 }
 
-fn token_at(bytes: &[u8], at: usize, kind: Kind) -> Token
-    requires { at ≤ length bytes.now }
-    ensures { (piece_at bytes.now result ≡ piece_of kind (drop at bytes.now))
-        × (result.next ≤ length bytes.now) }
+// The number at the front, which reaches up to the first mark.
+fn first_token(bytes: &[u8], kind: Kind) -> Option<Token<'_>>
+    ensures { piece_at result ≡ piece_of kind bytes.now }
 {
-    let rest = &bytes[at..];
-    let end = find(rest, kind.mark);
-    if end < rest.len() {
-        let spelt = number(&rest[..end], kind);
-        match spelt {
-            Spelt::Value(value) => Token {
-                good: true,
-                value: value,
-                next: at + end + 1,
-            },
-            Spelt::Wrong => Token {
-                good: false,
-                value: 0,
-                next: at,
-            },
-        }
-    } else {
-        Token {
-            good: false,
-            value: 0,
-            next: at,
-        }
-    }
+    let end = bytes.iter().position(|byte| *byte == kind.mark)?;
+    let value = number(&bytes[..end], kind)?;
+    Some(Token {
+        value,
+        rest: &bytes[end + 1..],
+    })
 }
 
 // How many lines a mark ends.
+#[tactic(auto, unfolding(crate::specs::Numbers::ends_of, words::specs::Loop::pick))]
 fn ends(mark: u8) -> usize
     ensures { result ≡ ends_of mark }
 {
-    if mark == b'\n' { 1 } else { 0 }
+    usize::from(mark == b'\n')
 }
 
-// Reads `count` numbers of a part into `store`.
-pub fn numbers(
-    bytes: &[u8],
-    from: Progress,
+// Fills `store` with the first numbers of a part. Where one is wrong, tells how many lines have ended before it.
+pub fn numbers<'a>(
+    from: Progress<'a>,
     phase: Phase,
     species: u64,
-    count: usize,
     store: &mut [u64],
-) -> Progress
-    requires at_in_bounds { (from.at ≤ length bytes.now) × (count ≤ length store.old) }
-    requires count_bound { from.lines + count ≤ 1000 }
-    ensures result_after { passage_at bytes.now (take count store.new) result
-        ≡ part_of phase species count from.lines (drop from.at bytes.now) }
-    ensures at_in_bounds_2 { (result.at ≤ length bytes.now) × (result.lines ≤ from.lines + count) }
+) -> Result<Progress<'a>, usize>
+    requires { from.lines + length store.old ≤ 1000 }
+    ensures result_after { passage_at store.new result
+        ≡ part_of phase species (length store.old) from.entry.lines from.entry.rest.now }
+    ensures few { MatchResult result (λ p. p.lines ≤ from.entry.lines + length store.old)
+        (λ lines. lines ≤ from.entry.lines + length store.old) }
 {
-    let mut at = from.at;
+    let mut rest = from.rest;
     let mut lines = from.lines;
-    for i in 0..count {
-        let each = kind_at(phase, species, i);
-        let next = token_at(bytes, at, each);
-        if !next.good {
-            return Progress {
-                good: false,
-                at: at,
-                lines: lines,
-            };
-        }
-        store[i] = next.value;
-        at = next.next;
-        lines = lines + ends(each.mark);
+    for (i, entry) in store.iter_mut().enumerate() {
+        let kind = kind_at(phase, species, i);
+        let next = first_token(rest, kind).ok_or(lines)?;
+        *entry = next.value;
+        rest = next.rest;
+        lines += ends(kind.mark);
     }
-    Progress {
-        good: true,
-        at: at,
-        lines: lines,
-    }
+    Ok(Progress { rest, lines })
 }

@@ -1,10 +1,10 @@
 // A sheet is judged first, into memory of the reader's own. Only what is right is put into lent memory.
-ghost use Rattle.std.specs.Prelude.{◌≤◌, ◌≡◌, length};
+ghost use Rattle.std.specs.Prelude.{◌≤◌, ◌≡◌, IfErr};
 ghost use Rattle.sheet.specs.Sheet.{rule_number};
 ghost use Rattle.sheet.specs.Reader.{sheet_of, judged_in, ended_of, rule_from, heading_from};
 ghost use Rattle.sheet.specs.Reader.{read_of, answer_of, amounts_left, rates_left, species_left};
 
-use crate::fill::{fill_amounts, fill_rates, fill_species};
+use crate::fill::{fill_rates, fill_species};
 use crate::kind::Phase;
 use crate::numbers::{Progress, numbers};
 use state::settings::Rule;
@@ -25,14 +25,15 @@ pub struct Heading {
     pub reactions: usize,
 }
 
+// What is wrong with bytes that are no sheet: the line that is the first wrong one, or that there are too many.
 #[derive(Clone, Copy)]
-pub enum Reading {
-    Read(Heading),
+pub enum SheetError {
     Malformed(usize),
     TooLong,
 }
 
 // The rule of a number, of which a sheet has 0 and 1 alone; and the number of a rule.
+#[tactic(auto, unfolding(crate::specs::Reader::rule_from, words::specs::Loop::pick))]
 pub fn rule_from(value: u64) -> Rule
     ensures { result ≡ rule_from value }
 {
@@ -49,59 +50,43 @@ pub fn rule_number(rule: Rule) -> u64
 }
 
 // Bytes behind the last number are wrong.
-fn ended(bytes: &[u8], last: Progress) -> Progress
-    ensures { result ≡ ended_of (length bytes.now) last }
+#[tactic(auto, unfolding(crate::specs::Reader::ended_of, words::specs::Loop::pick))]
+fn ended(last: Progress) -> Result<(), usize>
+    ensures { result ≡ ended_of last.entry }
 {
-    let at = last.at;
-    if at < bytes.len() {
-        return Progress {
-            good: false,
-            at: at,
-            lines: last.lines,
-        };
+    if last.rest.is_empty() {
+        Ok(())
+    } else {
+        Err(last.lines)
     }
-    last
 }
 
-// Reads the four parts in order. A wrong line is the one after the lines that have ended.
+// Reads the four parts in order. Where a line is wrong, tells how many have ended before it.
 fn judge(
     bytes: &[u8],
-    settings: &mut [u64],
-    amounts: &mut [u64],
-    count: &mut [u64],
-    listed: &mut [u64],
-) -> Progress
-    requires { (length settings.old ≡ 8)
-        × (length amounts.old ≡ 32)
-        × (length count.old ≡ 1)
-        × (length listed.old ≡ 320) }
+    settings: &mut [u64; 8],
+    amounts: &mut [u64; 32],
+    count: &mut [u64; 1],
+    listed: &mut [u64; 320],
+) -> Result<(), usize>
     ensures result_after { judged_in settings.new amounts.new count.new listed.new result
         ≡ sheet_of bytes.now }
-    ensures lines_bound { result.lines ≤ 1000 }
+    ensures lines_bound { IfErr result (λ lines. lines ≤ 1000) }
 {
     let start = Progress {
-        good: true,
-        at: 0,
+        rest: bytes,
         lines: 0,
     };
-    let head = numbers(bytes, start, Phase::Settings, 0, 8, settings);
-    if !head.good {
-        return head;
-    }
+    let head = numbers(start, Phase::Settings, 0, settings)?;
     let species = settings[7];
-    let given = numbers(bytes, head, Phase::Amounts, 0, species as usize, amounts);
-    if !given.good {
-        return given;
-    }
-    let counted = numbers(bytes, given, Phase::Count, 0, 1, count);
-    if !counted.good {
-        return counted;
-    }
+    let given = numbers(head, Phase::Amounts, 0, &mut amounts[..species as usize])?;
+    let counted = numbers(given, Phase::Count, 0, count)?;
     let numbered = count[0] as usize * 5;
-    let last = numbers(bytes, counted, Phase::Reactions, species, numbered, listed);
-    ended(bytes, last)
+    let last = numbers(counted, Phase::Reactions, species, &mut listed[..numbered])?;
+    ended(last)
 }
 
+#[tactic(auto, unfolding(crate::specs::Reader::heading_from))]
 fn heading_from(settings: &[u64; 8], reactions: usize) -> Heading
     ensures { result ≡ heading_from settings.now reactions }
 {
@@ -113,7 +98,7 @@ fn heading_from(settings: &[u64; 8], reactions: usize) -> Heading
         max_steps: settings[5],
         rule: rule_from(settings[6]),
         species: settings[7] as usize,
-        reactions: reactions,
+        reactions,
     }
 }
 
@@ -124,26 +109,26 @@ pub fn read(
     amounts: &mut [u64; 32],
     rates: &mut [u64; 64],
     species: &mut [usize; 256],
-) -> Reading
+) -> Result<Heading, SheetError>
     ensures value { result ≡ answer_of (read_of bytes.now) }
     ensures amounts_after { amounts.new ≡ amounts_left (read_of bytes.now) amounts.old }
     ensures rates_after { rates.new ≡ rates_left (read_of bytes.now) rates.old }
     ensures species_after { species.new ≡ species_left (read_of bytes.now) species.old }
 {
     if MOST_BYTES < bytes.len() {
-        return Reading::TooLong;
+        return Err(SheetError::TooLong);
     }
     let mut settings = [0u64; 8];
     let mut given = [0u64; 32];
     let mut count = [0u64; 1];
     let mut listed = [0u64; 320];
-    let judged = judge(bytes, &mut settings, &mut given, &mut count, &mut listed);
-    if !judged.good {
-        return Reading::Malformed(judged.lines + 1);
-    }
+    judge(bytes, &mut settings, &mut given, &mut count, &mut listed).map_err(
+        |lines| SheetError::Malformed(lines + 1),
+    )?;
     let n = count[0] as usize;
-    fill_amounts(&given, settings[7] as usize, amounts);
+    let filled = settings[7] as usize;
+    amounts[..filled].copy_from_slice(&given[..filled]);
     fill_rates(&listed, n, rates);
     fill_species(&listed, n * 4, species);
-    Reading::Read(heading_from(&settings, n))
+    Ok(heading_from(&settings, n))
 }

@@ -1,9 +1,7 @@
 // Standard input, of which the first bytes are kept.
 ghost use Rattle.sheet_input.specs.Input.{KeptIn};
 
-use replay::word::within;
 use std::io::{self, Read};
-use std::num::wrapping_add_usize;
 
 // One byte more than a sheet may have, so that a longer one is told from it.
 pub const KEPT: usize = 4097;
@@ -11,49 +9,28 @@ pub const KEPT: usize = 4097;
 // No input is as long.
 const MOST_READS: u64 = 0xffff_ffff_ffff_ffff;
 
-// What a read came to: bytes that are kept, the end of the input, or an error.
-#[derive(Clone, Copy)]
-enum Piece {
-    Bytes(usize),
-    End,
-    Failed,
-}
-
-#[derive(Clone, Copy)]
-pub enum Input {
-    Bytes(usize),
-    Unreadable,
-}
-
-fn came(got: io::Result<usize>) -> Piece {
-    match got {
-        Ok(0) => Piece::End,
-        Ok(count) => Piece::Bytes(count),
-        Err(_) => Piece::Failed,
-    }
-}
-
-// One read behind the bytes that are kept already; where there is no more room, what comes is dropped.
-fn read_some<R: Read>(input: &mut R, kept: &mut [u8], done: usize) -> Piece {
+// One read behind the bytes that are kept already, and how many bytes it gave: none at the end of the input. Where
+// there is no more room, what comes is dropped.
+fn read_some<R: Read>(input: &mut R, kept: &mut [u8], done: usize) -> io::Result<usize> {
     if done < kept.len() {
-        return came(input.read(&mut kept[done..]));
+        return input.read(&mut kept[done..]);
     }
     let mut dropped = [0u8; 4096];
-    came(input.read(&mut dropped))
+    input.read(&mut dropped)
 }
 
-// Reads standard input to its end, and keeps its first bytes. After an error nothing is judged: to judge the part that
-// came would blame a line that isn't wrong.
-pub fn read_all<R: Read>(input: &mut R, kept: &mut [u8; KEPT]) -> Input
+// Reads standard input to its end, keeps its first bytes, and tells how many these are. After an error nothing is
+// judged: to judge the part that came would blame a line that isn't wrong.
+pub fn read_all<R: Read>(input: &mut R, kept: &mut [u8; KEPT]) -> io::Result<usize>
     ensures { KeptIn result }
 {
-    let mut done = 0;
+    let mut done: usize = 0;
     for _ in 0..MOST_READS {
-        match read_some(input, kept, done) {
-            Piece::Bytes(more) => done = within(wrapping_add_usize(done, more), KEPT),
-            Piece::End => return Input::Bytes(done),
-            Piece::Failed => return Input::Unreadable,
+        let more = read_some(input, kept, done)?;
+        if more == 0 {
+            return Ok(done);
         }
+        done = done.saturating_add(more).min(KEPT);
     }
-    Input::Bytes(done)
+    Ok(done)
 }

@@ -5,26 +5,25 @@ use mathlib.Core.Path.{◌≡◌, refl, sym, ap, ◌∙◌}
 use mathlib.Core.Bool.{Bool, true, false}
 use mathlib.Core.List.{List, [], ◌∷◌}
 use native.Mathlib.Omega.{arith}
-use borrow.Author.Tests.{lt-ltb, le-ltb}
 use lib.ListN.{length, get_or, take}
-use lib.Seq.{take-append_seam, length-sets}
 use Rattle.words.specs.Loop.{pick}
 use Rattle.words.proofs.Branch.{pick_yes, pick_no}
 use Rattle.sheet.specs.declared.kind.Phase.TheVariants as phase
 use Rattle.sheet.specs.declared.sheet.Heading.{Heading}
 use Rattle.sheet.specs.Sheet.{written}
 use Rattle.sheet.specs.Kinds.{setting_of, kind_of}
-use Rattle.sheet.specs.Reader.{over, model_from}
+use Rattle.sheet.specs.Reader.{model_from}
 use Rattle.sheet.specs.Writes.{writes, Fit}
-use Rattle.sheet.proofs.FillLaws.{over-room}
-use Rattle.sheet.proofs.Accepted.{Fitting, text-written, rule-back}
-use Rattle.forecast_text.specs.Put.{Put}
-use Rattle.forecast_text.proofs.PutLaws.{put_then, put-over}
+use Rattle.sheet.proofs.Accepted.{Fitting, fitting-valid, text-written, rule-back}
+use Rattle.sheet.proofs.Theorems.{written-short}
+use Rattle.forecast_text.specs.Put.{put}
+use Rattle.forecast_text.proofs.PutLaws.{put-then, put-whole}
 use Rattle.sheet_write.specs.Memory.{settings_in, listed_in, model_in}
 use Rattle.sheet_write.specs.Writer.{fit_of, Fits, answer_for, left_for, held_in, sheet_in}
 use Rattle.sheet_write.specs.Writer.{answer_of, bytes_left}
-use Rattle.sheet_write.specs.declared.writing.Writing.{Writing}
-use Rattle.sheet_write.specs.declared.writing.Writing.TheVariants.{Written, NoModel, TooShort}
+use Rattle.sheet_write.specs.Writer.{Writing}
+use Rattle.std.proofs.Common.{Err}
+use Rattle.sheet_write.specs.declared.writing.WritingError.TheVariants.{NoModel}
 use Rattle.sheet_write.proofs.KindLaws.{true-fit, fit_at}
 
 -- ---- four parts whose numbers are of their kinds
@@ -59,22 +58,16 @@ module _ (h a n r : List ℕ) (f : Fits h a n r) (lh : length h ≡ 8) (la : len
         reactions = f.reactions;
       }
 
-  -- put one behind the other, they are the sheet
-  pub sheet-put : {p q s t : ℕ} {m₀ m₁ m₂ m₃ m₄ : List ℕ} → Put 0 (writes (kind_of phase.Settings 0) 0 h) m₀ m₁ p
-      → Put p (writes (kind_of phase.Amounts 0) 0 a) m₁ m₂ q → Put q (writes (kind_of phase.Count 0) 0 n) m₂ m₃ s
-      → Put s (writes (kind_of phase.Reactions (get_or h 7 0)) 0 r) m₃ m₄ t
-      → Put 0 (written (model_from h a n r)) m₀ m₄ t
-  sheet-put w x y z = rw (text-written h a n r fitting) (put_then w (put_then x (put_then y z)))
-
--- what was put from the start is what stands there
-pub put-taken : {bytes m₀ m₁ : List ℕ} {next : ℕ} → Put 0 bytes m₀ m₁ next → next ≤ length m₀
-    → (next ≡ length bytes) × (take next m₁ ≡ bytes)
-put-taken {bytes} {m₀} {m₁} {next} p l =
-    let e : next ≡ length bytes = omega (arith, p.ends) in (
-      e,
-      rw (put-over p, e, over-room bytes m₀ (let z : length bytes ≤ length m₀ = omega arith in z))
-          (take-append_seam bytes _),
-    )
+  -- put one behind the other, they are the sheet, which finds room
+  pub sheet-whole : {t₁ t₂ t₃ t₄ : List ℕ} → t₁ ≡ put 4096 [] (writes (kind_of phase.Settings 0) 0 h)
+      → t₂ ≡ put 4096 t₁ (writes (kind_of phase.Amounts 0) 0 a)
+      → t₃ ≡ put 4096 t₂ (writes (kind_of phase.Count 0) 0 n)
+      → t₄ ≡ put 4096 t₃ (writes (kind_of phase.Reactions (get_or h 7 0)) 0 r)
+      → t₄ ≡ written (model_from h a n r)
+  sheet-whole {t₁} {t₂} {t₃} w x y z =
+      let short = written-short (model_from h a n r) (fitting-valid h a n r fitting) in
+      put-then 4096 [] _ _ w (put-then 4096 t₁ _ _ x (put-then 4096 t₂ _ _ y z))
+      ∙ ap (put 4096 []) (sym (text-written h a n r fitting)) ∙ put-whole 4096 (written (model_from h a n r)) short
 
 -- ---- the model in memory
 
@@ -137,24 +130,24 @@ module _ (h : Heading) (a r s : List ℕ) where
     abbrev pub WriteOutcome : Writing → List ℕ → Type 0
     WriteOutcome x out' = (x ≡ answer_of h a r s out) × (out' ≡ bytes_left h a r s out)
 
-    pub outcome-none : held_in h a r s ≡ false → WriteOutcome NoModel out
+    pub outcome-none : held_in h a r s ≡ false → WriteOutcome (Err NoModel) out
     unfolding answer_of bytes_left
     outcome-none e = (sym (pick_no _ _ e), sym (pick_no _ _ e))
 
-    pub no-settings : SettingsFit ≡ false → WriteOutcome NoModel out
+    pub no-settings : SettingsFit ≡ false → WriteOutcome (Err NoModel) out
     unfolding held_in
     no-settings e = outcome-none (pick_no _ _ e)
 
-    pub no-count : SettingsFit ≡ true → CountFit ≡ false → WriteOutcome NoModel out
+    pub no-count : SettingsFit ≡ true → CountFit ≡ false → WriteOutcome (Err NoModel) out
     unfolding held_in
     no-count e f = outcome-none (pick_yes _ _ e ∙ pick_no _ _ f)
 
-    pub no-amounts : SettingsFit ≡ true → CountFit ≡ true → AmountsFit ≡ false → WriteOutcome NoModel out
+    pub no-amounts : SettingsFit ≡ true → CountFit ≡ true → AmountsFit ≡ false → WriteOutcome (Err NoModel) out
     unfolding held_in
     no-amounts e f g = outcome-none (pick_yes _ _ e ∙ pick_yes _ _ f ∙ pick_no _ _ g)
 
     pub no-reactions : SettingsFit ≡ true → CountFit ≡ true → AmountsFit ≡ true → ReactionsFit ≡ false
-        → WriteOutcome NoModel out
+        → WriteOutcome (Err NoModel) out
     unfolding held_in
     no-reactions e f g i = outcome-none (pick_yes _ _ e ∙ pick_yes _ _ f ∙ pick_yes _ _ g ∙ i)
 
@@ -167,33 +160,3 @@ module _ (h : Heading) (a r s : List ℕ) where
       p ∙ ap (λ b. answer_for b out) is ∙ sym (pick_yes _ _ e),
       q ∙ ap (λ b. left_for b out) is ∙ sym (pick_yes _ _ e),
     )
-
--- ---- a sheet that was put into memory of the writer's own
-
-module _ (out : List ℕ) {sheet m₀ m₁ : List ℕ} {next : ℕ} (put : Put 0 sheet m₀ m₁ next)
-    (room : next ≤ length m₀) where
-  abbrev pub PartsOutcome : Writing → List ℕ → Type 0
-  PartsOutcome x left = (x ≡ answer_for sheet out) × (left ≡ left_for sheet out)
-
-  pub put-long : length m₁ ≡ length m₀
-  put-long = ap length put.is ∙ length-sets m₀ 0 sheet
-
-  pub parts-short : length out < next → PartsOutcome TooShort out
-  unfolding answer_for left_for
-  parts-short l =
-      let z : length out < length sheet = omega (arith, (put-taken put room).0) in
-      (sym (pick_yes _ _ (lt-ltb _ _ z)), sym (pick_yes _ _ (lt-ltb _ _ z)))
-
-  pub parts-written : (left : List ℕ) → next ≤ length out → left ≡ over (take next m₁) out
-      → PartsOutcome (Written next) left
-  unfolding answer_for left_for
-  parts-written left l e =
-      let t = put-taken put room in
-      let z : length sheet ≤ length out = omega (arith, t.0) in (
-        ap Written t.0 ∙ sym (pick_no _ _ (le-ltb _ _ z)),
-        e ∙ ap (λ x. over x out) t.1 ∙ sym (pick_no _ _ (le-ltb _ _ z)),
-      )
-
--- the answer of a test that stands for another
-pub said : {b x y : Bool} → b ≡ y → b ≡ x → y ≡ x
-said p q = sym p ∙ q

@@ -4,7 +4,7 @@ use Prim.Native.Nat.{ℕ}
 use mathlib.Core.List.{List}
 use Rattle.words.specs.Contract.{Settles}
 use Rattle.words.proofs.OneOutcome.{◌▹◌, one-result, two-parts}
-use Rattle.sheet_write.specs.declared.writing.Writing.{Writing}
+use Rattle.sheet_write.specs.Writer.{Writing}
 use Rattle.sheet_write.proofs.writing.write as write
 use Rattle.sheet_write.proofs.writing.writing_number as writing_number
 use Rattle.sheet_write.proofs.rewriting.rewrite as rewrite

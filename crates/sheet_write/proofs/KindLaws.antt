@@ -5,20 +5,25 @@ use mathlib.Core.Bool.{Bool, true, false}
 use mathlib.Core.List.{List, [], ◌∷◌, ◌++◌, append_assoc}
 use native.Mathlib.Numerals.{add-one}
 use native.Mathlib.Omega.{arith}
-use borrow.Author.Tests.{lt-ltb, le-ltb, ltb-false}
+use borrow.Author.Tests.{lt-ltb, le-ltb, ltb-true, ltb-false}
 use lib.Dec.{ltb}
-use lib.ListN.{length, get_or, take, drop, set, length-take, drop_of_length-le}
-use lib.Seq.{length-take-le, get_or-take}
+use lib.ListN.{length, get_or, take, drop, drop_of_length-le}
+use Rattle.words.specs.Loop.{pick}
 use Rattle.words.proofs.Branch.{pick_yes, pick_no, pick_all}
 use Rattle.sheet.specs.declared.kind.Kind.{Kind}
 use Rattle.sheet.specs.declared.kind.Phase.{Phase}
-use Rattle.sheet.specs.Digits.{power, base_of, width_by}
+use Rattle.sheet.specs.Digits.{power, base_of, width_of, width_by, hex_of}
+use Rattle.sheet.specs.declared.spelling.Notation.TheVariants.{Decimal, Hexadecimal}
+use Rattle.forecast_text.specs.Printed.{numeral_of}
+use Rattle.forecast_text.proofs.DigitLaws.{decimal-numeral}
 use Rattle.sheet.specs.Kinds.{kind_of}
 use Rattle.sheet.specs.Writes.{spell_of, Of, writes, Fit}
 use Rattle.sheet.proofs.DigitsLaws.{drop_more}
 use Rattle.sheet.proofs.Sheets.{kind-fine}
-use Rattle.forecast_text.specs.Put.{Put}
-use Rattle.sheet_write.specs.Writer.{fit_of}
+use Rattle.sheet_write.specs.Writer.{fit_of, tested}
+use Rattle.std.proofs.Common.{Result, Ok, Err}
+use Rattle.sheet_write.specs.declared.writing.WritingError.{WritingError}
+use Rattle.sheet_write.specs.declared.writing.WritingError.TheVariants.{NoModel}
 
 module _ (k : ℕ → Kind) where
   -- ---- a turn of the test
@@ -96,43 +101,58 @@ module _ (k : ℕ → Kind) where
       let e : 0 + i ≡ i = omega arith in
       rw (add-one) (writes_one us 0 i h ∙ ap (λ n. writes k 0 (take i us) ++ number_with n (get_or us i 0)) e)
 
-  -- ---- the same of the first numbers of a memory, by a kind that was made
+-- ---- what the code tells of the test
 
-  module _ (values : List ℕ) (count i : ℕ) (room : count ≤ length values) (inside : i < count) where
-    inner : i < length (take count values)
-    inner = omega (arith, length-take-le count values room)
+pub tested-no : {b : Bool} → b ≡ false → Err NoModel ≡ tested b
+unfolding tested
+tested-no e = sym (pick_no _ _ e)
 
-    same : get_or (take count values) i 0 ≡ get_or values i 0
-    same = get_or-take count values i 0 inside
+pub tested-yes : {b : Bool} → b ≡ true → Ok tt ≡ tested b
+unfolding tested
+tested-yes e = sym (pick_yes _ _ e)
 
-    module _ {kind : Kind} (is : kind ≡ k i) {rest : Bool} (on : fit_of k i (drop i (take count values)) ≡ rest) where
-      pub test_below : get_or values i 0 < kind.low → false ≡ rest
-      test_below l = sym (fit-below (take count values) i inner (rw (same, ← is) l)) ∙ on
+pub passed : (b : Bool) {x : Result Unit WritingError} → x ≡ tested b → x ≡ Ok tt → b ≡ true
+unfolding tested pick
+passed true e f = refl
+passed false e f = absurd (let q = sym e ∙ f in let z : ◌≡◌ {A = ℕ} 0 1 = cc in let y : ⊥ = omega arith in y)
 
-      pub test-above : kind.low ≤ get_or values i 0 → kind.high < get_or values i 0 → false ≡ rest
-      test-above l u = sym (fit-above (take count values) i inner (rw (same, ← is) l) (rw (same, ← is) u)) ∙ on
-
-      pub test_on : kind.low ≤ get_or values i 0 → get_or values i 0 ≤ kind.high
-          → fit_of k (i + 1) (drop (i + 1) (take count values)) ≡ rest
-      test_on l u = fit_on (take count values) i inner (rw (same, ← is) l) (rw (same, ← is) u) ∙ on
-
-    pub taken_of : Fit k 0 (take count values) → Of (k i) (get_or values i 0)
-    taken_of f = rw same at (fit_at (take count values) i f inner)
-
-  pub test-all : (values : List ℕ) (count i : ℕ) {rest : Bool} → count ≤ i
-      → fit_of k i (drop i (take count values)) ≡ rest → true ≡ rest
-  test-all values count i h on =
-      sym (fit_all (take count values) i (omega (arith, length-take count values))) ∙ on
+pub refused : (b : Bool) {x : Result Unit WritingError} {y : WritingError} → x ≡ tested b → x ≡ Err y
+    → (b ≡ false) × (y ≡ NoModel)
+unfolding tested pick
+refused true e f = absurd (let q = sym e ∙ f in let z : ◌≡◌ {A = ℕ} 0 1 = cc in let y : ⊥ = omega arith in y)
+refused false e f = (refl, let q = sym e ∙ f in cc)
 
 -- a number of its kind is spelled by its digits
 pub kind-spells : (p : Phase) (species i v : ℕ) → species ≤ 32 → Of (kind_of p species i) v
-    → v < power (base_of (kind_of p species i).hex) (width_by (kind_of p species i).hex v)
+    → v < power (base_of (kind_of p species i).notation) (width_by (kind_of p species i).notation v)
 kind-spells p species i v h o = (kind-fine p species h i).bound v o.high
 
-pub base-two : (hex : Bool) → 2 ≤ base_of hex
-unfolding base_of
-base-two hex = pick_all (λ b. 2 ≤ b) hex 16 10 (λ e. omega arith) (λ e. omega arith)
+-- ---- as a text spells them
 
--- one byte
-pub put_one : (at v : ℕ) (m : List ℕ) → Put at (v ∷ []) m (set m at v) (at + 1)
-put_one at v m = record { ends = refl; is = refl }
+below-ten : (v : ℕ) → v < power 10 (width_of v) → v < 10000000000
+unfolding width_of power
+below-ten v =
+    pick_all (λ n. v < power 10 n → v < 10000000000) (ltb v 10) 1 _ (λ e h. omega (arith, ltb-true v 10 e))
+    (λ e. pick_all (λ n. v < power 10 n → v < 10000000000) (ltb v 100) 2 _ (λ e h. omega (arith, ltb-true v 100 e))
+    (λ e. pick_all (λ n. v < power 10 n → v < 10000000000) (ltb v 1000) 3 _ (λ e h. omega (arith, ltb-true v 1000 e))
+    (λ e. pick_all (λ n. v < power 10 n → v < 10000000000) (ltb v 10000) 4 _ (λ e h. omega (arith, ltb-true v 10000 e))
+    (λ e. pick_all (λ n. v < power 10 n → v < 10000000000) (ltb v 100000) 5 _
+    (λ e h. omega (arith, ltb-true v 100000 e))
+    (λ e. pick_all (λ n. v < power 10 n → v < 10000000000) (ltb v 1000000) 6 _
+    (λ e h. omega (arith, ltb-true v 1000000 e))
+    (λ e. pick_all (λ n. v < power 10 n → v < 10000000000) (ltb v 10000000) 7 _
+    (λ e h. omega (arith, ltb-true v 10000000 e))
+    (λ e. pick_all (λ n. v < power 10 n → v < 10000000000) (ltb v 100000000) 8 _
+    (λ e h. omega (arith, ltb-true v 100000000 e))
+    (λ e. pick_all (λ n. v < power 10 n → v < 10000000000) (ltb v 1000000000) 9 10
+    (λ e h. omega (arith, ltb-true v 1000000000 e)) (λ e h. h)))))))))
+
+module _ (k : Kind) (v : ℕ) where
+  pub decimal-spelled : k.notation ≡ Decimal → v < power (base_of k.notation) (width_by k.notation v)
+      → numeral_of v ≡ spell_of k v
+  unfolding spell_of base_of width_by
+  decimal-spelled e h = rw e (sym (decimal-numeral v (below-ten v (rw e at h))))
+
+  pub hexadecimal-spelled : k.notation ≡ Hexadecimal → hex_of v ≡ spell_of k v
+  unfolding spell_of base_of width_by
+  hexadecimal-spelled e = rw e refl

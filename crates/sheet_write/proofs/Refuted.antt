@@ -20,8 +20,9 @@ use Rattle.sheet.specs.Kinds.{setting_of, reaction_of, kind_of}
 use Rattle.sheet.specs.Reader.{over, reactions_from}
 use Rattle.sheet_write.specs.Memory.{listed_in, model_in}
 use Rattle.sheet_write.specs.Writer.{number_of, fit_of, held_in, sheet_in, answer_for, left_for, answer_of, bytes_left}
-use Rattle.sheet_write.specs.declared.writing.Writing.{Writing}
-use Rattle.sheet_write.specs.declared.writing.Writing.TheVariants.{Written, NoModel, TooShort}
+use Rattle.sheet_write.specs.Writer.{Writing}
+use Rattle.std.proofs.Common.{Ok, Err}
+use Rattle.sheet_write.specs.declared.writing.WritingError.TheVariants.{NoModel, TooShort}
 
 -- what a writer answers and leaves, of a heading, the three arrays and the lent bytes; and what the contract asks of it
 abbrev pub Answers : Type 0
@@ -112,7 +113,7 @@ not-any-species meets =
 abbrev pub a_byte_more : Answers
 a_byte_more h a r s out =
     pick (held_in h a r s)
-    (pick (ltb (length (sheet_in h a r s)) (length out)) (Written (length (sheet_in h a r s))) TooShort) NoModel
+    (pick (ltb (length (sheet_in h a r s)) (length out)) (Ok (length (sheet_in h a r s))) (Err TooShort)) (Err NoModel)
 
 -- 95 bytes for a sheet of 95: 24, where it is to be written
 pub not-a-byte-more : MeetsAnswer a_byte_more → ⊥

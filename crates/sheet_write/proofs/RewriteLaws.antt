@@ -1,23 +1,25 @@
 -- A sheet that is rewritten: what was read goes through the writer, and comes out as it was.
 use Prim.Native.Nat.{ℕ, ◌≤◌}
 use mathlib.Core.Path.{◌≡◌, refl, sym, ap, ◌∙◌}
-use mathlib.Core.List.{List}
+use mathlib.Core.List.{List, ◌++◌}
 use native.Mathlib.Omega.{arith}
-use lib.ListN.{length, take}
+use lib.ListN.{length, take, drop}
 use lib.Seq.{take-append_seam}
 use Rattle.sheet.specs.declared.sheet.Heading.{Heading}
-use Rattle.sheet.specs.declared.sheet.Reading.TheVariants as reading
+use Rattle.sheet.specs.declared.sheet.SheetError.{SheetError}
+use Rattle.sheet.specs.declared.sheet.SheetError.TheVariants as error
+use Rattle.std.proofs.Common.{Result, Ok, Err}
 use Rattle.sheet.specs.Sheet.{Model}
 use Rattle.sheet.specs.Reader.{heading_of, over, Read, accepted, malformed, too_long, read_of}
 use Rattle.sheet.specs.Reader.{amounts_left, rates_left, species_left}
 use Rattle.sheet.specs.Reader.{answer_of as read_answer_of}
 use Rattle.sheet.proofs.FillLaws.{over-room}
 use Rattle.sheet.proofs.Theorems.{accepted-exactly, written-short}
-use Rattle.forecast_text.specs.declared.ending.Forecast.{Forecast}
-use Rattle.forecast_text.specs.declared.ending.Ending.TheVariants as ending
-use Rattle.forecast_text.specs.Printed.{ending_text, printed_of}
+use Rattle.forecast_text.specs.Printed.{refusal_text, printed_of}
+use Rattle.forecast_text.specs.Unread.{unread}
 use Rattle.sheet_write.specs.Memory.{Arrays}
-use Rattle.sheet_write.specs.Writer.{answer_of, bytes_left}
+use Rattle.std.specs.Result.{result_unwrap_or}
+use Rattle.sheet_write.specs.Writer.{Writing, answer_of, bytes_left}
 use Rattle.sheet_write.specs.Rewritten.{rewritten_of, count_for}
 use Rattle.sheet_write.proofs.RoundTripLaws.{left-holds, left-arrays, written_over}
 
@@ -25,6 +27,12 @@ use Rattle.sheet_write.proofs.RoundTripLaws.{left-holds, left-arrays, written_ov
 pub over-taken : (bytes memory : List ℕ) {left : List ℕ} {n : ℕ} → left ≡ over bytes memory → n ≡ length bytes
     → length bytes ≤ length memory → take n left ≡ bytes
 over-taken bytes memory {left} {n} e c l = rw (e, c, over-room bytes memory l) (take-append_seam bytes _)
+
+-- how many bytes a call wrote
+pub count-or-none : (x : Writing) → result_unwrap_or x 0 ≡ count_for x
+unfolding count_for
+count-or-none (Ok n) = refl
+count-or-none (Err e) = refl
 
 -- ---- a sheet that is accepted
 
@@ -52,14 +60,14 @@ module _ (bytes : List ℕ) (h : Heading) (a₀ r₀ s₀ out : List ℕ) (long 
       (record { bytes = bytes; model = m; read = e; holds = left-holds m a₀ r₀ s₀ }) l in
       rw (eh, rewritten-same-proof bytes m e) (w.1, ap count_for w.0)
 
-  rewrote-by : (x : Read) → read_of bytes ≡ x → read_answer_of x ≡ reading.Read h
+  rewrote-by : (x : Read) → read_of bytes ≡ x → read_answer_of x ≡ Ok h
       → Rewrote (amounts_left x a₀) (rates_left x r₀) (species_left x s₀)
   unfolding read_answer_of
   rewrote-by (accepted m) e q = rewrote-accepted m e (let z : h ≡ heading_of m = cc in z)
   rewrote-by (malformed k) e q = absurd (let z : ◌≡◌ {A = ℕ} 0 1 = cc in let y : ⊥ = omega arith in y)
   rewrote-by too_long e q = absurd (let z : ◌≡◌ {A = ℕ} 0 1 = cc in let y : ⊥ = omega arith in y)
 
-  pub rewrote-model : (a r s : List ℕ) {n : ℕ} {left : List ℕ} → read_answer_of (read_of bytes) ≡ reading.Read h
+  pub rewrote-model : (a r s : List ℕ) {n : ℕ} {left : List ℕ} → read_answer_of (read_of bytes) ≡ Ok h
       → a ≡ amounts_left (read_of bytes) a₀ → r ≡ rates_left (read_of bytes) r₀ → s ≡ species_left (read_of bytes) s₀
       → n ≡ count_for (answer_of h a r s out) → left ≡ bytes_left h a r s out
       → (left ≡ over (rewritten_of (read_of bytes)) out) × (n ≡ length (rewritten_of (read_of bytes)))
@@ -68,32 +76,26 @@ module _ (bytes : List ℕ) (h : Heading) (a₀ r₀ s₀ out : List ℕ) (long 
 
 -- ---- one that is refused
 
-module _ (f : Forecast) where
-  line-by : (x : Read) (k : ℕ) → read_answer_of x ≡ reading.Malformed k → f.ending ≡ ending.Malformed k
-      → printed_of f ≡ rewritten_of x
-  unfolding read_answer_of ending_text rewritten_of
-  line-by (accepted m) k q e = absurd (let z : ◌≡◌ {A = ℕ} 0 1 = cc in let y : ⊥ = omega arith in y)
-  line-by (malformed j) k q e =
-      let z : k ≡ j = cc in
-      ap (λ x. ending_text x f.amounts) e ∙ ap (λ i. rewritten_of (malformed i)) z
-  line-by too_long k q e = absurd (let z : ◌≡◌ {A = ℕ} 0 1 = cc in let y : ⊥ = omega arith in y)
+refusal-same : (x : Read) {e : SheetError} → read_answer_of x ≡ Err e → printed_of (Err (unread e)) ≡ rewritten_of x
+unfolding read_answer_of printed_of refusal_text rewritten_of
+refusal-same (accepted m) q = absurd (let z : ◌≡◌ {A = ℕ} 0 1 = cc in let y : ⊥ = omega arith in y)
+refusal-same (malformed k) {e} q = let same : e ≡ error.Malformed k = cc in rw same refl
+refusal-same too_long {e} q = let same : e ≡ error.TooLong = cc in rw same refl
 
-  long-by : (x : Read) → read_answer_of x ≡ reading.TooLong → f.ending ≡ ending.TooLong → printed_of f ≡ rewritten_of x
-  unfolding read_answer_of ending_text rewritten_of
-  long-by (accepted m) q e = absurd (let z : ◌≡◌ {A = ℕ} 0 1 = cc in let y : ⊥ = omega arith in y)
-  long-by (malformed j) q e = absurd (let z : ◌≡◌ {A = ℕ} 0 1 = cc in let y : ⊥ = omega arith in y)
-  long-by too_long q e = ap (λ x. ending_text x f.amounts) e
+-- its line, copied over the first bytes
+pub line-copied : (bytes line out : List ℕ) {n : ℕ} {left : List ℕ} → left ≡ over bytes line → n ≡ length bytes
+    → length bytes ≤ length line → length bytes ≤ length out → take n left ++ drop n out ≡ over bytes out
+line-copied bytes line out {n} e c l h =
+    ap (λ b. b ++ drop n out) (over-taken bytes line e c l) ∙ ap (λ k. bytes ++ drop k out) c
+    ∙ sym (over-room bytes out h)
 
-  -- what was put of it is what is printed
-  module _ (out : List ℕ) (x : Read) {n : ℕ} {left : List ℕ} (p : left ≡ over (printed_of f) out)
-      (c : n ≡ length (printed_of f)) where
-    told : printed_of f ≡ rewritten_of x → (left ≡ over (rewritten_of x) out) × (n ≡ length (rewritten_of x))
-    told e = (p ∙ ap (λ b. over b out) e, c ∙ ap length e)
-
-    pub rewrote-line : (k : ℕ) → read_answer_of x ≡ reading.Malformed k → f.ending ≡ ending.Malformed k
-        → (left ≡ over (rewritten_of x) out) × (n ≡ length (rewritten_of x))
-    rewrote-line k q e = told (line-by x k q e)
-
-    pub rewrote-long : read_answer_of x ≡ reading.TooLong → f.ending ≡ ending.TooLong
-        → (left ≡ over (rewritten_of x) out) × (n ≡ length (rewritten_of x))
-    rewrote-long q e = told (long-by x q e)
+-- what was put of it is what is printed
+pub rewrote-refusal : (bytes out : List ℕ) {x : Result Heading SheetError} {e : SheetError} {n : ℕ} {left : List ℕ}
+    → x ≡ read_answer_of (read_of bytes) → x ≡ Err e → left ≡ over (printed_of (Err (unread e))) out
+    → n ≡ length (printed_of (Err (unread e)))
+    → (left ≡ over (rewritten_of (read_of bytes)) out) × (n ≡ length (rewritten_of (read_of bytes)))
+rewrote-refusal bytes out q r p c =
+    let same = refusal-same (read_of bytes) (sym q ∙ r) in (
+      p ∙ ap (λ b. over b out) same,
+      c ∙ ap length same,
+    )

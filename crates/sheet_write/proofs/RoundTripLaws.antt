@@ -19,44 +19,46 @@ use Rattle.sheet.proofs.Theorems.{accepted-exactly}
 use Rattle.sheet_write.specs.Memory.{Holds, Arrays, model_in}
 use Rattle.sheet_write.specs.Writer.{held_in, sheet_in, answer_for, left_for, answer_of, bytes_left}
 use Rattle.sheet_write.specs.RoundTrips.{Readable, Longer}
-use Rattle.sheet_write.specs.declared.writing.Writing.TheVariants.{Written, NoModel, TooShort}
+use Rattle.std.proofs.Common.{Ok, Err}
+use Rattle.sheet_write.specs.Writer.{Writing}
+use Rattle.sheet_write.specs.declared.writing.WritingError.TheVariants.{NoModel, TooShort}
 use Rattle.sheet_write.proofs.HeldLaws.{length_over, over-twice, held-valid, held-holds, holds-model, holds-held}
 
-not_none : {n : ℕ} → Written n ≡ NoModel → ⊥
+not_none : {n : ℕ} → ◌≡◌ {A = Writing} (Ok n) (Err NoModel) → ⊥
 not_none e = let z : ◌≡◌ {A = ℕ} 0 1 = cc in omega arith
 
-short-not-none : TooShort ≡ NoModel → ⊥
+short-not-none : ◌≡◌ {A = Writing} (Err TooShort) (Err NoModel) → ⊥
 short-not-none e = let z : ◌≡◌ {A = ℕ} 0 1 = cc in omega arith
 
-not_short : {n : ℕ} → Written n ≡ TooShort → ⊥
+not_short : {n : ℕ} → ◌≡◌ {A = Writing} (Ok n) (Err TooShort) → ⊥
 not_short e = let z : ◌≡◌ {A = ℕ} 0 1 = cc in omega arith
 
 module _ (h : Heading) (a r s out : List ℕ) where
-  for-none : (sheet : List ℕ) → answer_for sheet out ≡ NoModel → ⊥
+  for-none : (sheet : List ℕ) → answer_for sheet out ≡ Err NoModel → ⊥
   unfolding answer_for
   for-none sheet =
-      pick_all (λ x. x ≡ NoModel → ⊥) (ltb (length out) (length sheet)) TooShort (Written (length sheet))
+      pick_all (λ x. x ≡ Err NoModel → ⊥) (ltb (length out) (length sheet)) (Err TooShort) (Ok (length sheet))
       (λ t e. short-not-none e) (λ t e. not_none e)
 
-  for-short : (sheet : List ℕ) → answer_for sheet out ≡ TooShort → length out < length sheet
+  for-short : (sheet : List ℕ) → answer_for sheet out ≡ Err TooShort → length out < length sheet
   unfolding answer_for
   for-short sheet =
-      pick_all (λ x. x ≡ TooShort → length out < length sheet) (ltb (length out) (length sheet)) TooShort
-      (Written (length sheet)) (λ t e. ltb-true _ _ t) (λ t e. absurd (not_short e))
+      pick_all (λ x. x ≡ Err TooShort → length out < length sheet) (ltb (length out) (length sheet)) (Err TooShort)
+      (Ok (length sheet)) (λ t e. ltb-true _ _ t) (λ t e. absurd (not_short e))
 
-  for-written : (sheet : List ℕ) (n : ℕ) → answer_for sheet out ≡ Written n
+  for-written : (sheet : List ℕ) (n : ℕ) → answer_for sheet out ≡ Ok n
       → (n ≡ length sheet) × (length sheet ≤ length out)
   unfolding answer_for
   for-written sheet n =
-      pick_all (λ x. x ≡ Written n → (n ≡ length sheet) × (length sheet ≤ length out))
-      (ltb (length out) (length sheet)) TooShort (Written (length sheet)) (λ t e. absurd (not_short (sym e)))
+      pick_all (λ x. x ≡ Ok n → (n ≡ length sheet) × (length sheet ≤ length out))
+      (ltb (length out) (length sheet)) (Err TooShort) (Ok (length sheet)) (λ t e. absurd (not_short (sym e)))
       (λ t e. (cc, ltb-false _ _ t))
 
   answer-held : held_in h a r s ≡ true → answer_of h a r s out ≡ answer_for (sheet_in h a r s) out
   unfolding answer_of
   answer-held e = pick_yes _ _ e
 
-  answer-none : held_in h a r s ≡ false → answer_of h a r s out ≡ NoModel
+  answer-none : held_in h a r s ≡ false → answer_of h a r s out ≡ Err NoModel
   unfolding answer_of
   answer-none e = pick_no _ _ e
 
@@ -83,28 +85,28 @@ module _ (h : Heading) (a r s out : List ℕ) where
         let v = (accepted-exactly q.bytes q.model).0 q.read in
         ap written (holds-model q.model h a r s long q.holds v.1) ∙ sym v.0
 
-    pub refused-exactly-proof : (answer_of h a r s out ≡ NoModel) ↔ (Readable h a r s → ⊥)
+    pub refused-exactly-proof : (answer_of h a r s out ≡ Err NoModel) ↔ (Readable h a r s → ⊥)
     refused-exactly-proof = (
       λ e q. for-none (sheet_in h a r s) (sym (answer-held (readable-held q)) ∙ e),
       λ none. go none (held_in h a r s) refl,
     )
       where
-        go : (Readable h a r s → ⊥) → (b : Bool) → held_in h a r s ≡ b → answer_of h a r s out ≡ NoModel
+        go : (Readable h a r s → ⊥) → (b : Bool) → held_in h a r s ≡ b → answer_of h a r s out ≡ Err NoModel
         go none true e = absurd (none (held-readable e))
         go none false e = answer-none e
 
     short-sheet : (q : Readable h a r s) → length out < length q.bytes
-        → answer_for (sheet_in h a r s) out ≡ TooShort
+        → answer_for (sheet_in h a r s) out ≡ Err TooShort
     unfolding answer_for
     short-sheet q l = rw (readable-sheet q) (pick_yes _ _ (lt-ltb _ _ l))
 
-    pub short-exactly-proof : (answer_of h a r s out ≡ TooShort) ↔ Longer h a r s out
+    pub short-exactly-proof : (answer_of h a r s out ≡ Err TooShort) ↔ Longer h a r s out
     short-exactly-proof = (
       λ e. go e (held_in h a r s) refl,
       λ q. answer-held (readable-held q.held) ∙ short-sheet q.held q.longer,
     )
       where
-        go : answer_of h a r s out ≡ TooShort → (b : Bool) → held_in h a r s ≡ b → Longer h a r s out
+        go : answer_of h a r s out ≡ Err TooShort → (b : Bool) → held_in h a r s ≡ b → Longer h a r s out
         go e true t = record {
           held = held-readable t;
           longer = for-short (sheet_in h a r s) (sym (answer-held t) ∙ e);
@@ -112,7 +114,7 @@ module _ (h : Heading) (a r s out : List ℕ) where
         go e false t = absurd (short-not-none (sym e ∙ answer-none t))
 
     fitting-answer : (q : Readable h a r s) → length q.bytes ≤ length out
-        → answer_for (sheet_in h a r s) out ≡ Written (length q.bytes)
+        → answer_for (sheet_in h a r s) out ≡ Ok (length q.bytes)
     unfolding answer_for
     fitting-answer q l = rw (readable-sheet q) (pick_no _ _ (le-ltb _ _ l))
 
@@ -123,19 +125,19 @@ module _ (h : Heading) (a r s out : List ℕ) where
 
     -- what is read into memory comes back
     pub written_over : (q : Readable h a r s) → length q.bytes ≤ length out
-        → (answer_of h a r s out ≡ Written (length q.bytes)) × (bytes_left h a r s out ≡ over q.bytes out)
+        → (answer_of h a r s out ≡ Ok (length q.bytes)) × (bytes_left h a r s out ≡ over q.bytes out)
     written_over q l = (
       answer-held (readable-held q) ∙ fitting-answer q l,
       left-held (readable-held q) ∙ fitting-left q l,
     )
 
     pub written-back-proof : (q : Readable h a r s) → length q.bytes ≤ length out
-        → (answer_of h a r s out ≡ Written (length q.bytes))
+        → (answer_of h a r s out ≡ Ok (length q.bytes))
         × (bytes_left h a r s out ≡ q.bytes ++ drop (length q.bytes) out)
     written-back-proof q l = let w = written_over q l in (w.0, w.1 ∙ over-room q.bytes out l)
 
     -- what was written is read as the model that memory holds
-    pub read-back-proof : (n : ℕ) → answer_of h a r s out ≡ Written n
+    pub read-back-proof : (n : ℕ) → answer_of h a r s out ≡ Ok n
         → (read_of (take n (bytes_left h a r s out)) ≡ accepted (model_in h a r s))
         × Holds (model_in h a r s) h a r s
     read-back-proof n e = go (held_in h a r s) refl
@@ -153,7 +155,7 @@ module _ (h : Heading) (a r s out : List ℕ) where
             )
 
   -- a refusal writes nothing
-  nothing-by : ((n : ℕ) → answer_of h a r s out ≡ Written n → ⊥) → (b : Bool) → held_in h a r s ≡ b
+  nothing-by : ((n : ℕ) → answer_of h a r s out ≡ Ok n → ⊥) → (b : Bool) → held_in h a r s ≡ b
       → bytes_left h a r s out ≡ out
   unfolding bytes_left answer_for left_for
   nothing-by none false t = pick_no _ _ t
@@ -163,7 +165,7 @@ module _ (h : Heading) (a r s out : List ℕ) where
       (λ l. refl)
       (λ l. absurd (none (length (sheet_in h a r s)) (answer-held t ∙ pick_no _ _ l)))
 
-  pub nothing-written-proof : ((n : ℕ) → answer_of h a r s out ≡ Written n → ⊥) → bytes_left h a r s out ≡ out
+  pub nothing-written-proof : ((n : ℕ) → answer_of h a r s out ≡ Ok n → ⊥) → bytes_left h a r s out ≡ out
   nothing-written-proof none = nothing-by none (held_in h a r s) refl
 
 -- ---- memory as reading leaves it
@@ -194,7 +196,7 @@ pub sheet-back-proof : (bytes : List ℕ) (m : Model) → read_of bytes ≡ acce
     → length bytes ≤ length out
     → (answer_of (heading_of m) (amounts_left (read_of bytes) a) (rates_left (read_of bytes) r)
     (species_left (read_of bytes) s)
-    out ≡ Written (length bytes))
+    out ≡ Ok (length bytes))
     × (bytes_left (heading_of m) (amounts_left (read_of bytes) a) (rates_left (read_of bytes) r)
     (species_left (read_of bytes) s) out ≡ bytes ++ drop (length bytes) out)
 sheet-back-proof bytes m e a r s out long l =

@@ -2,8 +2,6 @@
 // no model of document 01 is refused by 23, and a sheet that is longer than the memory by 24.
 #![tactic(auto)]
 
-mod copy;
-mod digits;
 mod listing;
 mod numbers;
 pub mod rewriting;

@@ -9,12 +9,12 @@ use lib.Dec.{eqb}
 use lib.ListN.{length}
 use lib.Ieee.{Float, nan, le, lt, eq}
 use borrow.Author.Tests.{eqb-true, eqb-false}
+use Rattle.std.specs.Prelude.{Ok, Err}
 use Rattle.words.proofs.Branch.{pick_yes, pick_no, pick_all}
 use Rattle.dense.specs.Bounds.{bounds_of}
 use Rattle.dense.specs.Interpolate.{interpolate_of}
 use Rattle.shelf.specs.declared.answers.Shelf.{Shelf}
-use Rattle.shelf.specs.declared.answers.Placing.TheVariants as placing
-use Rattle.shelf.specs.declared.answers.Asking.TheVariants as asking
+use Rattle.shelf.specs.declared.answers.ShelfError.TheVariants as shelf_error
 use Rattle.shelf.specs.Shelf.{Step, step, holds, shelved, place_after, steps_after, shelf, kept_of}
 use Rattle.shelf.specs.Answers.{Placed, placed, placing_number, Asked, asked, asking_number}
 use Rattle.shelf.specs.Refusals.{room_fits, shelf_fits, Room, Fit}
@@ -73,12 +73,12 @@ module _ (s : Shelf) (cont : List Float) (xold h : Float) (cs es : List Float) w
   abbrev pub PutRoom : Type 0
   PutRoom = (length cont ≡ 4 * count) × Room count (length cs) (length es)
 
-  put-way : Way PutRoom (Fit s) put (placed placing.RefusedLength cs es) (placed placing.RefusedShelf cs es)
+  put-way : Way PutRoom (Fit s) put (placed (Err shelf_error.Length) cs es) (placed (Err shelf_error.State) cs es)
       (put_at s cont xold h cs es)
   put-way = by (eqb (length cont % 4) 0) (room_fits count (length cs) (length es)) (shelf_fits s) refl refl refl
     where
       by : (a r f : Bool) → eqb (length cont % 4) 0 ≡ a → room_fits count (length cs) (length es) ≡ r → shelf_fits s ≡ f
-          → Way PutRoom (Fit s) put (placed placing.RefusedLength cs es) (placed placing.RefusedShelf cs es)
+          → Way PutRoom (Fit s) put (placed (Err shelf_error.Length) cs es) (placed (Err shelf_error.State) cs es)
           (put_at s cont xold h cs es)
       by false r f d e g =
           let uneven : length cont % 4 ≡ 0 → ⊥ = eqb-false _ _ d in
@@ -104,7 +104,7 @@ module _ (s : Shelf) (cont : List Float) (xold h : Float) (cs es : List Float) w
   pub put-kept-proof : (put_number put ≡ 0 → ⊥) → (put.coefficients ≡ cs) × (put.ends ≡ es)
   put-kept-proof other = by put-way
     where
-      by : Way PutRoom (Fit s) put (placed placing.RefusedLength cs es) (placed placing.RefusedShelf cs es)
+      by : Way PutRoom (Fit s) put (placed (Err shelf_error.Length) cs es) (placed (Err shelf_error.State) cs es)
           (put_at s cont xold h cs es)
           → (put.coefficients ≡ cs) × (put.ends ≡ es)
       by (narrow p e) = (ap (λ (o : Placed). o.coefficients) e, ap (λ (o : Placed). o.ends) e)
@@ -114,7 +114,7 @@ module _ (s : Shelf) (cont : List Float) (xold h : Float) (cs es : List Float) w
   pub put-done-proof : PutRoom → Fit s → put ≡ put_at s cont xold h cs es
   put-done-proof room fit = by put-way
     where
-      by : Way PutRoom (Fit s) put (placed placing.RefusedLength cs es) (placed placing.RefusedShelf cs es)
+      by : Way PutRoom (Fit s) put (placed (Err shelf_error.Length) cs es) (placed (Err shelf_error.State) cs es)
           (put_at s cont xold h cs es)
           → put ≡ put_at s cont xold h cs es
       by (narrow p e) = absurd (p room)
@@ -128,10 +128,10 @@ module _ (s : Shelf) (cont : List Float) (xold h : Float) (cs es : List Float) w
     pub coefficients : length put.coefficients ≡ length cs
     pub ends : length put.ends ≡ length es
 
-  pub put-keeps-proof : (s' : Shelf) → put.answer ≡ placing.Kept s' → Kept s'
+  pub put-keeps-proof : (s' : Shelf) → put.answer ≡ Ok s' → Kept s'
   put-keeps-proof s' a = by put-way
     where
-      by : Way PutRoom (Fit s) put (placed placing.RefusedLength cs es) (placed placing.RefusedShelf cs es)
+      by : Way PutRoom (Fit s) put (placed (Err shelf_error.Length) cs es) (placed (Err shelf_error.State) cs es)
           (put_at s cont xold h cs es)
           → Kept s'
       by (narrow p e) =
@@ -140,7 +140,7 @@ module _ (s : Shelf) (cont : List Float) (xold h : Float) (cs es : List Float) w
           absurd (let z : ◌≡◌ {A = ℕ} 13 0 = sym (ap put_number e) ∙ ap placing_number a in
           let y : ⊥ = omega arith in y)
       by (done p q e) =
-          let same : placing.Kept s' ≡ placing.Kept (shelf (steps_after s.steps) (place_after s.place)) =
+          let same : Ok s' ≡ Ok (shelf (steps_after s.steps) (place_after s.place)) =
           sym a ∙ ap (λ (o : Placed). o.answer) e in
           let after : s' ≡ shelf (steps_after s.steps) (place_after s.place) = cc in
           record {
@@ -194,7 +194,7 @@ module _ (x : Float) (target : List Float) where
   pub newest-proof : (newer : List Step) (s : Step) (older : List Step) → NoneHolds x newer
       → holds x s.xold s.h ≡ true
       → answer_of x target (newer ++ s ∷ older)
-      ≡ asked asking.Answered (interpolate_of x target s.coefficients s.xold s.h).yi
+      ≡ asked (Ok tt) (interpolate_of x target s.coefficients s.xold s.h).yi
   unfolding answer_of NoneHolds
   newest-proof [] s older none here = pick_yes _ _ here
   newest-proof (t ∷ newer) s older none here = pick_no _ _ none.0 ∙ newest-proof newer s older none.1 here
@@ -219,12 +219,12 @@ module _ (s : Shelf) (x : Float) (target cs es : List Float) where
   abbrev pub AskRoom : Type 0
   AskRoom = Room (length target) (length cs) (length es)
 
-  ask-way : Way AskRoom (Fit s) ask (asked asking.RefusedLength target) (asked asking.RefusedShelf target)
+  ask-way : Way AskRoom (Fit s) ask (asked (Err shelf_error.Length) target) (asked (Err shelf_error.State) target)
       (answer_of x target kept)
   ask-way = by (room_fits (length target) (length cs) (length es)) (shelf_fits s) refl refl
     where
       by : (r f : Bool) → room_fits (length target) (length cs) (length es) ≡ r → shelf_fits s ≡ f
-          → Way AskRoom (Fit s) ask (asked asking.RefusedLength target) (asked asking.RefusedShelf target)
+          → Way AskRoom (Fit s) ask (asked (Err shelf_error.Length) target) (asked (Err shelf_error.State) target)
           (answer_of x target kept)
       by false f e g =
           narrow (λ w. true≢false (sym (fit-room _ _ _ w) ∙ e)) (sym (ask-narrow s x target cs es e))
@@ -253,7 +253,7 @@ module _ (s : Shelf) (x : Float) (target cs es : List Float) where
   pub ask-kept-proof : (ask_number x target ask ≡ 0 → ⊥) → ask.target ≡ target
   ask-kept-proof other = by ask-way
     where
-      by : Way AskRoom (Fit s) ask (asked asking.RefusedLength target) (asked asking.RefusedShelf target)
+      by : Way AskRoom (Fit s) ask (asked (Err shelf_error.Length) target) (asked (Err shelf_error.State) target)
           (answer_of x target kept)
           → ask.target ≡ target
       by (narrow p e) = ap (λ (o : Asked). o.target) e
@@ -265,7 +265,7 @@ module _ (s : Shelf) (x : Float) (target cs es : List Float) where
   pub ask-answer-proof : AskRoom → Fit s → ask ≡ answer_of x target kept
   ask-answer-proof room fit = by ask-way
     where
-      by : Way AskRoom (Fit s) ask (asked asking.RefusedLength target) (asked asking.RefusedShelf target)
+      by : Way AskRoom (Fit s) ask (asked (Err shelf_error.Length) target) (asked (Err shelf_error.State) target)
           (answer_of x target kept)
           → ask ≡ answer_of x target kept
       by (narrow p e) = absurd (p room)

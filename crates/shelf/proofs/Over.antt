@@ -1,13 +1,13 @@
 -- Values put over those of a list: it keeps its length, has the values where they were put, and all else as it was.
 use Prim.Native.Nat.{ℕ, ◌+◌, ◌-◌, ◌≤◌, ◌<◌}
 use mathlib.Core.Path.{◌≡◌, sym, ap, ◌∙◌}
-use mathlib.Core.List.{List, [], ◌∷◌, ◌++◌, append_assoc}
+use mathlib.Core.List.{List, ◌++◌, append_assoc}
 use native.Mathlib.Nat.{le_refl, add-zero}
-use native.Mathlib.Numerals.{add-one}
 use native.Mathlib.Omega.{arith}
-use lib.ListN.{length, get_or, set, take, drop, length-append, length-drop, take-append-drop}
+use lib.ListN.{length, get_or, take, drop, length-append, length-drop, take-append-drop}
 use lib.Seq.{length-take-le, take-length, take-append-le, drop-append-le, drop-append-add, take-append_seam, drop_at}
-use lib.Seq.{get_or-take, get_or-drop, drop-drop, sets-eq, paste, length-paste}
+use lib.Seq.{get_or-take, get_or-drop, drop-drop, paste, length-paste}
+use borrow.Rule.Slice.PartMut.{put_mid}
 use Rattle.shelf.specs.Shelf.{over}
 
 module _ {A : Type 0} where
@@ -23,12 +23,13 @@ module _ {A : Type 0} where
   over-paste start values room =
       ap (λ (vs : List A). take start room ++ vs ++ drop (start + length values) room) (take-length values)
 
-  -- two stores side by side
-  pub over-two : (start : ℕ) (a b : A) (room : List A) → start + 2 ≤ length room
-      → set (set room start a) (start + 1) b ≡ over start (a ∷ b ∷ []) room
+  -- what a part of the room holds once the values are copied to it
+  pub put-over : (start : ℕ) (values room : List A) {copied : List A} → copied ≡ values
+      → put_mid start (start + length values - start) room copied ≡ over start values room
   unfolding over
-  over-two start a b room h =
-      ap (λ (k : ℕ). set (set room start a) k b) (add-one start) ∙ sets-eq (a ∷ b ∷ []) room start h
+  put-over start values room e =
+      let size : start + length values - start ≡ length values = omega arith in
+      rw (e, size, drop-drop, append_assoc)
 
 module _ {A : Type 0} (start : ℕ) (values room : List A) (fits : start + length values ≤ length room) where
   abbrev head : List A

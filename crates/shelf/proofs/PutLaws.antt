@@ -8,9 +8,10 @@ use lib.Dec.{eqb}
 use lib.ListN.{length}
 use lib.Ieee.{Float}
 use borrow.Author.Tests.{eq-eqb, ne_eqb}
+use Rattle.std.specs.Prelude.{Err}
 use Rattle.words.proofs.Branch.{yes, no}
 use Rattle.shelf.specs.declared.answers.Shelf.{Shelf}
-use Rattle.shelf.specs.declared.answers.Placing.TheVariants as placing
+use Rattle.shelf.specs.declared.answers.ShelfError.TheVariants as shelf_error
 use Rattle.shelf.specs.Answers.{Placed, placed}
 use Rattle.shelf.specs.Refusals.{room_fits, shelf_fits}
 use Rattle.shelf.specs.Put.{put_at, put_of}
@@ -22,7 +23,7 @@ module _ (s : Shelf) (cont : List Float) (xold h : Float) (cs es : List Float) w
   abbrev count : ℕ
   count = length cont / 4
 
-  pub put-uneven : (length cont % 4 ≡ 0 → ⊥) → placed placing.RefusedLength cs es ≡ outcome
+  pub put-uneven : (length cont % 4 ≡ 0 → ⊥) → placed (Err shelf_error.Length) cs es ≡ outcome
   unfolding put_of
   put-uneven uneven =
       yes _ _ _
@@ -38,12 +39,12 @@ module _ (s : Shelf) (cont : List Float) (xold h : Float) (cs es : List Float) w
         (eq-eqb (length cont) (4 * count) (omega arith))
         ∙ ap not e
 
-    pub put-narrow : room_fits count (length cs) (length es) ≡ false → placed placing.RefusedLength cs es ≡ outcome
+    pub put-narrow : room_fits count (length cs) (length es) ≡ false → placed (Err shelf_error.Length) cs es ≡ outcome
     unfolding put_of
     put-narrow e = yes _ _ _ (fours e) refl
 
     module _ (wide : room_fits count (length cs) (length es) ≡ true) where
-      pub put-unfit : shelf_fits s ≡ false → placed placing.RefusedShelf cs es ≡ outcome
+      pub put-unfit : shelf_fits s ≡ false → placed (Err shelf_error.State) cs es ≡ outcome
       unfolding put_of
       put-unfit e = no _ _ _ (fours wide) (yes _ _ _ (ap not e) refl)
 

@@ -7,12 +7,13 @@ use mathlib.Core.Path.{◌≡◌, ap, sym}
 use mathlib.Core.List.{List, [], ◌∷◌, ◌++◌}
 use lib.Dec.{eqb}
 use lib.Ieee.{Float, binary64, add, sub, mul, div, le, lt, of_bits, to_bits}
+use Rattle.std.specs.Prelude.{Ok, Err}
 use Rattle.words.specs.Words.{◌!◌}
 use Rattle.words.specs.Constants.{«0·0», «1·0», «2·0»}
 use Rattle.words.specs.Loop.{loop, pick}
 use Rattle.dense.specs.Bounds.{bounds_of}
 use Rattle.dense.specs.Interpolate.{place_of, polynomial_of, amount_of, interpolate_at, interpolate_of}
-use Rattle.shelf.specs.declared.answers.Asking.TheVariants as asking
+use Rattle.shelf.specs.declared.answers.ShelfError.TheVariants as shelf_error
 use Rattle.shelf.specs.Shelf.{Step, step, holds}
 use Rattle.shelf.specs.Answers.{Asked, asked, asking_number}
 use Rattle.shelf.specs.Ask.{answer_of}
@@ -51,10 +52,10 @@ not-oldest-first meets = true≢false (sym (ap is_two (meets «1·0» («0·0» 
 -- ---- strict ends
 
 abbrev pub strict_ends : Routine
-strict_ends x target [] = asked asking.RefusedPoint target
+strict_ends x target [] = asked (Err shelf_error.Point) target
 strict_ends x target (s ∷ rest) =
     pick (lt (bounds_of s.xold s.h).left x && lt x (bounds_of s.xold s.h).right)
-    (asked asking.Answered (interpolate_of x target s.coefficients s.xold s.h).yi)
+    (asked (Ok tt) (interpolate_of x target s.coefficients s.xold s.h).yi)
     (strict_ends x target rest)
 
 abbrev is_answered : Asked → Bool

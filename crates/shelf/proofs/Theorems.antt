@@ -7,10 +7,9 @@ use mathlib.Core.List.{List, [], ◌∷◌, ◌++◌}
 use mathlib.Core.Logic.{◌↔◌}
 use lib.ListN.{length}
 use lib.Ieee.{Float, nan}
+use Rattle.std.specs.Prelude.{Ok}
 use Rattle.dense.specs.Interpolate.{interpolate_of}
 use Rattle.shelf.specs.declared.answers.Shelf.{Shelf}
-use Rattle.shelf.specs.declared.answers.Placing.TheVariants as placing
-use Rattle.shelf.specs.declared.answers.Asking.TheVariants as asking
 use Rattle.shelf.specs.Shelf.{Step, holds, empty_shelf, steps_before, kept_of}
 use Rattle.shelf.specs.Answers.{placing_number, asked, asking_number}
 use Rattle.shelf.specs.Refusals.{Room, Fit}
@@ -30,7 +29,7 @@ empty-keeps n coefficients ends = refl
 -- A step that is put on a shelf is the newest there; of the others the oldest gives up its room where all 48 were
 -- taken. The shelf is fit again, and the parts keep their lengths.
 pub put_keeps : (s s' : Shelf) (cont : List Float) (xold h : Float) (coefficients ends : List Float)
-    → (put_of s cont xold h coefficients ends).answer ≡ placing.Kept s' → Kept s cont xold h coefficients ends s'
+    → (put_of s cont xold h coefficients ends).answer ≡ Ok s' → Kept s cont xold h coefficients ends s'
 put_keeps s s' cont xold h coefficients ends = put-keeps-proof s cont xold h coefficients ends s'
 
 -- ---- when putting refuses
@@ -67,7 +66,7 @@ ask-answer = ask-answer-proof
 pub newest-answers : (x : Float) (target : List Float) (newer : List Step) (s : Step) (older : List Step)
     → NoneHolds x newer → holds x s.xold s.h ≡ true
     → answer_of x target (newer ++ s ∷ older)
-    ≡ asked asking.Answered (interpolate_of x target s.coefficients s.xold s.h).yi
+    ≡ asked (Ok tt) (interpolate_of x target s.coefficients s.xold s.h).yi
 newest-answers = newest-proof
 
 -- 2 exactly when a part hasn't room for just 48 steps of as many amounts as the target has entries.

@@ -1,21 +1,30 @@
 -- What putting and asking answer and leave behind, and the number of each answer (01, 'Numbers that refuse', and 02).
-use Rattle.std.specs.Prelude.{ℕ, List, Float}
-use Rattle.shelf.specs.declared.answers.Placing.{Placing}
-use Rattle.shelf.specs.declared.answers.Placing.TheVariants as placing
-use Rattle.shelf.specs.declared.answers.Asking.{Asking}
-use Rattle.shelf.specs.declared.answers.Asking.TheVariants as asking
+use Rattle.std.specs.Prelude.{ℕ, List, Result, Ok, Err, Float}
+use Rattle.shelf.specs.declared.answers.Shelf.{Shelf}
+use Rattle.shelf.specs.declared.answers.ShelfError.{ShelfError}
+use Rattle.shelf.specs.declared.answers.ShelfError.TheVariants as shelf_error
+
+-- the shelf from now on, or why the step isn't kept
+abbrev pub Placing : Type 0
+Placing = Result Shelf ShelfError
+
+-- the target holds the amounts, or why it doesn't
+abbrev pub Asking : Type 0
+Asking = Result Unit ShelfError
+
+abbrev pub error_number : ShelfError → ℕ
+error_number shelf_error.Length = 2
+error_number shelf_error.State = 13
+error_number shelf_error.Point = 25
 
 -- 0 where nothing is refused
 abbrev pub placing_number : Placing → ℕ
-placing_number (placing.Kept s) = 0
-placing_number placing.RefusedLength = 2
-placing_number placing.RefusedShelf = 13
+placing_number (Ok s) = 0
+placing_number (Err e) = error_number e
 
 abbrev pub asking_number : Asking → ℕ
-asking_number asking.Answered = 0
-asking_number asking.RefusedLength = 2
-asking_number asking.RefusedShelf = 13
-asking_number asking.RefusedPoint = 25
+asking_number (Ok done) = 0
+asking_number (Err e) = error_number e
 
 -- the answer, and how the two parts are left
 pub record Placed : Type 0 where

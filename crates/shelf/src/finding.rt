@@ -6,34 +6,25 @@ ghost use Rattle.shelf.specs.Finding.{found_from};
 use crate::places::place_before;
 use dense::bounds;
 
-// The place of a step, or none.
-#[derive(Clone, Copy)]
-pub enum Found {
-    At(usize),
-    Nothing,
-}
-
 // Whether x lies in the step from xold by h, its ends included. A NaN passes no test.
 fn within(x: f64, xold: f64, h: f64) -> bool
     ensures { result ≡ holds x xold h }
 {
     let reach = bounds(xold, h);
-    (reach.left <= x) & (x <= reach.right)
+    reach.left <= x && x <= reach.right
 }
 
 // Goes back from the newest step, one by one.
-pub fn find(x: f64, ends: &[f64], place: usize, steps: usize) -> Found
+pub fn find(x: f64, ends: &[f64], place: usize, steps: usize) -> Option<usize>
     requires { (length ends.now ≡ most_kept * 2) × (place ≤ last_place) }
     ensures { result ≡ found_from x ends.now place steps }
 {
     let mut at = place;
-    let mut left = steps;
-    while 0 < left {
+    for _ in 0..steps {
         at = place_before(at);
-        left -= 1;
         if within(x, ends[2 * at], ends[2 * at + 1]) {
-            return Found::At(at);
+            return Some(at);
         }
     }
-    Found::Nothing
+    None
 }

@@ -12,14 +12,16 @@ const AN_AMOUNT: usize = 192;
 const ENDS: usize = 96;
 
 // Whether the two parts are as long as 48 steps of n amounts are. No product is formed, which might not fit.
+#[tactic(auto, unfolding(crate::specs::Refusals::room_fits))]
 pub fn room_fits(n: usize, coefficients: usize, ends: usize) -> bool
     ensures { result ≡ room_fits n coefficients ends }
 {
-    (coefficients / AN_AMOUNT == n) & (coefficients % AN_AMOUNT == 0) & (ends == ENDS)
+    coefficients / AN_AMOUNT == n && coefficients % AN_AMOUNT == 0 && ends == ENDS
 }
 
+#[tactic(auto, unfolding(crate::specs::Refusals::shelf_fits))]
 pub fn shelf_fits(shelf: Shelf) -> bool
     ensures { result ≡ shelf_fits shelf }
 {
-    (shelf.steps <= MOST) & (shelf.place <= LAST)
+    shelf.steps <= MOST && shelf.place <= LAST
 }

@@ -9,6 +9,6 @@ mod fit;
 mod places;
 pub mod placing;
 
-pub use answers::{Asking, Placing, Shelf};
+pub use answers::{Shelf, ShelfError};
 pub use asking::ask;
 pub use placing::{empty, put};

@@ -1,10 +1,10 @@
 // A step is put on the shelf, and a shelf is emptied.
-ghost use Rattle.std.specs.Prelude.{◌+◌, ◌≤◌, ◌≡◌, length};
-ghost use Rattle.shelf.specs.Shelf.{over, empty_shelf};
+ghost use Rattle.std.specs.Prelude.{◌≡◌};
+ghost use Rattle.shelf.specs.Shelf.{empty_shelf};
 ghost use Rattle.shelf.specs.Answers.{placed};
 ghost use Rattle.shelf.specs.Put.{put_of};
 
-use crate::answers::{Placing, Shelf};
+use crate::answers::{Shelf, ShelfError};
 use crate::fit::{room_fits, shelf_fits};
 use crate::places::{place_after, steps_after};
 
@@ -13,16 +13,6 @@ pub fn empty() -> Shelf
     ensures { result ≡ empty_shelf }
 {
     Shelf { steps: 0, place: 0 }
-}
-
-// Puts the coefficients into the room from `start` on.
-fn copy(cont: &[f64], start: usize, coefficients: &mut [f64])
-    requires { start + length cont.now ≤ length coefficients.old }
-    ensures { coefficients.new ≡ over start cont.now coefficients.old }
-{
-    for i in 0..cont.len() {
-        coefficients[start + i] = cont[i];
-    }
 }
 
 // Keeps the step from xold by h with its coefficients, in the place of the oldest where all 48 are taken. The parts
@@ -34,24 +24,25 @@ pub fn put(
     h: f64,
     coefficients: &mut [f64],
     ends: &mut [f64],
-) -> Placing
+) -> Result<Shelf, ShelfError>
     ensures { placed result coefficients.new ends.new
         ≡ put_of shelf cont.now xold h coefficients.old ends.old }
 {
     if cont.len() % 4 != 0 {
-        return Placing::RefusedLength;
+        return Err(ShelfError::Length);
     }
     if !room_fits(cont.len() / 4, coefficients.len(), ends.len()) {
-        return Placing::RefusedLength;
+        return Err(ShelfError::Length);
     }
     if !shelf_fits(shelf) {
-        return Placing::RefusedShelf;
+        return Err(ShelfError::State);
     }
     let place = shelf.place;
-    copy(cont, place * cont.len(), coefficients);
-    ends[2 * place] = xold;
-    ends[2 * place + 1] = h;
-    Placing::Kept(Shelf {
+    let start = place * cont.len();
+    coefficients[start..start + cont.len()].copy_from_slice(cont);
+    let end = 2 * place;
+    ends[end..end + 2].copy_from_slice(&[xold, h]);
+    Ok(Shelf {
         steps: steps_after(shelf.steps),
         place: place_after(place),
     })

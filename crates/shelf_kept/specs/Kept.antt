@@ -1,6 +1,6 @@
 -- The steps that a journal accepted since its last modified point, and the shelf of a host that puts a step there at
 -- each report after the first and empties it when it replies 'modified' (02, [10]).
-use Rattle.std.specs.Prelude.{Bool, true, false, ◌||◌, List, [], ◌∷◌, Float}
+use Rattle.std.specs.Prelude.{Bool, true, false, ◌||◌, List, [], ◌∷◌, Ok, Err, Float}
 use Rattle.words.specs.Loop.{pick}
 use Rattle.state.specs.declared.talk.Reply.{Reply}
 use Rattle.state.specs.declared.talk.Reply.TheVariants as reply
@@ -11,10 +11,8 @@ use Rattle.history.specs.History.{Point}
 use Rattle.account.specs.Journal.{Turn, Journal}
 use Rattle.account.specs.Reading.{is_report, later_all}
 use Rattle.shelf.specs.declared.answers.Shelf.{Shelf}
-use Rattle.shelf.specs.declared.answers.Placing.{Placing}
-use Rattle.shelf.specs.declared.answers.Placing.TheVariants as placing
 use Rattle.shelf.specs.Shelf.{Step, step, empty_shelf}
-use Rattle.shelf.specs.Answers.{Placed}
+use Rattle.shelf.specs.Answers.{Placing, Placed}
 use Rattle.shelf.specs.Put.{put_of}
 
 -- ---- the steps that were accepted
@@ -65,9 +63,8 @@ beside s coefficients ends = record { shelf = s; coefficients = coefficients; en
 
 -- what the host goes on with: the shelf that `put` gave it, or the one that it had
 unfoldable pub shelf_after : Placing → Shelf → Shelf
-shelf_after (placing.Kept s) old = s
-shelf_after placing.RefusedLength old = old
-shelf_after placing.RefusedShelf old = old
+shelf_after (Ok s) old = s
+shelf_after (Err e) old = old
 
 abbrev pub after_put : Placed → Beside → Beside
 after_put o b = beside (shelf_after o.answer b.shelf) o.coefficients o.ends

@@ -19,7 +19,6 @@ use Rattle.state.specs.declared.run.Status.TheVariants.{NeedLargerNMax, StepSize
 use Rattle.state.specs.declared.run.Stage.{Stage}
 use Rattle.state.specs.declared.run.Stage.TheVariants as stage
 use Rattle.state.specs.declared.talk.Reply.{Reply}
-use Rattle.state.specs.declared.talk.Verdict.TheVariants.{Passed}
 use Rattle.state.specs.Memory.{Memory, memory, amounts, Newton, Differences}
 use Rattle.state.specs.MemorySetters.{set_cont, set_y_cont, set_f12, set_newton, set_differences, set_column}
 use Rattle.opening.specs.Rows.{verdict_of}
@@ -53,6 +52,7 @@ use Rattle.solve_beside.proofs.Rounds.{round_same, again-same}
 use Rattle.solve_beside.proofs.Judgement.{estimate-same, refined-same}
 use Rattle.solve_beside.proofs.Reports.{ColumnsSame, reported-same, arrived-same, started-same, returned-same}
 use Rattle.solve_beside.proofs.Reports.{column-same}
+use Rattle.state.specs.Talk.{passed_all}
 
 -- ---- what is asked of the changes
 
@@ -206,7 +206,7 @@ module _ (c : Changes) (rules : RuleSame c) where
       (called_same t.core.step t.core.memory both)
 
   -- an advance that is admitted leaves the order of its run as it was
-  pub advance-same : (r : Run) (p : Reply) (m : Memory) → verdict_of (admission_rows r p m) ≡ Passed
+  pub advance-same : (r : Run) (p : Reply) (m : Memory) → verdict_of (admission_rows r p m) ≡ passed_all
       → BuiltSame c r.shape.n → At c r.stage → Agree c (step_past r p m)
       → whole_of (run_by c r) p (memory_by c m) ≡ on_core (called_by c) (whole_of r p m)
   advance-same r p m passed built at both =

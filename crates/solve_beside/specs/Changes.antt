@@ -7,8 +7,8 @@ use Rattle.state.specs.declared.settings.Source.{Source}
 use Rattle.state.specs.declared.run.Run.{Run}
 use Rattle.state.specs.Memory.{Memory, given}
 use Rattle.state.specs.MemorySetters.{set_given}
-use Rattle.solve_blocks.specs.declared.step.Call.{Call}
-use Rattle.solve_blocks.specs.Matrices.{call}
+use Rattle.state.specs.declared.talk.Call.{Call}
+use Rattle.state.specs.Talk.{call}
 use Rattle.solve_blocks.specs.Advance.{Called, called}
 
 pub record Changes : Type 0 where

@@ -6,7 +6,6 @@ use native.Mathlib.Omega.{arith}
 use borrow.Author.Tests.{ltb-false, eqb-true, not-false}
 use Rattle.state.specs.declared.run.Run.{Run}
 use Rattle.state.specs.declared.talk.Reply.{Reply}
-use Rattle.state.specs.declared.talk.Verdict.TheVariants.{Passed}
 use Rattle.state.specs.Memory.{Memory, lengths_fit}
 use Rattle.opening.specs.Rows.{verdict_of}
 use Rattle.opening.specs.Admission.{admission_rows, asking_at}
@@ -15,6 +14,7 @@ use Rattle.opening.proofs.OpeningLaws.{within, groups_of, amounts-long, newton-l
 use Rattle.opening.proofs.OpeningLaws.{given-long, factors-long, differences-long}
 use Rattle.opening.proofs.AdmissionLaws.{product_small}
 use Rattle.solve_blocks.specs.Needs.{Fit, StageFit, MemoryLong}
+use Rattle.state.specs.Talk.{passed_all}
 
 pub record Admitted (r : Run) (m : Memory) : Type 0 where
   pub fit : Fit 16 r.shape.n r
@@ -56,7 +56,7 @@ not-both : (a b : Bool) → (a && not b) ≡ false → b ≡ false → a ≡ fal
 not-both true b e h = sym (ap not h) ∙ e
 not-both false b e h = refl
 
-pub admitted : (r : Run) (p : Reply) (m : Memory) → verdict_of (admission_rows r p m) ≡ Passed → Admitted r m
+pub admitted : (r : Run) (p : Reply) (m : Memory) → verdict_of (admission_rows r p m) ≡ passed_all → Admitted r m
 admitted r p m e =
     let none = (verdict-first (admission_rows r p m)).1.0 e in
     let order = within 1 32 r.shape.n (none 0 (omega arith)) in

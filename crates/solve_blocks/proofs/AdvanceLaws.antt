@@ -11,19 +11,16 @@ use Rattle.state.specs.declared.run.Run.{Run}
 use Rattle.state.specs.declared.run.Stage.{Stage}
 use Rattle.state.specs.declared.run.Stage.TheVariants as stage
 use Rattle.state.specs.declared.run.Status.{Status}
-use Rattle.state.specs.declared.talk.Answer.TheVariants as answer
 use Rattle.state.specs.declared.talk.Place.TheVariants.{ContToZ2, ContToZ3}
 use Rattle.state.specs.declared.talk.Refusal.{Refusal}
 use Rattle.state.specs.declared.talk.Reply.{Reply}
-use Rattle.state.specs.declared.talk.Verdict.{Verdict}
-use Rattle.state.specs.declared.talk.Verdict.TheVariants as verdict
 use Rattle.state.specs.Memory.{Memory, memory, amounts, Newton, Factors, Differences}
 use Rattle.state.specs.MemorySetters.{set_scal, set_cont, set_y_cont, set_f12}
 use Rattle.state.specs.MemorySetters.{set_newton, set_factors, set_differences}
 use Rattle.state.specs.MemorySetters.{set_column}
 use Rattle.opening.specs.Rows.{verdict_of}
 use Rattle.opening.specs.Admission.{admission_rows}
-use Rattle.solve_blocks.specs.declared.step.Call.{Call}
+use Rattle.state.specs.declared.talk.Call.{Call}
 use Rattle.solve_blocks.specs.declared.step.Round.{Round}
 use Rattle.solve_blocks.specs.declared.step.Round.TheVariants as round
 use Rattle.solve_blocks.specs.declared.step.Step.{Step}
@@ -41,6 +38,8 @@ use Rattle.solve_blocks.specs.Advance.{Stepped, stepped, started_of, returned_of
 use Rattle.solve_blocks.specs.Advance.{conclude_of, replied_of, received_of, called, called_of}
 use Rattle.solve_blocks.specs.Advance.{advance_outcome, advance_by, advance_of}
 use Rattle.solve_blocks.specs.Needs.{Fit, StepFit, RoundFit, HeardFit, NewtonLong}
+use Rattle.std.specs.Prelude.{Ok, Err}
+use Rattle.state.specs.Talk.{Verdict, call, refused, passed_all}
 
 -- ---- past a report
 
@@ -194,21 +193,21 @@ module _ (r : Run) (p : Reply) (m : Memory) where
 
   -- ---- the advance
 
-  pub advance-refused : (x : Refusal) → verdict_of (admission_rows r p m) ≡ verdict.Refused x
-      → advance_outcome (answer.Refused r x) m ≡ (advance_of r p m).core
+  pub advance-refused : (x : Refusal) → verdict_of (admission_rows r p m) ≡ Err x
+      → advance_outcome (Err (refused r x)) m ≡ (advance_of r p m).core
   unfolding advance_by
   advance-refused x e = ap (λ (v : Verdict). (advance_by v r p m).core) (sym e)
 
   pub advance-passed : (t : Stepped) (s : Step) (f : Factors) (c : Call) (w : Memory)
-      → verdict_of (admission_rows r p m) ≡ verdict.Passed
+      → verdict_of (admission_rows r p m) ≡ passed_all
       → t ≡ (received_of r p m).core
       → tried s f ≡ (passes_of t.step t.memory.given.mass t.memory.given.jac t.memory.factors).core
       → called c w ≡ (called_of s (set_factors f t.memory)).core
-      → advance_outcome (answer.Asked c.run c.request c.place) w ≡ (advance_of r p m).core
+      → advance_outcome (Ok c) w ≡ (advance_of r p m).core
   unfolding advance_by
   advance-passed t s f c w e et es ec =
-      let q : advance_outcome (answer.Asked c.run c.request c.place) w
-      ≡ (advance_by verdict.Passed r p m).core = rw (← et, ← es, ← ec) in
+      let q : advance_outcome (Ok c) w
+      ≡ (advance_by (Ok tt) r p m).core = rw (← et, ← es, ← ec) in
       q ∙ ap (λ (v : Verdict). (advance_by v r p m).core) (sym e)
 
 -- ---- what the callees ask

@@ -17,7 +17,7 @@ use Rattle.scalar.specs.Order.{abs_of}
 use Rattle.state.specs.declared.run.Run.{Run}
 use Rattle.state.specs.declared.run.Status.TheVariants.{NeedLargerNMax, StepSizeTooSmall}
 use Rattle.state.specs.Memory.{Newton, newton, zeros}
-use Rattle.solve_blocks.specs.declared.step.Call.{Call}
+use Rattle.state.specs.declared.talk.Call.{Call}
 use Rattle.solve_blocks.specs.Setters.{in_counts, one_total}
 use Rattle.solve_blocks.specs.Events.{Logged}
 use Rattle.solve_blocks.specs.Matrices.{ended_of}

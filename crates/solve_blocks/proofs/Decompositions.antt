@@ -16,10 +16,8 @@ use Rattle.words.specs.Words.{◌!◌}
 use Rattle.words.specs.Loop.{turns, loop, pick}
 use Rattle.words.specs.Grid.{Square, put}
 use Rattle.words.proofs.Branch.{pick_all}
-use Rattle.matrix.specs.declared.answers.Decomposed.{Decomposed}
-use Rattle.matrix.specs.declared.answers.Solved.{Solved}
 use Rattle.matrix.specs.declared.complex.Complex.{Complex}
-use Rattle.matrix.specs.Answers.{nowhere, Decomposition, decomposition, Solution, solution}
+use Rattle.matrix.specs.Answers.{nowhere, Decomposed, Decomposition, decomposition, Solved, Solution, solution}
 use Rattle.matrix.specs.Complex.{Parts, put_complex, entry_complex, set_complex}
 use Rattle.matrix.specs.Elimination.{Kind, Best, best, Work, work, goes_on, better_at, pivot_row}
 use Rattle.matrix.specs.Elimination.{swapped, scaled_at, column_at, eliminated, pass_with}

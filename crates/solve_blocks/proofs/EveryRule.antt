@@ -16,8 +16,6 @@ use Rattle.words.specs.Grid.{Square}
 use Rattle.words.proofs.Branch.{pick_all}
 use Rattle.matrix.specs.Answers.{nowhere}
 use Rattle.matrix.proofs.Interchange.{through}
-use Rattle.state.specs.declared.settings.Number.{Number}
-use Rattle.state.specs.declared.settings.Number.TheVariants as number
 use Rattle.state.specs.declared.settings.Rule.{Rule}
 use Rattle.state.specs.declared.settings.Rule.TheVariants as rule
 use Rattle.state.specs.declared.settings.Source.{Source}
@@ -29,7 +27,6 @@ use Rattle.state.specs.declared.run.Stage.TheVariants as stage
 use Rattle.state.specs.declared.talk.Reply.{Reply}
 use Rattle.state.specs.declared.talk.Reply.TheVariants as reply
 use Rattle.state.specs.Memory.{Memory, Newton, Factors, factors, Differences}
-use Rattle.state.specs.declared.talk.Verdict.TheVariants.{Passed}
 use Rattle.opening.specs.Rows.{verdict_of}
 use Rattle.opening.specs.Admission.{asking_at, admission_rows}
 use Rattle.opening.proofs.Theorems.{verdict-first}
@@ -66,6 +63,8 @@ use Rattle.solve_blocks.proofs.Tries.{built, e1_stop, error-column}
 use Rattle.solve_blocks.proofs.Tries.{no-error, real-answers, complex-answers}
 use Rattle.solve_blocks.proofs.Rules.{Position, replied, reporting, arrived, main, matrices, attempt, failing}
 use Rattle.solve_blocks.proofs.Rules.{newton, estimate, judging, asked, iterated, slowed, is_modified, Closed}
+use Rattle.std.specs.Prelude.{Some, Option}
+use Rattle.state.specs.Talk.{passed_all}
 
 -- ---- where a block leaves off
 
@@ -333,7 +332,7 @@ module _ {p : Reply} {mass jac : List Float} {P : List Event → Position → Ty
 
     -- `past` is where a report that neither interrupts nor modifies leads
     reported-at : (again : Stage) (past : Run → Position)
-        → ((mark : Number) → is_interrupt p ≡ false → is_modified p ≡ false → P es (reporting again r)
+        → ((mark : Option Float) → is_interrupt p ≡ false → is_modified p ≡ false → P es (reporting again r)
         → P es (past (r ▸ in_numbers (set_xout mark))))
         → (q : Reply) → p ≡ q → P es (reporting again r) → P es (told_at past (reported_of again q r))
     unfolding reported_of is_interrupt is_modified
@@ -341,7 +340,7 @@ module _ {p : Reply} {mass jac : List Float} {P : List Event → Position → Ty
     reported-at again past on reply.Continue same h = on r.numbers.xout (ap is_interrupt same) (ap is_modified same) h
     reported-at again past on reply.Interrupt same h = c.interrupted (ap is_interrupt same) h
     reported-at again past on (reply.Modified x) same h = c.modified x same h
-    reported-at again past on (reply.Mark x) same h = on (number.Given x) (ap is_interrupt same) (ap is_modified same) h
+    reported-at again past on (reply.Mark x) same h = on (Some x) (ap is_interrupt same) (ap is_modified same) h
 
   started-at : {es : List Event} (t : Heard) (m : Memory) → P es (told_at main t) → P es (step_at (started_of t m).step)
   unfolding started_of
@@ -467,7 +466,7 @@ kept_step r es (step.Attempt q) w = w
 
 -- ---- the whole advance, of a run that is admitted
 
-module _ (r : Run) (p : Reply) (m : Memory) (admits : verdict_of (admission_rows r p m) ≡ Passed) where
+module _ (r : Run) (p : Reply) (m : Memory) (admits : verdict_of (admission_rows r p m) ≡ passed_all) where
   -- where the reply leads: the passes work there
   abbrev there : Stepped
   there = (received_of r p m).core

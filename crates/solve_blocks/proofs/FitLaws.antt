@@ -19,7 +19,6 @@ use Rattle.words.specs.Grid.{Square}
 use Rattle.words.proofs.Branch.{pick_all}
 use Rattle.words.proofs.Loops.{loop-none, loop-more, Ran}
 use Rattle.state.specs.declared.run.Run.{Run}
-use Rattle.state.specs.declared.run.Singular.{Singular}
 use Rattle.state.specs.Memory.{Factors}
 use Rattle.solve_blocks.specs.declared.step.Step.{Step}
 use Rattle.solve_blocks.specs.declared.step.Step.TheVariants as step
@@ -29,6 +28,8 @@ use Rattle.solve_blocks.specs.Matrices.{failed_of, Tried, tried, complex_tried_o
 use Rattle.solve_blocks.specs.Matrices.{real_tried_of, tried_of, passes_on, run_of, passes_of}
 use Rattle.solve_blocks.specs.Needs.{Fit, StepFit, FactorsLong}
 use Rattle.solve_blocks.proofs.PassLaws.{passed, passes-core}
+use Rattle.std.specs.Prelude.{Option}
+use Rattle.state.specs.declared.run.Singular.{Singular}
 
 -- ---- past a count, and past a failure
 
@@ -44,7 +45,7 @@ module _ {k n : ℕ} {r : Run} where
   failed-fit fit =
       pick_all (StepFit k n) (ltb 5 (r.control.singular_count + 1)) _ _ (λ _. tt) (λ e. omega (arith, ltb-false))
 
-module _ {k n : ℕ} (r : Run) {at : Singular} where
+module _ {k n : ℕ} (r : Run) {at : Option Singular} where
   pub noted-fit : Fit k n r → Fit k n (in_notes (set_latest at) r)
   noted-fit fit = omega arith
 

@@ -13,7 +13,7 @@ use Rattle.words.specs.Loop.{loop}
 use Rattle.words.proofs.Branch.{pick_yes, pick_no, pick_all}
 use Rattle.state.specs.declared.run.Run.{Run}
 use Rattle.state.specs.Memory.{Newton, newton}
-use Rattle.solve_blocks.specs.declared.step.Call.{Call}
+use Rattle.state.specs.declared.talk.Call.{Call}
 use Rattle.solve_blocks.specs.declared.step.Step.{Step}
 use Rattle.solve_blocks.specs.declared.step.Step.TheVariants as step
 use Rattle.solve_blocks.specs.Setters.{◌▸◌, in_counts, in_numbers, one_lu, set_hnew}

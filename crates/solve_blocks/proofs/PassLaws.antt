@@ -14,13 +14,11 @@ use lib.Ieee.{Float}
 use Rattle.words.specs.Loop.{turns, loop, pick}
 use Rattle.words.proofs.Branch.{yes, pick_yes, pick_no}
 use Rattle.words.proofs.Loops.{Ran, turned, ended, stopped}
-use Rattle.matrix.specs.declared.answers.Decomposed.{Decomposed}
-use Rattle.matrix.specs.Answers.{decomposition}
+use Rattle.matrix.specs.Answers.{Decomposed, decomposition}
 use Rattle.matrix.specs.Complex.{parts}
 use Rattle.matrix.specs.Lu.{lu_decomp_of}
 use Rattle.matrix.specs.LuComplex.{lu_decomp_complex_of}
 use Rattle.state.specs.declared.run.Run.{Run}
-use Rattle.state.specs.declared.run.Singular.TheVariants as singular
 use Rattle.state.specs.Memory.{Factors, factors}
 use Rattle.solve_blocks.specs.declared.step.Step.{Step}
 use Rattle.solve_blocks.specs.declared.step.Step.TheVariants as step
@@ -29,6 +27,8 @@ use Rattle.solve_blocks.specs.Events.{Logged, quiet}
 use Rattle.solve_blocks.specs.Entries.{Three, three}
 use Rattle.solve_blocks.specs.Matrices.{is_err, column_of, stopping, Tried, tried, built_of, complex_tried_of}
 use Rattle.solve_blocks.specs.Matrices.{real_tried_of, tried_of, passes_on, run_of, pass_at, passes_of}
+use Rattle.std.specs.Prelude.{Some}
+use Rattle.state.specs.declared.run.Singular.TheVariants.{Real, Complex}
 
 -- ---- the decompositions
 
@@ -36,7 +36,7 @@ module _ (r : Run) (f : Factors) (answer : Decomposed) (ip : List ℕ) {s : Run}
     (b : Bool) (heard : b ≡ is_err answer) where
   module _ (re im : List Float) (worked : decomposition answer (parts re im) ip
       ≡ lu_decomp_complex_of r.shape.n (parts f.e2r f.e2i) f.ip2) where
-    pub complex-failed : {t : Step} → b ≡ true → t ≡ stopping (singular.Complex (column_of answer)) s
+    pub complex-failed : {t : Step} → b ≡ true → t ≡ stopping (Some (Complex (column_of answer))) s
         → tried t (factors f.e1 re im f.ip1 ip) ≡ (complex_tried_of r f).core
     unfolding complex_tried_of pick
     complex-failed e u = rw (u, counted, ← worked, ← heard, e)
@@ -46,7 +46,7 @@ module _ (r : Run) (f : Factors) (answer : Decomposed) (ip : List ℕ) {s : Run}
     complex-done e = rw (counted, ← worked, ← heard, e)
 
   module _ (a : List Float) (worked : decomposition answer a ip ≡ lu_decomp_of r.shape.n f.e1 f.ip1) where
-    pub real-failed : {t : Step} → b ≡ true → t ≡ stopping (singular.Real (column_of answer)) s
+    pub real-failed : {t : Step} → b ≡ true → t ≡ stopping (Some (Real (column_of answer))) s
         → tried t (factors a f.e2r f.e2i ip f.ip2) ≡ (real_tried_of r f).core
     unfolding real_tried_of pick
     real-failed e u = rw (u, counted, ← worked, ← heard, e)

@@ -11,11 +11,9 @@ use Rattle.words.specs.Words.{◌⊕◌, ◌⊖◌, ◌⊗◌, ◌⊘◌}
 use Rattle.words.specs.Constants.{«0·0», «1·0», «0·99», «0·1»}
 use Rattle.scalar.specs.Order.{abs_of}
 use Rattle.matrix.specs.Answers.{nowhere, column}
-use Rattle.state.specs.declared.settings.Number.{Number}
 use Rattle.state.specs.declared.settings.Rule.TheVariants as rule
 use Rattle.state.specs.declared.settings.Source.TheVariants as source
 use Rattle.state.specs.declared.run.Run.{Run}
-use Rattle.state.specs.declared.run.Singular.TheVariants as singular
 use Rattle.state.specs.declared.run.Stage.{Stage}
 use Rattle.state.specs.declared.run.Stage.TheVariants as stage
 use Rattle.state.specs.declared.run.Status.TheVariants as status
@@ -24,7 +22,7 @@ use Rattle.state.specs.declared.talk.Reply.{Reply}
 use Rattle.state.specs.declared.talk.Reply.TheVariants as reply
 use Rattle.state.specs.declared.talk.Request.TheVariants as request
 use Rattle.state.specs.Memory.{Factors}
-use Rattle.solve_blocks.specs.declared.step.Call.{Call}
+use Rattle.state.specs.declared.talk.Call.{Call}
 use Rattle.solve_blocks.specs.Setters.{◌▸◌, in_counts, in_control, in_numbers, in_notes, at_stage}
 use Rattle.solve_blocks.specs.Setters.{one_lu, one_total, one_rejected, set_last, set_latest}
 use Rattle.solve_blocks.specs.Setters.{set_reject, set_call_jac, set_call_decomp, set_singular, set_newt}
@@ -34,12 +32,15 @@ use Rattle.solve_blocks.specs.Events.{Event, real-singular, complex-singular}
 use Rattle.solve_blocks.specs.Events.{factored, over-limit, too_small, begun}
 use Rattle.solve_blocks.specs.Events.{rounds-used, diverged, slow, error-solve}
 use Rattle.solve_blocks.specs.Events.{failed, accepted, aimed, not-aimed}
-use Rattle.solve_blocks.specs.Matrices.{call, ask_derivative, ended_of, missed_of}
+use Rattle.solve_blocks.specs.Matrices.{ask_derivative, ended_of, missed_of}
+use Rattle.state.specs.Talk.{call}
 use Rattle.solve_blocks.specs.Jacobian.{asked_here}
 use Rattle.solve_blocks.specs.Judge.{accepted_point, ask_accepted, ask_refinement}
 use Rattle.solve_blocks.specs.Report.{ask_modified, is_interrupt}
 use Rattle.solve_blocks.specs.Needs.{FactorsLong}
 use Rattle.solve_blocks.proofs.Tries.{e1_stop, e2_stop}
+use Rattle.std.specs.Prelude.{Some, Option}
+use Rattle.state.specs.declared.run.Singular.TheVariants.{Real, Complex}
 
 -- where an advance stands
 pub data Position : Type 0 where
@@ -124,9 +125,9 @@ pub record Closed (p : Reply) (mass jac : List Float) (P : List Event → Positi
       → P es (asked (ended_of status.UserInterrupt r))
   pub modified : {es : List Event} {s : Stage} {r : Run} (x : Float) → p ≡ reply.Modified x → P es (reporting s r)
       → P es (asked (ask_modified s x r))
-  pub first-told : {es : List Event} {r : Run} (mark : Number) → is_interrupt p ≡ false → is_modified p ≡ false
+  pub first-told : {es : List Event} {r : Run} (mark : Option Float) → is_interrupt p ≡ false → is_modified p ≡ false
       → P es (reporting stage.FirstDerivativeAgain r) → P es (main (r ▸ in_numbers (set_xout mark)))
-  pub later-told : {es : List Event} {r : Run} (mark : Number) → is_interrupt p ≡ false → is_modified p ≡ false
+  pub later-told : {es : List Event} {r : Run} (mark : Option Float) → is_interrupt p ≡ false → is_modified p ≡ false
       → P es (reporting stage.DerivativeAgain r) → P es (arrived (r ▸ in_numbers (set_xout mark)))
   pub first-again : {es : List Event} {r : Run} → P es (replied stage.FirstDerivativeAgain r) → P es (main r)
   pub later-again : {es : List Event} {r : Run} → P es (replied stage.DerivativeAgain r) → P es (arrived r)
@@ -166,11 +167,11 @@ pub record Closed (p : Reply) (mass jac : List Float) (P : List Event → Positi
   pub real-stopped : {es : List Event} {r : Run} (f : Factors) (k : ℕ) → FactorsLong r.shape.n f
       → e1_stop r mass jac f ≡ column k → P es (matrices r)
       → P (es ++ (real-singular r.numbers.h k ∷ []))
-      (failing (r ▸ in_counts one_lu ▸ in_notes (set_latest (singular.Real k))))
+      (failing (r ▸ in_counts one_lu ▸ in_notes (set_latest (Some (Real k)))))
   pub complex-stopped : {es : List Event} {r : Run} (f : Factors) (k : ℕ) → FactorsLong r.shape.n f
       → e1_stop r mass jac f ≡ nowhere → e2_stop r mass jac f ≡ column k → P es (matrices r)
       → P (es ++ (complex-singular r.numbers.h k ∷ []))
-      (failing (r ▸ in_counts one_lu ▸ in_counts one_lu ▸ in_notes (set_latest (singular.Complex k))))
+      (failing (r ▸ in_counts one_lu ▸ in_counts one_lu ▸ in_notes (set_latest (Some (Complex k)))))
   pub decomposed : {es : List Event} {r : Run} (f : Factors) → FactorsLong r.shape.n f
       → e1_stop r mass jac f ≡ nowhere → e2_stop r mass jac f ≡ nowhere → P es (matrices r)
       → P (es ++ (factored r.numbers.h ∷ [])) (attempt (r ▸ in_counts one_lu ▸ in_counts one_lu))

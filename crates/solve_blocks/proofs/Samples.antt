@@ -18,7 +18,6 @@ use Rattle.scalar.specs.Root.{keeps, halved_root, root_of_form, root_of}
 use Rattle.scalar.specs.SquareRoot.{square_of}
 use Rattle.scalar.specs.SquareRootComputed.{border, reaches, nearest_root, sqrt_of}
 use Rattle.state.specs.declared.settings.Mass.TheVariants.{Identity, Full}
-use Rattle.state.specs.declared.settings.Number.TheVariants as number
 use Rattle.state.specs.declared.run.Numbers.{Numbers}
 use Rattle.state.specs.declared.run.Run.{Run}
 use Rattle.state.specs.declared.run.Stage.TheVariants as stage
@@ -49,6 +48,7 @@ use Rattle.solve_blocks.specs.Judge.{Moved, moved, move_at, moved_of, accepted_o
 use Rattle.solve_blocks.specs.Judge.{rejected_of}
 use Rattle.solve_blocks.specs.Report.{hnew_of, grown_of, renewed_of, arrived_of}
 use Rattle.solve_blocks.proofs.FromRust as rust
+use Rattle.std.specs.Prelude.{None}
 
 -- ---- the operands as a run
 
@@ -71,7 +71,7 @@ numbers =
       theta = rust.theta;
       dynold = rust.dynold;
       thqold = rust.thqold;
-      xout = number.Absent;
+      xout = None;
     }
 
 -- after one acceptance, in the fourth round, with this Newton tolerance, end point and direction

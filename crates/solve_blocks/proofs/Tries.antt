@@ -12,8 +12,7 @@ use lib.Ieee.{Float}
 use borrow.Author.Tests.{le-leb, eq-eqb}
 use Rattle.words.specs.Loop.{pick}
 use Rattle.words.proofs.Branch.{pick_all}
-use Rattle.matrix.specs.declared.answers.Decomposed.{Decomposed}
-use Rattle.matrix.specs.Answers.{Stop, nowhere, column, stop_answer, decomposed_number}
+use Rattle.matrix.specs.Answers.{Stop, nowhere, column, Decomposed, stop_answer, decomposed_number}
 use Rattle.matrix.specs.Complex.{Parts, parts}
 use Rattle.matrix.specs.Elimination.{worked, answered}
 use Rattle.matrix.specs.Lu.{real, lu_decomp_of}

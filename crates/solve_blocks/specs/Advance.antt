@@ -5,18 +5,14 @@ use Rattle.scalar.specs.Coefficients.{C2}
 use Rattle.state.specs.declared.run.Run.{Run}
 use Rattle.state.specs.declared.run.Stage.{Stage}
 use Rattle.state.specs.declared.run.Stage.TheVariants as stage
-use Rattle.state.specs.declared.talk.Answer.{Answer}
-use Rattle.state.specs.declared.talk.Answer.TheVariants as answer
 use Rattle.state.specs.declared.talk.Place.TheVariants.{ContToZ2, ContToZ3}
 use Rattle.state.specs.declared.talk.Reply.{Reply}
-use Rattle.state.specs.declared.talk.Verdict.{Verdict}
-use Rattle.state.specs.declared.talk.Verdict.TheVariants as verdict
 use Rattle.state.specs.Memory.{Memory, memory, amounts}
 use Rattle.state.specs.MemorySetters.{set_scal, set_cont, set_y_cont, set_f12}
 use Rattle.state.specs.MemorySetters.{set_newton, set_factors, set_differences, set_column}
 use Rattle.opening.specs.Rows.{verdict_of}
 use Rattle.opening.specs.Admission.{admission_rows}
-use Rattle.solve_blocks.specs.declared.step.Call.{Call}
+use Rattle.state.specs.declared.talk.Call.{Call}
 use Rattle.solve_blocks.specs.declared.step.Heard.{Heard}
 use Rattle.solve_blocks.specs.declared.step.Heard.TheVariants as heard
 use Rattle.solve_blocks.specs.declared.step.Round.{Round}
@@ -31,6 +27,8 @@ use Rattle.solve_blocks.specs.Newton.{RoundDone, round_of, again_of}
 use Rattle.solve_blocks.specs.Judge.{estimate_of, refined_of}
 use Rattle.solve_blocks.specs.Report.{ask_first_report, ask_report, reported_of, arrived_of}
 use Rattle.solve_blocks.specs.Jacobian.{ask_jacobian_of, column_of}
+use Rattle.std.specs.Prelude.{Ok, Err}
+use Rattle.state.specs.Talk.{call, Verdict, Answer, refused}
 
 -- where `solve` stands, and the memory there
 pub record Stepped : Type 0 where
@@ -156,11 +154,11 @@ abbrev pub advance_outcome : Answer → Memory → AdvanceOutcome
 advance_outcome a m = record { answer = a; memory = m }
 
 abbrev pub asked : Called → AdvanceOutcome
-asked d = advance_outcome (answer.Asked d.call.run d.call.request d.call.place) d.memory
+asked d = advance_outcome (Ok (call d.call.run d.call.request d.call.place)) d.memory
 
 unfoldable pub advance_by : Verdict → Run → Reply → Memory → Logged AdvanceOutcome
-advance_by (verdict.Refused x) r p m = quiet (advance_outcome (answer.Refused r x) m)
-advance_by verdict.Passed r p m =
+advance_by (Err x) r p m = quiet (advance_outcome (Err (refused r x)) m)
+advance_by (Ok tt) r p m =
     let l = and_then (and_then (received_of r p m) passed_of) (λ (t : Stepped). called_of t.step t.memory) in
     logged (asked l.core) l.log
 

@@ -15,7 +15,7 @@ use Rattle.state.specs.declared.run.Stage.TheVariants as stage
 use Rattle.state.specs.declared.talk.Place.{Place}
 use Rattle.state.specs.declared.talk.Place.TheVariants.{ContToZ1}
 use Rattle.state.specs.Memory.{Newton, newton, zeros}
-use Rattle.solve_blocks.specs.declared.step.Call.{Call}
+use Rattle.state.specs.declared.talk.Call.{Call}
 use Rattle.solve_blocks.specs.Setters.{◌▸◌, in_counts, in_control, in_numbers}
 use Rattle.solve_blocks.specs.Setters.{one_total, set_newt, set_xph, set_faccon, set_theta}
 use Rattle.solve_blocks.specs.Events.{begun, over-limit, too_small, Logged, logged}

@@ -13,11 +13,11 @@ use Rattle.state.specs.declared.run.Stage.TheVariants as stage
 use Rattle.state.specs.declared.talk.Request.TheVariants as request
 use Rattle.state.specs.declared.talk.Place.TheVariants.{Nowhere, YToFOrigin, YPerturbedToFPerturbed}
 use Rattle.state.specs.Memory.{Differences, differences, zeros}
-use Rattle.solve_blocks.specs.declared.step.Call.{Call}
+use Rattle.state.specs.declared.talk.Call.{Call}
 use Rattle.solve_blocks.specs.declared.step.Step.{Step}
 use Rattle.solve_blocks.specs.declared.step.Step.TheVariants as step
 use Rattle.solve_blocks.specs.Setters.{◌▸◌, in_counts, in_control, at_stage, one_jac, set_here}
-use Rattle.solve_blocks.specs.Matrices.{call}
+use Rattle.state.specs.Talk.{call}
 
 pub record Asking : Type 0 where
   pub call : Call

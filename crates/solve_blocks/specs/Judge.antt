@@ -1,5 +1,5 @@
 -- The attempt is judged by its error: the next step, an acceptance or a rejection (radau.rs:649-712, 780-795).
-use Rattle.std.specs.Prelude.{ℕ, ◌+◌, ◌*◌, false, ◌&&◌, ◌||◌, List, [], ◌∷◌, ltb, set, Float}
+use Rattle.std.specs.Prelude.{ℕ, ◌+◌, ◌*◌, false, ◌&&◌, ◌||◌, List, [], ◌∷◌, ltb, set, Float, None, Some, Option}
 use Rattle.std.specs.Float.Ieee.{le, is_nan}
 use Rattle.words.specs.Words.{◌⊕◌, ◌⊖◌, ◌⊗◌, ◌⊘◌, ◌!◌}
 use Rattle.words.specs.Constants.{«1·0», «2·0», «0·1», «1e-2»}
@@ -10,11 +10,9 @@ use Rattle.scalar.specs.Coefficients.{C1, C2, C1M1, C2M1, C1MC2}
 use Rattle.state.specs.declared.settings.Settings.{Settings}
 use Rattle.state.specs.declared.run.Run.{Run}
 use Rattle.state.specs.declared.run.Stage.TheVariants as stage
-use Rattle.state.specs.declared.run.Strides.{Strides}
-use Rattle.state.specs.declared.run.Strides.TheVariants as strides
 use Rattle.state.specs.declared.talk.Place.TheVariants.{YToF0, ContToF1}
 use Rattle.state.specs.Memory.{Newton}
-use Rattle.solve_blocks.specs.declared.step.Call.{Call}
+use Rattle.state.specs.declared.talk.Call.{Call}
 use Rattle.solve_blocks.specs.declared.step.Step.{Step}
 use Rattle.solve_blocks.specs.declared.step.Step.TheVariants as step
 use Rattle.solve_blocks.specs.Setters.{◌▸◌, in_counts, in_control, in_numbers, in_notes}
@@ -24,6 +22,8 @@ use Rattle.solve_blocks.specs.Events.{error-solve, failed, accepted, Logged, log
 use Rattle.solve_blocks.specs.Entries.{as_float, Three, three}
 use Rattle.solve_blocks.specs.Matrices.{ask_derivative, missed_of}
 use Rattle.solve_blocks.specs.Estimate.{defect_of, sides, sides_of, solved_first, error_of, plus_at, sum_at}
+use Rattle.state.specs.declared.run.Strides.{Strides}
+use Rattle.state.specs.Talk.{stride_pair}
 
 -- ---- the step that the error asks for
 
@@ -90,9 +90,9 @@ remembered err r =
     r
 
 -- the smallest and the largest with one stride more (02, [7]): 'a NaN is passed over', which min_of and max_of do too
-unfoldable pub with_stride : Float → Strides → Strides
-with_stride a strides.None = pick (is_nan a) strides.None (strides.Between a a)
-with_stride a (strides.Between smallest largest) = strides.Between (min_of smallest a) (max_of largest a)
+unfoldable pub with_stride : Float → Option Strides → Option Strides
+with_stride a None = pick (is_nan a) None (Some (stride_pair a a))
+with_stride a (Some s) = Some (stride_pair (min_of s.smallest a) (max_of s.largest a))
 
 -- 'h is the one held when the attempt is accepted'
 abbrev pub strode : Run → Run

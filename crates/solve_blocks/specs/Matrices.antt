@@ -1,12 +1,12 @@
 -- The matrices E1 and E2 of a pass, and the two decompositions, with what a singular one leads to (radau.rs:376-419).
-use Rattle.std.specs.Prelude.{ℕ, ◌+◌, Bool, true, false, not, List, [], ◌∷◌, ltb, Float}
+use Rattle.std.specs.Prelude.{ℕ, ◌+◌, Bool, true, false, not, List, [], ◌∷◌, ltb, Float, Some, Option, Ok, Err}
 use Rattle.words.specs.Words.{◌⊖◌, ◌⊗◌, ◌⊘◌}
 use Rattle.words.specs.Constants.{«0·5»}
 use Rattle.words.specs.Loop.{loop, pick}
 use Rattle.words.specs.Grid.{put}
 use Rattle.scalar.specs.Coefficients.{U1, ALPH, BETA}
-use Rattle.matrix.specs.declared.answers.Decomposed.{Decomposed}
-use Rattle.matrix.specs.declared.answers.Decomposed.TheVariants as decomposed
+use Rattle.matrix.specs.declared.answers.DecompositionError.TheVariants as undone
+use Rattle.matrix.specs.Answers.{Decomposed}
 use Rattle.matrix.specs.Complex.{parts}
 use Rattle.matrix.specs.Lu.{lu_decomp_of}
 use Rattle.matrix.specs.LuComplex.{lu_decomp_complex_of}
@@ -15,8 +15,6 @@ use Rattle.state.specs.declared.settings.Rule.{Rule}
 use Rattle.state.specs.declared.settings.Rule.TheVariants as rule
 use Rattle.state.specs.declared.run.Control.{Control}
 use Rattle.state.specs.declared.run.Run.{Run}
-use Rattle.state.specs.declared.run.Singular.{Singular}
-use Rattle.state.specs.declared.run.Singular.TheVariants as singular
 use Rattle.state.specs.declared.run.Status.{Status}
 use Rattle.state.specs.declared.run.Status.TheVariants.{SingularMatrix}
 use Rattle.state.specs.declared.run.Stage.{Stage}
@@ -26,7 +24,8 @@ use Rattle.state.specs.declared.talk.Request.TheVariants as request
 use Rattle.state.specs.declared.talk.Place.{Place}
 use Rattle.state.specs.declared.talk.Place.TheVariants.{Nowhere}
 use Rattle.state.specs.Memory.{Factors, factors}
-use Rattle.solve_blocks.specs.declared.step.Call.{Call}
+use Rattle.state.specs.declared.talk.Call.{Call}
+use Rattle.state.specs.Talk.{call}
 use Rattle.solve_blocks.specs.declared.step.Step.{Step}
 use Rattle.solve_blocks.specs.declared.step.Step.TheVariants as step
 use Rattle.solve_blocks.specs.Setters.{◌▸◌, in_counts, in_control, in_numbers, in_notes, at_stage, one_ode, one_lu}
@@ -35,12 +34,10 @@ use Rattle.solve_blocks.specs.Setters.{set_hhfac}
 use Rattle.solve_blocks.specs.Setters.{set_latest}
 use Rattle.solve_blocks.specs.Events.{real-singular, complex-singular, factored, Logged, logged, quiet, and_then}
 use Rattle.solve_blocks.specs.Entries.{mass_at, jac_at, Three, three}
+use Rattle.state.specs.declared.run.Singular.{Singular}
+use Rattle.state.specs.declared.run.Singular.TheVariants.{Real, Complex}
 
 -- ---- how a run ends, and what follows a failure
-
--- the host is called: the run at the stage that waits for the reply, what is asked, and where
-abbrev pub call : Run → Request → Place → Call
-call r q p = record { run = r; request = q; place = p }
 
 -- for a derivative at x, which is counted with its request
 abbrev pub ask_derivative : Run → Stage → Float → Place → Call
@@ -95,20 +92,18 @@ built_of mode n mass jac h e = loop (build_row mode n mass jac (U1 ⊘ h) (ALPH 
 
 -- `is_err()`
 abbrev pub is_err : Decomposed → Bool
-is_err decomposed.Done = false
-is_err decomposed.RefusedOrder = true
-is_err decomposed.RefusedLength = true
-is_err (decomposed.Singular k) = true
+is_err (Ok done) = false
+is_err (Err error) = true
 
 -- the column without a pivot; a pass refuses no order and no length
 abbrev pub column_of : Decomposed → ℕ
-column_of decomposed.Done = 0
-column_of decomposed.RefusedOrder = 0
-column_of decomposed.RefusedLength = 0
-column_of (decomposed.Singular k) = k
+column_of (Ok done) = 0
+column_of (Err undone.Order) = 0
+column_of (Err undone.Length) = 0
+column_of (Err (undone.Singular k)) = k
 
 -- a decomposition that failed is kept as the run's latest (02, [3]), whatever was accepted before it
-abbrev pub stopping : Singular → Run → Step
+abbrev pub stopping : Option Singular → Run → Step
 stopping at r = failed_of (r ▸ in_notes (set_latest at))
 
 pub record Tried : Type 0 where
@@ -126,7 +121,7 @@ complex_tried_of r f =
     let s = r ▸ in_counts one_lu in
     let k = column_of d.answer in
     pick (is_err d.answer)
-    (logged (tried (stopping (singular.Complex k) s) g) (complex-singular r.numbers.h k ∷ []))
+    (logged (tried (stopping (Some (Complex k)) s) g) (complex-singular r.numbers.h k ∷ []))
     (logged (tried (step.Attempt s) g) (factored r.numbers.h ∷ []))
 
 -- E1 [radau.rs:390-392]
@@ -137,7 +132,7 @@ real_tried_of r f =
     let s = r ▸ in_counts one_lu in
     let k = column_of d.answer in
     pick (is_err d.answer)
-    (logged (tried (stopping (singular.Real k) s) g) (real-singular r.numbers.h k ∷ []))
+    (logged (tried (stopping (Some (Real k)) s) g) (real-singular r.numbers.h k ∷ []))
     (complex_tried_of s g)
 
 -- one pass through the matrices, where they are wanted [radau.rs:376]

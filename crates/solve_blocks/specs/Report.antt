@@ -1,12 +1,10 @@
 -- Reports, and what follows them: the end, or the step of the next attempt (radau.rs:337-358, 719-779).
-use Rattle.std.specs.Prelude.{Bool, true, false, ◌&&◌, ◌||◌, [], ◌∷◌, Float}
+use Rattle.std.specs.Prelude.{Bool, true, false, ◌&&◌, ◌||◌, [], ◌∷◌, Float, None, Some, Option}
 use Rattle.std.specs.Float.Ieee.{le, lt}
 use Rattle.words.specs.Words.{◌⊕◌, ◌⊖◌, ◌⊗◌, ◌⊘◌}
 use Rattle.words.specs.Constants.{«0·0», «1·0», «1·2»}
 use Rattle.words.specs.Loop.{pick}
 use Rattle.scalar.specs.Order.{abs_of, min_of, clamp_of}
-use Rattle.state.specs.declared.settings.Number.{Number}
-use Rattle.state.specs.declared.settings.Number.TheVariants as number
 use Rattle.state.specs.declared.run.Run.{Run}
 use Rattle.state.specs.declared.run.Stage.{Stage}
 use Rattle.state.specs.declared.run.Stage.TheVariants as stage
@@ -15,7 +13,7 @@ use Rattle.state.specs.declared.talk.Request.TheVariants as request
 use Rattle.state.specs.declared.talk.Place.TheVariants.{Nowhere, YToF0}
 use Rattle.state.specs.declared.talk.Reply.{Reply}
 use Rattle.state.specs.declared.talk.Reply.TheVariants as reply
-use Rattle.solve_blocks.specs.declared.step.Call.{Call}
+use Rattle.state.specs.declared.talk.Call.{Call}
 use Rattle.solve_blocks.specs.declared.step.Heard.{Heard}
 use Rattle.solve_blocks.specs.declared.step.Heard.TheVariants as heard
 use Rattle.solve_blocks.specs.declared.step.Step.{Step}
@@ -25,7 +23,8 @@ use Rattle.solve_blocks.specs.Setters.{set_last, set_reject, set_call_jac, set_c
 use Rattle.solve_blocks.specs.Setters.{set_singular, set_here, set_x, set_h, set_hnew, set_hhfac, set_xout}
 use Rattle.solve_blocks.specs.Events.{aimed, not-aimed, Logged, logged, quiet}
 use Rattle.solve_blocks.specs.Attempt.{thet}
-use Rattle.solve_blocks.specs.Matrices.{call, ask_derivative, ended_of}
+use Rattle.solve_blocks.specs.Matrices.{ask_derivative, ended_of}
+use Rattle.state.specs.Talk.{call}
 
 -- ---- a report is asked
 
@@ -35,9 +34,9 @@ ask_first_report r =
     call (r ▸ at_stage stage.FirstReport) (request.Report r.numbers.xold r.numbers.x false) Nowhere
 
 -- whether the mark is at most x, whatever the direction [radau.rs:719-722]
-unfoldable pub is_due : Number → Float → Bool
-is_due number.Absent x = false
-is_due (number.Given xo) x = le xo x
+unfoldable pub is_due : Option Float → Float → Bool
+is_due None x = false
+is_due (Some xo) x = le xo x
 
 -- [radau.rs:723-728]
 unfoldable pub ask_report : Run → Call
@@ -61,7 +60,7 @@ reported_of again reply.Continue r = heard.Reported r
 reported_of again reply.Interrupt r = heard.Asked (ended_of UserInterrupt r)
 reported_of again (reply.Modified x) r = heard.Asked (ask_modified again x r)
 -- [radau.rs:354-358] [again radau.rs:739-743]
-reported_of again (reply.Mark xo) r = heard.Reported (r ▸ in_numbers (set_xout (number.Given xo)))
+reported_of again (reply.Mark xo) r = heard.Reported (r ▸ in_numbers (set_xout (Some xo)))
 
 -- whether it breaks off
 unfoldable pub is_interrupt : Reply → Bool

@@ -1,14 +1,13 @@
 -- A run with some of its parts exchanged, written as the Rust's assignments are: `r ▸ f ▸ g` does f first.
-use Rattle.std.specs.Prelude.{ℕ, ◌+◌, Bool, Float}
-use Rattle.state.specs.declared.settings.Number.{Number}
+use Rattle.std.specs.Prelude.{ℕ, ◌+◌, Bool, Float, Option}
 use Rattle.state.specs.declared.run.Counts.{Counts}
 use Rattle.state.specs.declared.run.Control.{Control}
 use Rattle.state.specs.declared.run.Numbers.{Numbers}
 use Rattle.state.specs.declared.run.Stage.{Stage}
-use Rattle.state.specs.declared.run.Singular.{Singular}
-use Rattle.state.specs.declared.run.Strides.{Strides}
 use Rattle.state.specs.declared.run.Notes.{Notes}
 use Rattle.state.specs.declared.run.Run.{Run}
+use Rattle.state.specs.declared.run.Singular.{Singular}
+use Rattle.state.specs.declared.run.Strides.{Strides}
 
 infixl 10 ◌▸◌
 abbrev pub ◌▸◌ : {A : Type 0} → A → (A → A) → A
@@ -413,7 +412,7 @@ set_thqold v n =
       xout = n.xout;
     }
 
-abbrev pub set_xout : Number → Numbers → Numbers
+abbrev pub set_xout : Option Float → Numbers → Numbers
 set_xout v n =
     record {
       x = n.x;
@@ -434,8 +433,8 @@ set_xout v n =
 
 -- ---- notes
 
-abbrev pub set_latest : Singular → Notes → Notes
+abbrev pub set_latest : Option Singular → Notes → Notes
 set_latest v n = record { singular = v; strides = n.strides }
 
-abbrev pub set_strides : Strides → Notes → Notes
+abbrev pub set_strides : Option Strides → Notes → Notes
 set_strides v n = record { singular = n.singular; strides = v }

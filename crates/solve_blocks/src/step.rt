@@ -1,14 +1,6 @@
 // Where `solve` stands between two blocks: at a call of the host, or at one of its labels (radau.rs:369-796).
 use state::run::Run;
-use state::talk::{Place, Request};
-
-// A call of the host: the run at the stage that waits for the reply, what is asked, and where.
-#[derive(Clone, Copy)]
-pub struct Call {
-    pub run: Run,
-    pub request: Request,
-    pub place: Place,
-}
+use state::talk::Call;
 
 #[derive(Clone, Copy)]
 pub enum Step {

@@ -22,7 +22,8 @@ use Rattle.state.specs.Memory.{Memory}
 use Rattle.state.specs.MemorySetters.{set_factors, set_column, set_differences}
 use Rattle.solve_blocks.specs.declared.step.Step.TheVariants as step
 use Rattle.solve_blocks.specs.Setters.{◌▸◌, at_stage}
-use Rattle.solve_blocks.specs.Matrices.{call, Tried, tried, tried_of, passes_of, pass_at}
+use Rattle.solve_blocks.specs.Matrices.{Tried, tried, tried_of, passes_of, pass_at}
+use Rattle.state.specs.Talk.{call}
 use Rattle.solve_blocks.specs.Jacobian.{Columned, columned, ask_jacobian_by}
 use Rattle.solve_blocks.specs.Jacobian.{ask_column_of, column_at, column_of, perturbation}
 use Rattle.solve_blocks.specs.Advance.{Stepped, stepped, jacobian_of, replied_of, called_of}

@@ -17,7 +17,7 @@ use Rattle.state.specs.declared.run.Stage.TheVariants as stage
 use Rattle.state.specs.declared.run.Status.{Status}
 use Rattle.state.specs.declared.talk.Place.TheVariants.{Nowhere}
 use Rattle.state.specs.declared.talk.Request.TheVariants as request
-use Rattle.solve_blocks.specs.declared.step.Call.{Call}
+use Rattle.state.specs.declared.talk.Call.{Call}
 use Rattle.solve_blocks.specs.declared.step.Step.{Step}
 use Rattle.solve_blocks.specs.declared.step.Step.TheVariants as step
 use Rattle.solve_blocks.specs.Matrices.{passes_of, pass_at}

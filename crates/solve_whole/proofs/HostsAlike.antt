@@ -14,8 +14,6 @@ use Rattle.state.specs.declared.run.Status.{Status}
 use Rattle.state.specs.declared.talk.Place.TheVariants.{Nowhere}
 use Rattle.state.specs.declared.talk.Reply.{Reply}
 use Rattle.state.specs.declared.talk.Request.TheVariants as request
-use Rattle.state.specs.declared.talk.Verdict.{Verdict}
-use Rattle.state.specs.declared.talk.Verdict.TheVariants as verdict
 use Rattle.state.specs.Memory.{Memory}
 use Rattle.opening.specs.Rows.{verdict_of}
 use Rattle.opening.specs.Admission.{admission_rows}
@@ -27,6 +25,8 @@ use Rattle.history.specs.History.{Point, point, next_point}
 use Rattle.solve_whole.specs.Talk.{exchange, Host, World, Talk, talk, action_at}
 use Rattle.solve_whole.specs.Talk.{Advance, offered, advanced_by, talk_by, TalksTo}
 use Rattle.solve_whole.proofs.FollowsTalk.{finish}
+use Rattle.std.specs.Prelude.{Ok, Err}
+use Rattle.state.specs.Talk.{Verdict}
 
 -- ---- hosts that do the same
 
@@ -75,8 +75,8 @@ module _ (host : Host) (s : Status) (e : Run) (m : Memory) (ended : e.stage ≡ 
   stays_by : (v : Verdict) (a : Reply)
       → (let o = (advance_by v e a m).core in next_point here o.answer o.memory) ≡ here
   unfolding advance_by next_point
-  stays_by (verdict.Refused x) a = refl
-  stays_by verdict.Passed a =
+  stays_by (Err x) a = refl
+  stays_by (Ok tt) a =
       ap (λ (g : Stage). from g a) ended ∙ from-ended a
       ∙ ap (λ (g : Stage). point (at_stage g e) (request.Ended s) Nowhere m) (sym ended)
 

@@ -12,13 +12,9 @@ use mathlib.Core.List.{[]}
 use native.Mathlib.Omega.{arith}
 use lib.ListN.{length}
 use Rattle.state.specs.declared.run.Run.{Run}
-use Rattle.state.specs.declared.talk.Answer.TheVariants as answer
-use Rattle.state.specs.declared.talk.Opened.TheVariants as opened
 use Rattle.state.specs.declared.talk.Place.{Place}
 use Rattle.state.specs.declared.talk.Reply.{Reply}
 use Rattle.state.specs.declared.talk.Request.{Request}
-use Rattle.state.specs.declared.talk.Verdict.{Verdict}
-use Rattle.state.specs.declared.talk.Verdict.TheVariants as verdict
 use Rattle.state.specs.Memory.{Memory}
 use Rattle.opening.specs.Rows.{Opening, verdict_of}
 use Rattle.opening.specs.Opening.{OpeningOutcome, opening_outcome, open_of}
@@ -37,13 +33,15 @@ use Rattle.solve_whole.specs.Solve.{Returns, ReturnsWithin}
 use Rattle.solve_whole.proofs.Talks.{offered-same, EndedAt, first-end, talks-alike}
 use Rattle.solve_whole.proofs.Talks.{talk-solves, solve-exactly-proof}
 use Rattle.solve_whole.proofs.Talks.{solve-advances}
+use Rattle.std.specs.Prelude.{Ok, Err}
+use Rattle.state.specs.Talk.{Verdict, call, passed_all}
 
 -- an advance that is answered by a request was admitted
 answered-passed : (v : Verdict) (r : Run) (a : Reply) (m : Memory) (e : Run) (q : Request) (p : Place)
-    → (advance_by v r a m).core.answer ≡ answer.Asked e q p → v ≡ verdict.Passed
+    → (advance_by v r a m).core.answer ≡ Ok (call e q p) → v ≡ passed_all
 unfolding advance_by
-answered-passed verdict.Passed r a m e q p is = refl
-answered-passed (verdict.Refused x) r a m e q p is = let no : ◌≡◌ {A = ℕ} 0 1 = cc in absurd (omega arith)
+answered-passed (Ok tt) r a m e q p is = refl
+answered-passed (Err x) r a m e q p is = let no : ◌≡◌ {A = ℕ} 0 1 = cc in absurd (omega arith)
 
 -- the last of the advances apart
 pub last-advance : (advance : Advance) (host : Host) (k : ℕ) (t : Talk)
@@ -100,7 +98,7 @@ module _ (host : Host) (start : Point) where
 -- ---- the theorem
 
 module _ (host : Host) (o : Opening) (r : Run) (q : Request) (p : Place) (m : Memory)
-    (accepted : open_of o ≡ opening_outcome (opened.Asked r q p) m)
+    (accepted : open_of o ≡ opening_outcome (Ok (call r q p)) m)
     (fair : FairTalk host (point r q p m)) where
   abbrev start : Point
   start = point r q p m
@@ -119,7 +117,7 @@ module _ (host : Host) (o : Opening) (r : Run) (q : Request) (p : Place) (m : Me
   admits k l =
       to-talk host start (λ here a.
       verdict_of (admission_rows here.run a.reply (wrote here.request here.place a here.memory))
-      ≡ verdict.Passed)
+      ≡ passed_all)
       k
       (answered-passed _ _ _ _ _ _ _ (account.answered k l))
 

@@ -17,13 +17,14 @@ use Rattle.state.specs.declared.run.Status.TheVariants.{SingularMatrix, Success}
 use Rattle.state.specs.declared.talk.Place.TheVariants.{Nowhere}
 use Rattle.state.specs.declared.talk.Request.TheVariants as request
 use Rattle.state.specs.Memory.{Newton, Factors}
-use Rattle.solve_blocks.specs.declared.step.Call.{Call}
+use Rattle.state.specs.declared.talk.Call.{Call}
 use Rattle.solve_blocks.specs.declared.step.Round.{Round}
 use Rattle.solve_blocks.specs.declared.step.Round.TheVariants as round
 use Rattle.solve_blocks.specs.declared.step.Step.{Step}
 use Rattle.solve_blocks.specs.declared.step.Step.TheVariants as step
 use Rattle.solve_blocks.specs.Events.{Logged}
-use Rattle.solve_blocks.specs.Matrices.{call, failed_of, Tried, complex_tried_of, real_tried_of, tried_of}
+use Rattle.solve_blocks.specs.Matrices.{failed_of, Tried, complex_tried_of, real_tried_of, tried_of}
+use Rattle.state.specs.Talk.{call}
 use Rattle.solve_blocks.specs.Newton.{RoundDone, concluded_of, slow_round, slowed_of}
 use Rattle.solve_blocks.specs.Newton.{predicted_of, paced_of, judged_round, round_of}
 use Rattle.solve_blocks.specs.Judge.{accepted_of, rejected_of}

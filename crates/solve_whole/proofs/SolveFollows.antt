@@ -12,7 +12,7 @@ use Rattle.state.specs.declared.talk.Place.TheVariants as place
 use Rattle.state.specs.declared.talk.Request.TheVariants as request
 use Rattle.state.specs.Memory.{Memory}
 use Rattle.solve_blocks.specs.declared.step.Step.TheVariants as step
-use Rattle.solve_blocks.specs.Matrices.{call}
+use Rattle.state.specs.Talk.{call}
 use Rattle.solve_blocks.specs.Report.{arrived_of}
 use Rattle.solve_blocks.specs.Advance.{replied_of}
 use Rattle.history.specs.Host.{is_end}

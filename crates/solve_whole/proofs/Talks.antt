@@ -17,14 +17,10 @@ use lib.ListN.{length}
 use Rattle.words.specs.Loop.{loop, pick}
 use Rattle.state.specs.declared.run.Run.{Run}
 use Rattle.state.specs.declared.run.Stage.TheVariants as stage
-use Rattle.state.specs.declared.talk.Opened.{Opened}
-use Rattle.state.specs.declared.talk.Opened.TheVariants as opened
 use Rattle.state.specs.declared.talk.Place.{Place}
 use Rattle.state.specs.declared.talk.Place.TheVariants as place
 use Rattle.state.specs.declared.talk.Request.{Request}
 use Rattle.state.specs.declared.talk.Request.TheVariants as request
-use Rattle.state.specs.declared.talk.Verdict.{Verdict}
-use Rattle.state.specs.declared.talk.Verdict.TheVariants as verdict
 use Rattle.state.specs.Memory.{Memory}
 use Rattle.opening.specs.Rows.{Opening, opening_rows, verdict_of}
 use Rattle.opening.specs.Opening.{OpeningOutcome, opening_outcome, open_of, by_verdict, accepted_of, first_run}
@@ -43,24 +39,27 @@ use Rattle.solve_whole.proofs.RunSound.{Sound}
 use Rattle.solve_whole.proofs.FollowsTalk.{Goes, Arrives}
 use Rattle.solve_whole.proofs.Passes.{never}
 use Rattle.solve_whole.proofs.SolveFollows.{solve-goes}
+use Rattle.std.specs.Prelude.{Ok, Err}
+use Rattle.state.specs.Talk.{Verdict, Opened, call}
 
 -- ---- an accepted opening
 
 -- it stands before its first derivative
 unfoldable Fresh : Opened → Type 0
-Fresh (opened.Asked r q p) =
-    Sound 0 r × (r.stage ≡ stage.FirstDerivative) × (q ≡ request.Derivative r.numbers.x) × (p ≡ place.YToF0)
-Fresh (opened.Refused x) = Unit
+Fresh (Ok c) =
+    Sound 0 c.run × (c.run.stage ≡ stage.FirstDerivative) × (c.request ≡ request.Derivative c.run.numbers.x)
+    × (c.place ≡ place.YToF0)
+Fresh (Err x) = Unit
 
 fresh-by : (o : Opening) (v : Verdict) → verdict_of (opening_rows o) ≡ v → Fresh (by_verdict v o).answer
 unfolding Fresh by_verdict accepted_of first_run shape_of
-fresh-by o verdict.Passed e =
+fresh-by o (Ok tt) e =
     let none = (verdict-first (opening_rows o)).1.0 e in
     let order : 1 ≤ o.n = (within 1 32 o.n (none 0 (omega arith))).0 in
     let rounds : 1
     ≤ o.settings.newton_maxiter = (within 1 16 o.settings.newton_maxiter (none 20 (omega arith))).0 in
     ((omega arith, omega arith, rounds, order), refl, refl, refl)
-fresh-by o (verdict.Refused x) e = tt
+fresh-by o (Err x) e = tt
 
 fresh : (o : Opening) → Fresh (open_of o).answer
 unfolding open_of
@@ -145,14 +144,14 @@ finishes host start k ended unfinished g = clash ended (g k (omega arith))
 -- ---- the theorem
 
 module _ (host : Host) (o : Opening) (r : Run) (q : Request) (p : Place) (m : Memory)
-    (accepted : open_of o ≡ opening_outcome (opened.Asked r q p) m) where
+    (accepted : open_of o ≡ opening_outcome (Ok (call r q p)) m) where
   abbrev start : Point
   start = point r q p m
 
   goes : (fuel d : ℕ) → 6 * d ≤ fuel → Goes host d (talk start []) (solve_of host fuel r m)
   unfolding Fresh passes_of pass_at loop pick called_of
   goes fuel d enough =
-      let f : Fresh (opened.Asked r q p) = subst (λ (x : OpeningOutcome). Fresh x.answer) accepted (fresh o) in
+      let f : Fresh (Ok (call r q p)) = subst (λ (x : OpeningOutcome). Fresh x.answer) accepted (fresh o) in
       subst (λ (x : Request). Goes host d (talk (point r x p m) []) (solve_of host fuel r m)) (sym f.2)
       (subst
       (λ (x : Place). Goes host d (talk (point r (request.Derivative r.numbers.x) x m) []) (solve_of host fuel r m))

@@ -3,14 +3,13 @@
 -- is the text below it, `main` is `continue 'main`; `break 'main` is `finished`. Rust's calls of `derivative`,
 -- `jac` and `solout` are `ask`; what is computed between two of them are the definitions of `solve_blocks`, which
 -- hold the floating-point text.
-use Rattle.std.specs.Prelude.{ℕ, zero, suc, ◌+◌, ◌<◌, ◌&&◌, ◌||◌, ◌≡◌, List, [], ltb, length, set, Float}
+use Rattle.std.specs.Prelude.{ℕ, zero, suc, ◌+◌, ◌<◌, ◌&&◌, ◌||◌, ◌≡◌, List, [], ltb, length, set, Float, Some}
 use Rattle.std.specs.Float.Ieee.{le}
 use Rattle.words.specs.Words.{◌⊕◌, ◌⊗◌, ◌⊘◌, ◌!◌}
 use Rattle.words.specs.Constants.{«1·0», «0·1»}
 use Rattle.words.specs.Loop.{loop, pick}
 use Rattle.scalar.specs.Order.{abs_of}
 use Rattle.scalar.specs.Coefficients.{C1, C2}
-use Rattle.state.specs.declared.settings.Number.TheVariants as number
 use Rattle.state.specs.declared.settings.Source.{Source}
 use Rattle.state.specs.declared.settings.Source.TheVariants as source
 use Rattle.state.specs.declared.run.Run.{Run}
@@ -26,7 +25,7 @@ use Rattle.state.specs.declared.talk.Request.TheVariants as request
 use Rattle.state.specs.Memory.{Memory}
 use Rattle.state.specs.MemorySetters.{set_scal, set_cont, set_y_cont, set_f12, set_newton, set_factors, set_differences}
 use Rattle.state.specs.MemorySetters.{set_column}
-use Rattle.solve_blocks.specs.declared.step.Call.{Call}
+use Rattle.state.specs.declared.talk.Call.{Call}
 use Rattle.solve_blocks.specs.declared.step.Round.{Round}
 use Rattle.solve_blocks.specs.declared.step.Round.TheVariants as round
 use Rattle.solve_blocks.specs.declared.step.Step.{Step}
@@ -35,7 +34,8 @@ use Rattle.solve_blocks.specs.Setters.{◌▸◌, in_counts, in_numbers, at_stag
 use Rattle.solve_blocks.specs.Setters.{one_lu, one_total, set_hnew, set_xout}
 use Rattle.solve_blocks.specs.Entries.{three}
 use Rattle.solve_blocks.specs.Scale.{weighted_of}
-use Rattle.solve_blocks.specs.Matrices.{call, ended_of, failed_of, tried_of}
+use Rattle.solve_blocks.specs.Matrices.{ended_of, failed_of, tried_of}
+use Rattle.state.specs.Talk.{call}
 use Rattle.solve_blocks.specs.Jacobian.{ask_jacobian_of, perturbation, column_at}
 use Rattle.solve_blocks.specs.Attempt.{ask_stage_of, guess_of, started}
 use Rattle.solve_blocks.specs.Newton.{round_of}
@@ -84,7 +84,7 @@ module _ (host : Host) where
   replied again (reply.Modified x) r w next =
       let c = ask_modified again x r in
       next c.run (ask host c w)
-  replied again (reply.Mark xo) r w next = next (r ▸ in_numbers (set_xout (number.Given xo))) w
+  replied again (reply.Mark xo) r w next = next (r ▸ in_numbers (set_xout (Some xo))) w
 
   -- a call of `solout`
   abbrev pub report : Stage → Call → World → Next → Result

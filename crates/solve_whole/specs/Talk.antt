@@ -9,15 +9,15 @@ use Rattle.state.specs.declared.talk.Place.TheVariants.{Nowhere}
 use Rattle.state.specs.declared.talk.Reply.{Reply}
 use Rattle.state.specs.declared.talk.Request.{Request}
 use Rattle.state.specs.declared.talk.Request.TheVariants as request
-use Rattle.state.specs.declared.talk.Verdict.TheVariants as verdict
 use Rattle.state.specs.Memory.{Memory}
-use Rattle.solve_blocks.specs.declared.step.Call.{Call}
+use Rattle.state.specs.declared.talk.Call.{Call}
 use Rattle.opening.specs.Rows.{verdict_of}
 use Rattle.opening.specs.Admission.{admission_rows}
 use Rattle.solve_blocks.specs.Advance.{AdvanceOutcome, advance_by, advance_of}
 use Rattle.history.specs.Host.{is_end, Action, wrote}
 use Rattle.history.specs.History.{Point, point, next_point}
 use Rattle.account.specs.Journal.{Fair}
+use Rattle.state.specs.Talk.{passed_all}
 
 -- ---- the host
 
@@ -82,7 +82,7 @@ abbrev pub Advance : Type 0
 Advance = Run → Reply → Memory → AdvanceOutcome
 
 abbrev pub admitted : Advance
-admitted r p m = (advance_by verdict.Passed r p m).core
+admitted r p m = (advance_by passed_all r p m).core
 
 abbrev pub offered : Advance
 offered r p m = (advance_of r p m).core
@@ -112,7 +112,7 @@ Admits host t =
     let here = t.point in
     let a = action_at host t in
     verdict_of (admission_rows here.run a.reply (wrote here.request here.place a here.memory))
-    ≡ verdict.Passed
+    ≡ passed_all
 
 -- the host is fair wherever the talk by advances as they are offered stands before its end
 abbrev pub FairTalk : Host → Point → Type 0

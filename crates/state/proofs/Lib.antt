@@ -1,4 +1,4 @@
--- Laws of parts that are filled, and of pivots.
-pub mod FillLaws
+-- Laws of pivots, and of the stages that have no result.
+mod Stages
 pub mod Pivots
 pub mod Determinism

@@ -1,17 +1,16 @@
 -- Document 01's numbers: of each refusal ('Numbers that refuse') and of each status ('Statuses'); of a singular
 -- decomposition (02, [3]) which matrix it was of, and the column; and the two strides (02, [7]).
-use Rattle.std.specs.Prelude.{ℕ, Float}
+use Rattle.std.specs.Prelude.{ℕ, Float, None, Some, Option}
 use Rattle.words.specs.Constants.{«0·0»}
-use Rattle.state.specs.declared.run.Singular.{Singular}
-use Rattle.state.specs.declared.run.Singular.TheVariants as singular
 use Rattle.state.specs.declared.run.Status.{Status}
 use Rattle.state.specs.declared.run.Status.TheVariants as status
-use Rattle.state.specs.declared.run.Strides.{Strides}
-use Rattle.state.specs.declared.run.Strides.TheVariants as strides
 use Rattle.state.specs.declared.talk.Blame.{Blame}
 use Rattle.state.specs.declared.talk.Blame.TheVariants as blame
 use Rattle.state.specs.declared.talk.Refusal.{Refusal}
 use Rattle.state.specs.declared.talk.Refusal.TheVariants as refusal
+use Rattle.state.specs.declared.run.Singular.{Singular}
+use Rattle.state.specs.declared.run.Strides.{Strides}
+use Rattle.state.specs.declared.run.Singular.TheVariants.{Real, Complex}
 
 abbrev pub refusal_number : Refusal → ℕ
 refusal_number refusal.Order = 1
@@ -39,15 +38,15 @@ status_number status.StepSizeTooSmall = 3
 status_number status.SingularMatrix = 5
 
 -- 0 none, 1 the real matrix, 2 the complex one
-abbrev pub singular_kind : Singular → ℕ
-singular_kind singular.None = 0
-singular_kind (singular.Real k) = 1
-singular_kind (singular.Complex k) = 2
+abbrev pub singular_kind : Option Singular → ℕ
+singular_kind None = 0
+singular_kind (Some (Real k)) = 1
+singular_kind (Some (Complex k)) = 2
 
-abbrev pub singular_column : Singular → ℕ
-singular_column singular.None = 0
-singular_column (singular.Real k) = k
-singular_column (singular.Complex k) = k
+abbrev pub singular_column : Option Singular → ℕ
+singular_column None = 0
+singular_column (Some (Real k)) = k
+singular_column (Some (Complex k)) = k
 
 -- 0 also where nothing is told
 abbrev pub blame_kind : Blame → ℕ
@@ -59,10 +58,10 @@ blame_column blame.Untold = 0
 blame_column (blame.Latest s) = singular_column s
 
 -- 'with none accepted both are +0'
-abbrev pub smallest_stride : Strides → Float
-smallest_stride strides.None = «0·0»
-smallest_stride (strides.Between smallest largest) = smallest
+abbrev pub smallest_stride : Option Strides → Float
+smallest_stride None = «0·0»
+smallest_stride (Some s) = s.smallest
 
-abbrev pub largest_stride : Strides → Float
-largest_stride strides.None = «0·0»
-largest_stride (strides.Between smallest largest) = largest
+abbrev pub largest_stride : Option Strides → Float
+largest_stride None = «0·0»
+largest_stride (Some s) = s.largest

@@ -8,9 +8,9 @@ use Rattle.state.specs.declared.run.Status.{Status}
 use Rattle.state.specs.declared.run.Status.TheVariants as status
 use Rattle.state.specs.declared.talk.Blame.{Blame}
 use Rattle.state.specs.declared.talk.Blame.TheVariants as blame
-use Rattle.state.specs.declared.talk.Result.{Result}
-use Rattle.state.specs.declared.talk.Result.TheVariants as result
 use Rattle.state.specs.Numbers.{smallest_stride, largest_stride}
+use Rattle.std.specs.Prelude.{None, Some, Option}
+use Rattle.state.specs.declared.talk.IntegrationResult.{IntegrationResult}
 
 -- only a status 5 tells of the latest singular decomposition (02, [3])
 abbrev pub blame_of : Status → Notes → Blame
@@ -21,21 +21,21 @@ blame_of status.StepSizeTooSmall n = blame.Untold
 blame_of status.SingularMatrix n = blame.Latest n.singular
 
 -- the Rust's result, with the point, the blame and the strides beside it [radau.rs:798]
-unfoldable pub result_at : Run → Stage → Result
-result_at r stage.FirstDerivative = result.NotEnded
-result_at r stage.FirstReport = result.NotEnded
-result_at r stage.FirstDerivativeAgain = result.NotEnded
-result_at r stage.Jacobian = result.NotEnded
-result_at r (stage.Column c) = result.NotEnded
-result_at r stage.Newton1 = result.NotEnded
-result_at r stage.Newton2 = result.NotEnded
-result_at r stage.Newton3 = result.NotEnded
-result_at r stage.Refinement = result.NotEnded
-result_at r stage.Accepted = result.NotEnded
-result_at r stage.Report = result.NotEnded
-result_at r stage.DerivativeAgain = result.NotEnded
+unfoldable pub result_at : Run → Stage → Option IntegrationResult
+result_at r stage.FirstDerivative = None
+result_at r stage.FirstReport = None
+result_at r stage.FirstDerivativeAgain = None
+result_at r stage.Jacobian = None
+result_at r (stage.Column c) = None
+result_at r stage.Newton1 = None
+result_at r stage.Newton2 = None
+result_at r stage.Newton3 = None
+result_at r stage.Refinement = None
+result_at r stage.Accepted = None
+result_at r stage.Report = None
+result_at r stage.DerivativeAgain = None
 result_at r (stage.Ended s) =
-    result.Ended (record {
+    Some (record {
       h = r.numbers.h;
       x = r.numbers.x;
       status = s;
@@ -45,5 +45,5 @@ result_at r (stage.Ended s) =
       largest = largest_stride r.notes.strides;
     })
 
-abbrev pub result_of : Run → Result
+abbrev pub result_of : Run → Option IntegrationResult
 result_of r = result_at r r.stage

@@ -1,11 +1,7 @@
 -- The Rust's defaults (radau.rs:70-92), and what stands for a setting that is absent.
-use Rattle.std.specs.Prelude.{ℕ, true, Float}
+use Rattle.std.specs.Prelude.{ℕ, true, Float, None, Option, unwrap_or}
 use Rattle.words.specs.Constants.{«8·0», «0·9», «0·2», «2·3e-16»}
 use Rattle.state.specs.declared.settings.Settings.{Settings}
-use Rattle.state.specs.declared.settings.Number.{Number}
-use Rattle.state.specs.declared.settings.Number.TheVariants as number
-use Rattle.state.specs.declared.settings.Whole.{Whole}
-use Rattle.state.specs.declared.settings.Whole.TheVariants as whole
 use Rattle.state.specs.declared.settings.Mass.TheVariants.{Full}
 use Rattle.state.specs.declared.settings.Source.TheVariants.{Differences}
 use Rattle.state.specs.declared.settings.Rule.TheVariants.{Rust}
@@ -18,26 +14,24 @@ defaults_of =
       safety_factor = «0·9»;
       scale_min = «0·2»;
       scale_max = «8·0»;
-      max_step = number.Absent;
-      min_step = number.Absent;
+      max_step = None;
+      min_step = None;
       newton_maxiter = 7;
-      newton_tol = number.Absent;
+      newton_tol = None;
       predictive = true;
-      nind1 = whole.Absent;
-      nind2 = whole.Absent;
-      nind3 = whole.Absent;
+      nind1 = None;
+      nind2 = None;
+      nind3 = None;
       mass = Full;
       source = Differences;
-      first_step = number.Absent;
+      first_step = None;
       dense_output = true;
       rule = Rust;
     }
 
 -- the Rust's `unwrap_or`
-unfoldable pub or_else : Number → Float → Float
-or_else number.Absent x = x
-or_else (number.Given v) x = v
+abbrev pub or_else : Option Float → Float → Float
+or_else = unwrap_or
 
-unfoldable pub or_none : Whole → ℕ
-or_none whole.Absent = 0
-or_none (whole.Given k) = k
+abbrev pub or_none : Option ℕ → ℕ
+or_none k = unwrap_or k 0

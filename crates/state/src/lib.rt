@@ -2,6 +2,7 @@
 // the documents' numbers for it, the result of a run that has ended, and the test of pivots.
 #![tactic(auto)]
 
+pub mod lent;
 pub mod numbers;
 pub mod parts;
 pub mod run;

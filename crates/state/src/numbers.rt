@@ -20,24 +20,23 @@ pub fn status_number(status: Status) -> u64
 }
 
 // Which matrix was singular: 0 none, 1 the real one, 2 the complex one.
-pub fn singular_kind(singular: Singular) -> usize
+pub fn singular_kind(singular: Option<Singular>) -> usize
     ensures { result ≡ singular_kind singular }
 {
     match singular {
-        Singular::None => 0,
-        Singular::Real(_) => 1,
-        Singular::Complex(_) => 2,
+        None => 0,
+        Some(Singular::Real(_)) => 1,
+        Some(Singular::Complex(_)) => 2,
     }
 }
 
 // Its column, and 0 where none was.
-pub fn singular_column(singular: Singular) -> usize
+pub fn singular_column(singular: Option<Singular>) -> usize
     ensures { result ≡ singular_column singular }
 {
     match singular {
-        Singular::None => 0,
-        Singular::Real(k) => k,
-        Singular::Complex(k) => k,
+        None => 0,
+        Some(Singular::Real(k) | Singular::Complex(k)) => k,
     }
 }
 
@@ -61,22 +60,22 @@ pub fn blame_column(blame: Blame) -> usize
 }
 
 // The smallest stride, and +0 where there is none.
-pub fn smallest_stride(strides: Strides) -> f64
+pub fn smallest_stride(strides: Option<Strides>) -> f64
     ensures { result ≡ smallest_stride strides }
 {
     match strides {
-        Strides::None => 0.0,
-        Strides::Between(smallest, _) => smallest,
+        None => 0.0,
+        Some(between) => between.smallest,
     }
 }
 
 // The largest.
-pub fn largest_stride(strides: Strides) -> f64
+pub fn largest_stride(strides: Option<Strides>) -> f64
     ensures { result ≡ largest_stride strides }
 {
     match strides {
-        Strides::None => 0.0,
-        Strides::Between(_, largest) => largest,
+        None => 0.0,
+        Some(between) => between.largest,
     }
 }
 

@@ -6,19 +6,11 @@ ghost use Rattle.state.specs.Memory.{zeros, noughts};
 pub fn zero(part: &mut [f64])
     ensures { part.new ≡ zeros (length part.old) }
 {
-    let mut i = 0;
-    while i < part.len() {
-        part[i] = 0.0;
-        i += 1;
-    }
+    part.fill(0.0);
 }
 
 pub fn zero_pivots(part: &mut [usize])
     ensures { part.new ≡ noughts (length part.old) }
 {
-    let mut i = 0;
-    while i < part.len() {
-        part[i] = 0;
-        i += 1;
-    }
+    part.fill(0);
 }

@@ -3,8 +3,8 @@ ghost use Rattle.std.specs.Prelude.{◌≡◌};
 ghost use Rattle.state.specs.Result.{blame_of, result_of};
 
 use crate::numbers::{largest_stride, smallest_stride};
-use crate::settings::{Number, Settings};
-use crate::talk::{Blame, IntegrationResult, Result};
+use crate::settings::Settings;
+use crate::talk::{Blame, IntegrationResult};
 
 // How a run ended (status.rs); the Rust's other two statuses never come.
 #[derive(Clone, Copy)]
@@ -108,35 +108,33 @@ pub struct Numbers {
     pub theta: f64,
     pub dynold: f64,
     pub thqold: f64,
-    pub xout: Number,
+    pub xout: Option<f64>,
 }
 
 // A decomposition that found no pivot: of which matrix, and in which column, counted from 0.
 #[derive(Clone, Copy)]
 pub enum Singular {
-    // There was none.
-    None,
     // E1.
     Real(usize),
     // E2.
     Complex(usize),
 }
 
-// The strides of a run: |h| of each accepted attempt, with the h held when it was accepted. A NaN is passed over.
+// The smallest and the largest stride of a run: |h| of each accepted attempt, with the h held when it was accepted. A
+// NaN is passed over.
 #[derive(Clone, Copy)]
-pub enum Strides {
-    // There was none, or nothing but NaN.
-    None,
-    // The smallest and the largest.
-    Between(f64, f64),
+pub struct Strides {
+    pub smallest: f64,
+    pub largest: f64,
 }
 
 // What a run keeps for its result alone: no decision reads it but refusal 13's test of the strides.
 #[derive(Clone, Copy)]
 pub struct Notes {
     // The latest of the whole run, whatever was accepted since.
-    pub singular: Singular,
-    pub strides: Strides,
+    pub singular: Option<Singular>,
+    // None where nothing was accepted, or nothing but NaN.
+    pub strides: Option<Strides>,
 }
 
 #[derive(Clone, Copy)]
@@ -156,50 +154,31 @@ pub struct Run {
 pub fn blamed(status: Status, notes: Notes) -> Blame
     ensures { result ≡ blame_of status notes }
 {
-    let singular = notes.singular;
     match status {
-        Status::Success => Blame::Untold,
-        Status::UserInterrupt => Blame::Untold,
-        Status::NeedLargerNMax => Blame::Untold,
-        Status::StepSizeTooSmall => Blame::Untold,
-        Status::SingularMatrix => Blame::Latest(singular),
+        Status::SingularMatrix => Blame::Latest(notes.singular),
+        _ => Blame::Untold,
     }
 }
 
 impl Run {
     // h, the point reached, the status, the counts, the blame and the strides of an ended run; of any other run
     // nothing, so that no broken-off run passes for a result.
-    pub fn result(self) -> Result
+    pub fn result(self) -> Option<IntegrationResult>
         ensures { result ≡ result_of self }
     {
-        let stage = self.stage;
-        let numbers = self.numbers;
-        let counts = self.counts;
+        let Stage::Ended(status) = self.stage else {
+            return None;
+        };
         let notes = self.notes;
-        let strides = notes.strides;
-        match stage {
-            Stage::FirstDerivative => Result::NotEnded,
-            Stage::FirstReport => Result::NotEnded,
-            Stage::FirstDerivativeAgain => Result::NotEnded,
-            Stage::Jacobian => Result::NotEnded,
-            Stage::Column(_) => Result::NotEnded,
-            Stage::Newton1 => Result::NotEnded,
-            Stage::Newton2 => Result::NotEnded,
-            Stage::Newton3 => Result::NotEnded,
-            Stage::Refinement => Result::NotEnded,
-            Stage::Accepted => Result::NotEnded,
-            Stage::Report => Result::NotEnded,
-            Stage::DerivativeAgain => Result::NotEnded,
-            Stage::Ended(status) => Result::Ended(IntegrationResult {
-                h: numbers.h,
-                x: numbers.x,
-                status,
-                counts,
-                blame: blamed(status, notes),
-                smallest: smallest_stride(strides),
-                largest: largest_stride(strides),
-            }),
-        }
+        Some(IntegrationResult {
+            h: self.numbers.h,
+            x: self.numbers.x,
+            status,
+            counts: self.counts,
+            blame: blamed(status, notes),
+            smallest: smallest_stride(notes.strides),
+            largest: largest_stride(notes.strides),
+        })
     }
 
     // At a report, what `interpolate` and `bounds` take as h (radau.rs:724). Under the Rust rule it need not be the

@@ -1,21 +1,7 @@
-// The settings of a run: the Rust's struct RADAU (radau.rs:22-66), in its order, with enums of
-// ours for what may be absent.
+// The settings of a run: the Rust's struct RADAU (radau.rs:22-66), in its order. What may be absent is an Option, as
+// there.
 ghost use Rattle.std.specs.Prelude.{◌≡◌};
 ghost use Rattle.state.specs.Settings.{defaults_of};
-
-// The Rust's Option<Float>.
-#[derive(Clone, Copy)]
-pub enum Number {
-    Absent,
-    Given(f64),
-}
-
-// The Rust's Option<usize>.
-#[derive(Clone, Copy)]
-pub enum Whole {
-    Absent,
-    Given(usize),
-}
 
 // The mass matrix: the identity, or the n by n matrix that stands in the part `mass` at opening.
 #[derive(Clone, Copy)]
@@ -45,17 +31,17 @@ pub struct Settings {
     pub safety_factor: f64,
     pub scale_min: f64,
     pub scale_max: f64,
-    pub max_step: Number,
-    pub min_step: Number,
+    pub max_step: Option<f64>,
+    pub min_step: Option<f64>,
     pub newton_maxiter: usize,
-    pub newton_tol: Number,
+    pub newton_tol: Option<f64>,
     pub predictive: bool,
-    pub nind1: Whole,
-    pub nind2: Whole,
-    pub nind3: Whole,
+    pub nind1: Option<usize>,
+    pub nind2: Option<usize>,
+    pub nind3: Option<usize>,
     pub mass: Mass,
     pub source: Source,
-    pub first_step: Number,
+    pub first_step: Option<f64>,
     pub dense_output: bool,
     pub rule: Rule,
 }
@@ -87,17 +73,17 @@ impl Settings {
             safety_factor: Settings::SAFETY_FACTOR,
             scale_min: Settings::SCALE_MIN,
             scale_max: Settings::SCALE_MAX,
-            max_step: Number::Absent,
-            min_step: Number::Absent,
+            max_step: None,
+            min_step: None,
             newton_maxiter: Settings::NEWTON_MAXITER,
-            newton_tol: Number::Absent,
+            newton_tol: None,
             predictive: Settings::PREDICTIVE,
-            nind1: Whole::Absent,
-            nind2: Whole::Absent,
-            nind3: Whole::Absent,
+            nind1: None,
+            nind2: None,
+            nind3: None,
             mass: Mass::Full,
             source: Source::Differences,
-            first_step: Number::Absent,
+            first_step: None,
             dense_output: Settings::DENSE_OUTPUT,
             rule: Rule::Rust,
         }

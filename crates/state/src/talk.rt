@@ -80,25 +80,19 @@ pub enum Refusal {
     WrongReply,
 }
 
-// Whether a call passes the tests that stand before its work.
+// A call of the host: the run at the stage that waits for the reply, what is asked, and where.
 #[derive(Clone, Copy)]
-pub enum Verdict {
-    Passed,
-    Refused(Refusal),
+pub struct Call {
+    pub run: Run,
+    pub request: Request,
+    pub place: Place,
 }
 
-// The answer to an opening.
+// A refused advance hands the run back as it came.
 #[derive(Clone, Copy)]
-pub enum Opened {
-    Asked(Run, Request, Place),
-    Refused(Refusal),
-}
-
-// The answer to an advance. A refusal hands the run back as it came.
-#[derive(Clone, Copy)]
-pub enum Answer {
-    Asked(Run, Request, Place),
-    Refused(Run, Refusal),
+pub struct Refused {
+    pub run: Run,
+    pub refusal: Refusal,
 }
 
 // What a result tells of a singular decomposition: only one with the status 5 does.
@@ -107,7 +101,7 @@ pub enum Blame {
     // The status is another.
     Untold,
     // The latest of the run, or that there was none.
-    Latest(Singular),
+    Latest(Option<Singular>),
 }
 
 // What `solve` returns (methods/mod.rs, IntegrationResult), with the point reached, the blame and the strides.
@@ -121,10 +115,4 @@ pub struct IntegrationResult {
     // Of the strides of the accepted attempts; both are +0 where there was none.
     pub smallest: f64,
     pub largest: f64,
-}
-
-#[derive(Clone, Copy)]
-pub enum Result {
-    Ended(IntegrationResult),
-    NotEnded,
 }

@@ -1,22 +1,18 @@
 -- `put_fraction` meets its contract.
-use native.Mathlib.Omega.{arith}
+use Rattle.std.proofs.Common.{sym, ◌≡◌, ◌-◌, arith}
 use Rattle.forecast_text.specs.Printed.{text}
-use Rattle.forecast_text.proofs.PutLaws.{put-none, put_then}
-use Rattle.sheet.proofs.Inverse.{length_digits}
+use Rattle.forecast_text.proofs.PutLaws.{put-nothing, put-then}
 use Rattle.csv_table.proofs.LineLaws.{no_fraction, pointed-some}
 use Rattle.csv_table.proofs.number.put_fraction.Goals as goal
 
 pub returns-then-fraction-eq0 : goal.returns-then-fraction-eq0
-returns-then-fraction-eq0 c = record {
-  put = rw (c.if-fraction-eq0.true, no_fraction) (put-none _ _);
-  upper_bound = omega arith;
-}
+returns-then-fraction-eq0 c = rw (c.if-fraction-eq0.true, no_fraction) (sym (put-nothing 1024 _))
 
 pub returns : goal.returns
 unfolding text
-returns c = let t = c.trim-kept.ensures in
-    let r = c.trim-kept.result in record {
-      put = rw (t.0, pointed-some r.width r.value t.2)
-          (put_then c.put_text-behind.ensures c.put_digits.ensures);
-      upper_bound = omega (arith, length_digits 16 r.width r.value, t.3);
-    }
+returns c =
+    let t = c.trim-kept.ensures in
+    let r = c.trim-kept.result in
+    let all : r.width - 0 ≡ r.width = omega arith in
+    rw (t.0, pointed-some r.width r.value t.2)
+    (put-then _ _ _ _ c.put.ensures (rw (all, c.digits_of-digits.ensures) at c.put-2.ensures))

@@ -1,15 +1,18 @@
 -- `put_line` meets its contract.
-use mathlib.Core.Path.{refl}
+use Rattle.std.proofs.Common.{◌≤◌, ◌<◌, length, arith, refl}
 use borrow.Author.Tests.{le-leb, lt-leb}
 use Rattle.words.proofs.Branch.{yes, no}
 use Rattle.csv_table.specs.Table.{line_of}
-use Rattle.csv_table.proofs.LineLaws.{line-put}
 use Rattle.csv_table.proofs.table.put_line.Goals as goal
 
-pub returns-then-line-out : goal.returns-then-line-out
+pub returns-then-len-out : goal.returns-then-len-out
 unfolding line_of
-returns-then-line-out c = yes _ _ _ (le-leb _ _ c.if-line-out.true) (line-put c.put_text.ensures)
+returns-then-len-out c =
+    let fits : length c.args.line ≤ length c.args.out.now = omega (arith, c.len.ensures.value) in
+    yes _ _ _ (le-leb _ _ fits) (rw (c.len-then-len-out.ensures.value, c.copy_over.ensures) refl)
 
-pub returns : goal.returns
+pub returns-else-len-out : goal.returns-else-len-out
 unfolding line_of
-returns c = no _ _ _ (lt-leb _ _ c.if-line-out.false) refl
+returns-else-len-out c =
+    let short : length c.args.out.now < length c.args.line = omega (arith, c.len.ensures.value) in
+    no _ _ _ (lt-leb _ _ short) refl

@@ -6,7 +6,7 @@ use lib.ListN.{length-set}
 use borrow.Author.Tests.{lt-ltb, le-ltb}
 use Rattle.words.proofs.Branch.{yes, no}
 use Rattle.words.proofs.Loops.{begun, turned, ended}
-use Rattle.dense.specs.declared.answers.Interpolated.TheVariants.{Done}
+use Rattle.std.specs.Prelude.{Ok}
 use Rattle.dense.specs.Answers.{interpolation}
 use Rattle.dense.specs.Interpolate.{place_of, polynomial_of, amount_of, interpolate_at, interpolate_of}
 use Rattle.dense.proofs.interpolation.interpolate.Goals as goal
@@ -25,4 +25,4 @@ loop-i-preserved c = turned c.loop-i.invariant (omega arith) (simp length-set (o
 pub returns : goal.returns
 unfolding interpolate_of place_of
 returns c = no _ _ _ (le-ltb _ _ c.if-yi-n.false)
-    (ap (interpolation Done) (ended c.loop-i.invariant c.loop-i-test.false))
+    (ap (interpolation (Ok tt)) (ended c.loop-i.invariant c.loop-i-test.false))

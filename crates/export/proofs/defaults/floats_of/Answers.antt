@@ -8,8 +8,8 @@ returns c = λ i.
     ∷ c.args.s.safety_factor
     ∷ c.args.s.scale_min
     ∷ c.args.s.scale_max
-    ∷ c.or_zero.ensures i
-    ∷ c.or_zero-2.ensures i
-    ∷ c.or_zero-3.ensures i
-    ∷ c.or_zero-4.ensures i
+    ∷ c.unwrap_or.ensures i
+    ∷ c.unwrap_or-2.ensures i
+    ∷ c.unwrap_or-3.ensures i
+    ∷ c.unwrap_or-4.ensures i
     ∷ []

@@ -11,14 +11,14 @@ returns c = λ i.
     ∷ c.mass_word.ensures i
     ∷ c.source_word.ensures i
     ∷ c.rule_word.ensures i
-    ∷ c.number_tag.ensures i
-    ∷ c.number_tag-2.ensures i
-    ∷ c.number_tag-3.ensures i
-    ∷ c.number_tag-4.ensures i
-    ∷ c.whole_tag.ensures i
-    ∷ c.whole_word.ensures i
-    ∷ c.whole_tag-2.ensures i
-    ∷ c.whole_word-2.ensures i
-    ∷ c.whole_tag-3.ensures i
-    ∷ c.whole_word-3.ensures i
+    ∷ c.option_tag.ensures i
+    ∷ c.option_tag-2.ensures i
+    ∷ c.option_tag-3.ensures i
+    ∷ c.option_tag-4.ensures i
+    ∷ c.option_tag-5.ensures i
+    ∷ c.unwrap_or.ensures i
+    ∷ c.option_tag-6.ensures i
+    ∷ c.unwrap_or-2.ensures i
+    ∷ c.option_tag-7.ensures i
+    ∷ c.unwrap_or-3.ensures i
     ∷ []

@@ -2,8 +2,8 @@
 use mathlib.Core.Path.{refl}
 use Rattle.export.proofs.scalars.elchepur_coefficient.Goals as goal
 
-pub returns-in-Value : goal.returns-in-Value
-returns-in-Value c = rw (← c.coefficient.ensures.0, c.in-Value.is) (refl, refl)
+pub returns-in-Some : goal.returns-in-Some
+returns-in-Some c = rw (← c.coefficient.ensures.0, c.in-Some.is) (refl, refl)
 
-pub returns-in-Outside : goal.returns-in-Outside
-returns-in-Outside c = rw (← c.coefficient.ensures.0, c.in-Outside.is) (refl, refl)
+pub returns-in-None : goal.returns-in-None
+returns-in-None c = rw (← c.coefficient.ensures.0, c.in-None.is) (refl, refl)

@@ -3,4 +3,4 @@ use Rattle.export_csv.proofs.ToldLaws.{told-by}
 use Rattle.export_csv.proofs.tables.elchepur_csv_header.Goals as goal
 
 pub returns : goal.returns
-returns c = told-by _ _ _ _ c.put_header-answer.ensures c.length.ensures c.number.ensures
+returns c = told-by _ _ _ _ c.put_header.ensures c.tell.ensures.length c.tell.ensures.number

@@ -1,13 +1,10 @@
--- `decimal_width` meets its contract: each division by ten drops a digit.
-use native.Mathlib.Omega.{arith}
-use Rattle.forecast_text.proofs.DigitLaws.{wide-first, wide-next, wide-last}
+-- `decimal_width` meets its contract.
+use Rattle.forecast_text.proofs.DigitLaws.{width-log, width-none}
 use Rattle.forecast_text.proofs.numerals.decimal_width.Goals as goal
 
-pub loop-left-init : goal.loop-left-init
-loop-left-init c = wide-first _ (omega arith)
+pub returns-then-value-eq0-clause-value : goal.returns-then-value-eq0-clause-value
+returns-then-value-eq0-clause-value c = width-none _ c.if-value-eq0.true
 
-pub loop-left-preserved : goal.loop-left-preserved
-loop-left-preserved c = wide-next c.loop-left.invariant c.loop-left-test.true
-
-pub returns : goal.returns
-returns c = wide-last c.loop-left.invariant c.loop-left-test.false
+pub returns-else-value-eq0-clause-value : goal.returns-else-value-eq0-clause-value
+returns-else-value-eq0-clause-value c =
+    let log = c.ilog10.ensures in width-log _ _ log.bound log.power_le log.next_power_gt

@@ -8,11 +8,11 @@ use Rattle.matrix.proofs.elimination.find_pivot.Goals as goal
 use Rattle.matrix.proofs.elimination.find_pivot.Goals.{else-val-max_val, then-val-max_val}
 
 pub loop-i-init : goal.loop-i-init
-loop-i-init c = begun (omega arith) (omega arith) (cc)
+loop-i-init g c = begun (omega arith) (omega arith) (cc)
 
 pub loop-i-preserved : goal.loop-i-preserved
 unfolding better_at
-loop-i-preserved c = elim c.if-val-max_val.branch [
+loop-i-preserved g c = elim c.if-val-max_val.branch [
   | then-val-max_val w ↦ turned c.loop-i.invariant (omega arith)
       (omega arith) (yes _ _ _ (cc) (cc))
   | else-val-max_val w ↦ turned c.loop-i.invariant (omega arith) (omega arith)
@@ -21,7 +21,7 @@ loop-i-preserved c = elim c.if-val-max_val.branch [
 
 pub returns : goal.returns
 unfolding pivot_row
-returns c = record {
+returns g c = record {
   value = ap (λ (b : Best). b.row) (ended c.loop-i.invariant c.loop-i-test.false);
   upper_bound = omega arith;
 }

@@ -1,38 +1,34 @@
 -- `passes` meets its contract.
 use mathlib.Core.Path.{refl}
 use native.Mathlib.Omega.{arith}
-use borrow.Author.Tests.{not-true, not-false}
-use Rattle.words.proofs.Loops.{begun, turned, ended, stopped}
-use Rattle.matrix.specs.Lu.{real, is_zero}
-use Rattle.matrix.proofs.Passes.{went_on, stopped-at, still, ends-within, ends-zero, ends-done}
+use borrow.Author.Rules.{rules}
+use Rattle.std.proofs.lemmas.Result.{err_from_is_err_and}
+use Rattle.words.proofs.Loops.{begun, turned, ended}
+use Rattle.matrix.proofs.Passes.{went_on, ends-within, ends-zero, ends-done}
 use Rattle.matrix.proofs.elimination.passes.Goals as goal
 
 pub loop-k-init : goal.loop-k-init
-loop-k-init c = begun (omega arith) (c.requires.square, c.requires.le_n.1) refl
-
-pub returns-then-not-pass : goal.returns-then-not-pass
-returns-then-not-pass c = ends-within real _ _ _
-    (stopped c.loop-k.invariant (omega arith)
-    (stopped-at real _ _ _ _ c.pass.result
-    c.pass.ensures
-    (not-true c.pass.result c.if-not-pass.true-raw))
-    (still real _ _ _))
+loop-k-init g c = record {
+  ran = begun (omega arith) tt refl;
+  matrix = c.requires.matrix;
+  pivots = c.requires.le_n.1;
+}
 
 pub loop-k-preserved : goal.loop-k-preserved
-loop-k-preserved c = turned c.loop-k.invariant
-    (omega arith) (omega arith)
-    (went_on real _ _ _ _ c.pass.result
-    c.pass.ensures
-    (not-false c.pass.result c.if-not-pass.false-raw))
+loop-k-preserved g c = record {
+  ran = turned c.loop-k.invariant.ran (omega arith) tt (went_on g.E.Entry.kind _ _ _ _ c.in_ok-pass.ensures);
+  matrix = search rules;
+  pivots = omega arith;
+}
 
-pub returns-then-at : goal.returns-then-at
-unfolding is_zero
-returns-then-at c = ends-zero real _ _ _
-    (ended c.loop-k.invariant c.loop-k-test.false)
-    (rw (← c.at.ensures) c.if-at.true)
+pub returns-in_err-pass : goal.returns-in_err-pass
+returns-in_err-pass g c = let p = err_from_is_err_and c.from_residual.result c.from_residual.ensures.1 in
+    rw (p.1, p.2) (ends-within g.E.Entry.kind _ _ _ _ c.loop-k.invariant.ran (omega arith) c.in_err-pass.ensures)
+
+pub returns-then-is_zero : goal.returns-then-is_zero
+returns-then-is_zero g c = ends-zero g.E.Entry.kind _ _ _ (ended c.loop-k.invariant.ran c.loop-k-test.false)
+    (rw (← c.at.ensures.of_kind, ← c.is_zero.ensures) c.if-is_zero.true)
 
 pub returns : goal.returns
-unfolding is_zero
-returns c = ends-done real _ _ _
-    (ended c.loop-k.invariant c.loop-k-test.false)
-    (rw (← c.at.ensures) c.if-at.false)
+returns g c = ends-done g.E.Entry.kind _ _ _ (ended c.loop-k.invariant.ran c.loop-k-test.false)
+    (rw (← c.at.ensures.of_kind, ← c.is_zero.ensures) c.if-is_zero.false)

@@ -1,38 +1,48 @@
 -- `lin_solve` meets its contract.
-use mathlib.Core.Path.{refl, sym, ◌∙◌}
+use mathlib.Core.Path.{refl, sym, ap, ◌∙◌}
 use native.Mathlib.Omega.{arith}
+use Rattle.std.proofs.Common.{Ok}
 use Rattle.words.proofs.Branch.{yes, no}
 use Rattle.state.proofs.Pivots.{all-rows}
+use Rattle.matrix.specs.Answers.{solution}
 use Rattle.matrix.specs.Linear.{lin_solve_of}
 use Rattle.matrix.proofs.Sizes.{order, three}
+use Rattle.matrix.proofs.Sides.{real-lawful}
+use Rattle.matrix.proofs.Backward.{solved-by}
 use Rattle.matrix.proofs.linear.lin_solve.Goals as goal
 
-pub overflow_mul-n : goal.overflow_mul-n
-overflow_mul-n c = omega (arith, order c.args.n c.if-n.true)
+pub returns-then-not-is_order : goal.returns-then-not-is_order
+unfolding lin_solve_of
+returns-then-not-is_order c = no _ _ _ (sym c.is_order.ensures ∙ c.if-not-is_order.true) refl
+
+pub overflow_mul-fits : goal.overflow_mul-fits
+overflow_mul-fits c = omega (arith, order c.args.n (sym c.is_order.ensures ∙ c.if-not-is_order.false))
+
+pub returns-then-not-fits : goal.returns-then-not-fits
+unfolding lin_solve_of
+returns-then-not-fits c = yes _ _ _ (sym c.is_order.ensures ∙ c.if-not-is_order.false)
+    (no _ _ _ c.if-not-fits.true refl)
 
 pub returns-then-stray_pivot : goal.returns-then-stray_pivot
 unfolding lin_solve_of
-returns-then-stray_pivot c = yes _ _ _ c.if-n.true
-    (yes _ _ _ c.if-a-n.true (yes _ _ _ (sym c.stray_pivot.ensures ∙ c.if-stray_pivot.true) refl))
+returns-then-stray_pivot c = yes _ _ _ (sym c.is_order.ensures ∙ c.if-not-is_order.false)
+    (yes _ _ _ c.if-not-fits.false (yes _ _ _ (sym c.stray_pivot.ensures ∙ c.if-stray_pivot.true) refl))
 
 pub solve-requires : goal.solve-requires
-solve-requires c = let o = order c.args.n c.if-n.true in
-    let l = three c.args.n _ c.args.n _ _ c.if-a-n.true in record {
-      square = record { small = o.high; full = l.0 };
-      b_len = (l.1, l.2, o.low);
+solve-requires c = let o = order c.args.n (sym c.is_order.ensures ∙ c.if-not-is_order.false) in
+    let l = three c.args.n _ c.args.n _ _ c.if-not-fits.false in record {
+      matrix = (record { small = o.high; full = l.0 }, omega arith);
+      vector = (l.1, omega arith);
+      ip_len = (l.2, o.low);
       by_index = all-rows c.args.n _ (sym c.stray_pivot.ensures ∙ c.if-stray_pivot.false);
     }
 
-pub returns-then-a-n : goal.returns-then-a-n
-unfolding lin_solve_of
-returns-then-a-n c = yes _ _ _ c.if-n.true
-    (yes _ _ _ c.if-a-n.true (no _ _ _
-    (sym c.stray_pivot.ensures ∙ c.if-stray_pivot.false) (rw c.solve.ensures)))
-
-pub returns-then-n : goal.returns-then-n
-unfolding lin_solve_of
-returns-then-n c = yes _ _ _ c.if-n.true (no _ _ _ c.if-a-n.false refl)
-
 pub returns : goal.returns
 unfolding lin_solve_of
-returns c = no _ _ _ c.if-n.false refl
+returns c = let l = three c.args.n _ c.args.n _ _ c.if-not-fits.false in
+    yes _ _ _ (sym c.is_order.ensures ∙ c.if-not-is_order.false)
+    (yes _ _ _ c.if-not-fits.false (no _ _ _
+    (sym c.stray_pivot.ensures ∙ c.if-stray_pivot.false)
+    (ap (solution (Ok tt)) (c.solve.ensures
+    ∙ solved-by _ _ _ real-lawful _ _ _ _
+    (order c.args.n (sym c.is_order.ensures ∙ c.if-not-is_order.false)).low l.1))))

@@ -1,8 +1,13 @@
 -- What each loop of `forward_phase` keeps.
-use Rattle.words.proofs.Loops.{Ran, Long}
-use Rattle.matrix.specs.Substitution.{forward_at}
-use Rattle.matrix.specs.Linear.{real_side}
+use Prim.Native.Nat.{◌-◌}
+use Rattle.words.proofs.Loops.{Ran, Any}
+use Rattle.matrix.specs.Lent.{IsVector}
+use Rattle.matrix.specs.Reordered.{stepped_at}
 use Rattle.matrix.proofs.substitution.forward_phase.Given as goal
 
 abbrev pub invariant-loop-k : goal.invariant-loop-k
-invariant-loop-k l = Ran (forward_at real_side l.a l.n l.ip) (Long l.initial.b) 0 l.nm1 l.k l.initial.b l.b
+invariant-loop-k g l = let e = g.E.Entry in record {
+  ran : Ran (stepped_at e.entries (e.lent l.ar l.ai) l.n l.ip) Any 0 (l.n - 1) l.k
+      (e.lent l.initial.br l.initial.bi) (e.lent l.br l.bi);
+  vector : IsVector e.imaginary l.n l.br l.bi;
+}

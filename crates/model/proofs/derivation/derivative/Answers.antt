@@ -1,56 +1,25 @@
 -- `derivative` meets its contract.
-use Prim.Native.Nat.{◌*◌}
-use mathlib.Core.Path.{refl, sym, ap, ◌∙◌}
-use native.Mathlib.Omega.{arith}
-use lib.ListN.{length, length-replicate}
-use Rattle.words.proofs.Branch.{yes, no}
-use Rattle.state.specs.Memory.{zeros}
+use Rattle.std.proofs.Common.{◌*◌, length, sym, ap, ◌∙◌, Ok, arith}
+use Rattle.model.specs.Answers.{derivation}
 use Rattle.model.specs.Model.{derivative_of}
-use Rattle.model.specs.Derivative.{unknown, derived_of}
-use Rattle.model.proofs.TestLaws.{fit, all_known}
+use Rattle.model.proofs.TestLaws.{Fit, unknown_is, none_above}
+use Rattle.model.proofs.DerivativeLaws.{accepted-proof, unknown-proof}
 use Rattle.model.proofs.derivation.derivative.Goals as goal
 
-pub overflow_mul-reactions : goal.overflow_mul-reactions
-overflow_mul-reactions c = let given = c.args in
-    omega (
-      arith,
-      fit given.reactions (length given.y.now) (length given.rates.now) (length given.species.now)
-          (length given.dy.now) c.if-dy-y.true,
-    )
-
-pub unknown_among-requires : goal.unknown_among-requires
-unknown_among-requires c = let given = c.args in
-    (fit given.reactions (length given.y.now) (length given.rates.now) (length given.species.now)
-    (length given.dy.now) c.if-dy-y.true).enough-species
-
 pub returns-then-unknown_among : goal.returns-then-unknown_among
-unfolding derived_of unknown
-returns-then-unknown_among c =
-    yes _ _ _ c.if-dy-y.true (yes _ _ _ (sym c.unknown_among.ensures ∙ c.if-unknown_among.true) refl)
-
-pub react_all-requires : goal.react_all-requires
-unfolding zeros unknown
-react_all-requires c = let given = c.args in
-    let f = fit given.reactions (length given.y.now) (length given.rates.now) (length given.species.now)
-    (length given.dy.now) c.if-dy-y.true in record {
-      dy_len = (
-        ap length c.zero.ensures ∙ simp length-replicate f.target,
-        f.enough-rates,
-        f.enough-species,
-      );
-      by_index = all_known (length given.y.now) given.species.now (4 * given.reactions)
-          (sym c.unknown_among.ensures ∙ c.if-unknown_among.false);
-    }
-
-pub returns-then-dy-y : goal.returns-then-dy-y
-unfolding derived_of unknown derivative_of
-returns-then-dy-y c = let given = c.args in
-    let f = fit given.reactions (length given.y.now) (length given.rates.now) (length given.species.now)
-    (length given.dy.now) c.if-dy-y.true in
-    yes _ _ _ c.if-dy-y.true
-    (no _ _ _ (sym c.unknown_among.ensures ∙ c.if-unknown_among.false)
-    (rw (c.react_all.ensures, c.zero.ensures, f.target)))
+returns-then-unknown_among c = let a = c.args in
+    let fits : Fit a.reactions (length a.y.now) (length a.rates.now) (length a.species.now) (length a.dy.now) =
+    record { target = omega arith; enough-rates = omega arith; enough-species = omega arith } in
+    sym (unknown-proof a.reactions a.y.now a.rates.now a.species.now a.dy.now fits
+    (sym (unknown_is (length a.y.now) a.species.now (4 * a.reactions) fits.enough-species)
+    ∙ sym c.unknown_among.ensures ∙ c.if-unknown_among.true))
 
 pub returns : goal.returns
-unfolding derived_of
-returns c = no _ _ _ c.if-dy-y.false refl
+unfolding derivative_of
+returns c = let a = c.args in
+    let fits : Fit a.reactions (length a.y.now) (length a.rates.now) (length a.species.now) (length a.dy.now) =
+    record { target = omega arith; enough-rates = omega arith; enough-species = omega arith } in
+    ap (derivation (Ok tt)) (rw (c.react_all.ensures, c.zero.ensures, fits.target))
+    ∙ sym (accepted-proof a.reactions a.y.now a.rates.now a.species.now a.dy.now fits
+    (none_above (length a.y.now) a.species.now (4 * a.reactions) fits.enough-species
+    (sym c.unknown_among.ensures ∙ c.if-unknown_among.false)))

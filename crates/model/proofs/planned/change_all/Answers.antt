@@ -13,11 +13,11 @@ pub loop-i-init : goal.loop-i-init
 loop-i-init c = (omega arith, omega arith, changes-none _ _ _ _)
 
 pub times_amount-requires : goal.times_amount-requires
-times_amount-requires c = c.requires.4
+times_amount-requires c = c.requires.3
     (4 * c.loop-i.i) (omega arith)
 
 pub times_amount-v-requires : goal.times_amount-v-requires
-times_amount-v-requires c = c.requires.4
+times_amount-v-requires c = c.requires.3
     (4 * c.loop-i.i + 1) (omega arith)
 
 pub loop-i-preserved : goal.loop-i-preserved
@@ -33,8 +33,6 @@ loop-i-preserved c = let a = c.args in
 
 pub returns : goal.returns
 returns c = let a = c.args in
-    let l = c.loop-i in (
-      l.invariant.1,
-      subst (λ (k : ℕ). Changes k a.y.now a.rates.now a.species.now l.changes)
-          (le_antisymm l.invariant.0 c.loop-i-test.false) l.invariant.2,
-    )
+    let l = c.loop-i in
+    subst (λ (k : ℕ). Changes k a.y.now a.rates.now a.species.now l.changes)
+    (le_antisymm l.invariant.0 c.loop-i-test.false) l.invariant.2

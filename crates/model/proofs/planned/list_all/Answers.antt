@@ -3,6 +3,7 @@ use Prim.Native.Nat.{ℕ}
 use mathlib.Core.Path.{subst}
 use native.Mathlib.Nat.{le_antisymm}
 use native.Mathlib.Omega.{arith}
+use lib.ListN.{length}
 use Rattle.model.specs.Plan.{Listings}
 use Rattle.model.proofs.PlanLaws.{listings-none, listings-more}
 use Rattle.model.proofs.planned.list_all.Goals as goal
@@ -10,19 +11,15 @@ use Rattle.model.proofs.planned.list_all.Goals as goal
 pub loop-s-init : goal.loop-s-init
 loop-s-init c = let a = c.args in (
   omega arith,
-  listings-none a.species.now a.count a.starts.now a.terms.now (omega arith)
+  listings-none a.places.now (length a.places.now) a.starts.now a.terms.now (omega arith)
       (omega arith) (omega arith),
 )
-
-pub list_species-requires : goal.list_species-requires
-list_species-requires c = let inv = c.loop-s.invariant in
-    (omega arith, omega arith, omega (arith, inv.1.near), inv.1.long)
 
 pub loop-s-preserved : goal.loop-s-preserved
 loop-s-preserved c = let a = c.args in
     let l = c.loop-s in (
       omega arith,
-      listings-more a.species.now a.count l.s l.starts l.terms
+      listings-more a.places.now (length a.places.now) l.s l.starts l.terms
           c.list_species.new.terms c.list_species.result (omega arith) (omega arith) l.invariant.1
           c.list_species.ensures,
     )
@@ -30,5 +27,5 @@ loop-s-preserved c = let a = c.args in
 pub returns : goal.returns
 returns c = let a = c.args in
     let l = c.loop-s in
-    subst (λ (k : ℕ). Listings k a.species.now a.count l.starts l.terms)
+    subst (λ (k : ℕ). Listings k a.places.now (length a.places.now) l.starts l.terms)
     (le_antisymm l.invariant.0 c.loop-s-test.false) l.invariant.1

@@ -1,8 +1,9 @@
--- What each loop of `sum_of` keeps.
+-- What the loop of `sum_of` keeps.
+use Rattle.std.proofs.Common.{length}
 use Rattle.words.specs.Constants.{«0·0»}
 use Rattle.words.proofs.Loops.{Ran, Any}
 use Rattle.model.specs.Plan.{term_at}
 use Rattle.model.proofs.planned.sum_of.Given as goal
 
-abbrev pub invariant-loop-t : goal.invariant-loop-t
-invariant-loop-t l = Ran (term_at l.terms l.changes) Any l.from l.to l.t «0·0» l.sum
+abbrev pub invariant-loop-k : goal.invariant-loop-k
+invariant-loop-k l = Ran (term_at l.terms l.changes) Any 0 (length l.terms) l.k-index «0·0» l.sum

@@ -15,8 +15,7 @@ returns-in-Derivative c =
       value = ap reply_to (sym c.in-Derivative.is);
       f_origin_after = λ scal f2 f3 g f.
           wrote_at a.reactions a.rates.now a.species.now a.request _ a.place (lent scal f2 f3 g f) c.in-Derivative.is
-          (c.fill.ensures.f_origin_after scal f2 f3 g f);
-      changes_len = c.fill.ensures.changes_len;
+          (c.fill.ensures scal f2 f3 g f);
     }
 
 pub returns-in-Jacobian : goal.returns-in-Jacobian
@@ -30,7 +29,6 @@ returns-in-Jacobian c =
       f_origin_after = λ scal f2 f3 g f.
           wrote_at a.reactions a.rates.now a.species.now a.request _ a.place (lent scal f2 f3 g f) c.in-Jacobian.is
           refl;
-      changes_len = c.requires.0;
     }
 
 pub returns-in-Report : goal.returns-in-Report
@@ -43,7 +41,6 @@ returns-in-Report c =
       value = ap reply_to (sym c.in-Report.is);
       f_origin_after = λ scal f2 f3 g f.
           wrote_at a.reactions a.rates.now a.species.now a.request _ a.place (lent scal f2 f3 g f) c.in-Report.is refl;
-      changes_len = c.requires.0;
     }
 
 pub returns-in-Ended : goal.returns-in-Ended
@@ -56,5 +53,4 @@ returns-in-Ended c =
       value = ap reply_to (sym c.in-Ended.is);
       f_origin_after = λ scal f2 f3 g f.
           wrote_at a.reactions a.rates.now a.species.now a.request _ a.place (lent scal f2 f3 g f) c.in-Ended.is refl;
-      changes_len = c.requires.0;
     }

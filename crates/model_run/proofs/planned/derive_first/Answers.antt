@@ -11,17 +11,8 @@ use Rattle.model_run.proofs.planned.derive_first.Goals as goal
 pub slice_bounds-derivative_by_plan-end : goal.slice_bounds-derivative_by_plan-end
 slice_bounds-derivative_by_plan-end c = simp length-take (omega arith)
 
-pub returns-then-n-cont : goal.returns-then-n-cont
-returns-then-n-cont c = record {
-  part_after = c.derivative_by_plan.ensures.1;
-  changes_len = c.derivative_by_plan.ensures.0;
-}
-
 pub returns-else-n-cont : goal.returns-else-n-cont
 returns-else-n-cont c = let a = c.args in
-    record {
-      part_after = c.derivative_by_plan-else-n-cont.ensures.1 ∙ ap
-          (λ (l : List Float). (derived_of a.reactions l a.rates.now a.species.now a.part.now).dy)
-          (sym (take_all a.n a.cont.now c.if-n-cont.false));
-      changes_len = c.derivative_by_plan-else-n-cont.ensures.0;
-    }
+    c.derivative_by_plan-else-n-cont.ensures ∙ ap
+    (λ (l : List Float). (derived_of a.reactions l a.rates.now a.species.now a.part.now).dy)
+    (sym (take_all a.n a.cont.now c.if-n-cont.false))

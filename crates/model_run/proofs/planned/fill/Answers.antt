@@ -12,12 +12,9 @@ returns-in-Nowhere c =
     let a = c.args in
     let lent = hosted a.y.now a.f0.now a.cont.now a.z1.now a.z2.now a.z3.now a.f1.now
     a.y_perturbed.now a.f_perturbed.now a.f_origin.now in
-    record {
-      f_origin_after = λ scal f2 f3 g f.
-          filled_at a.reactions a.rates.now a.species.now a.place place.Nowhere (lent scal f2 f3 g f) c.in-Nowhere.is
-          refl;
-      changes_len = c.requires.0;
-    }
+    λ scal f2 f3 g f.
+    filled_at a.reactions a.rates.now a.species.now a.place place.Nowhere (lent scal f2 f3 g f) c.in-Nowhere.is
+    refl
 
 pub returns-in-YToF0 : goal.returns-in-YToF0
 unfolding filled part_at source_at
@@ -25,12 +22,9 @@ returns-in-YToF0 c =
     let a = c.args in
     let lent = hosted a.y.now a.f0.now a.cont.now a.z1.now a.z2.now a.z3.now a.f1.now
     a.y_perturbed.now a.f_perturbed.now a.f_origin.now in
-    record {
-      f_origin_after = λ scal f2 f3 g f.
-          filled_at a.reactions a.rates.now a.species.now a.place place.YToF0 (lent scal f2 f3 g f) c.in-YToF0.is
-          c.derivative_by_plan.ensures.1;
-      changes_len = c.derivative_by_plan.ensures.0;
-    }
+    λ scal f2 f3 g f.
+    filled_at a.reactions a.rates.now a.species.now a.place place.YToF0 (lent scal f2 f3 g f) c.in-YToF0.is
+    c.derivative_by_plan.ensures
 
 pub returns-in-ContToZ1 : goal.returns-in-ContToZ1
 unfolding filled part_at source_at
@@ -38,12 +32,9 @@ returns-in-ContToZ1 c =
     let a = c.args in
     let lent = hosted a.y.now a.f0.now a.cont.now a.z1.now a.z2.now a.z3.now a.f1.now
     a.y_perturbed.now a.f_perturbed.now a.f_origin.now in
-    record {
-      f_origin_after = λ scal f2 f3 g f.
-          filled_at a.reactions a.rates.now a.species.now a.place place.ContToZ1 (lent scal f2 f3 g f) c.in-ContToZ1.is
-          c.derive_first.ensures.part_after;
-      changes_len = c.derive_first.ensures.changes_len;
-    }
+    λ scal f2 f3 g f.
+    filled_at a.reactions a.rates.now a.species.now a.place place.ContToZ1 (lent scal f2 f3 g f) c.in-ContToZ1.is
+    c.derive_first.ensures
 
 pub returns-in-ContToZ2 : goal.returns-in-ContToZ2
 unfolding filled part_at source_at
@@ -51,12 +42,9 @@ returns-in-ContToZ2 c =
     let a = c.args in
     let lent = hosted a.y.now a.f0.now a.cont.now a.z1.now a.z2.now a.z3.now a.f1.now
     a.y_perturbed.now a.f_perturbed.now a.f_origin.now in
-    record {
-      f_origin_after = λ scal f2 f3 g f.
-          filled_at a.reactions a.rates.now a.species.now a.place place.ContToZ2 (lent scal f2 f3 g f) c.in-ContToZ2.is
-          c.derive_first-in-ContToZ2.ensures.part_after;
-      changes_len = c.derive_first-in-ContToZ2.ensures.changes_len;
-    }
+    λ scal f2 f3 g f.
+    filled_at a.reactions a.rates.now a.species.now a.place place.ContToZ2 (lent scal f2 f3 g f) c.in-ContToZ2.is
+    c.derive_first-in-ContToZ2.ensures
 
 pub returns-in-ContToZ3 : goal.returns-in-ContToZ3
 unfolding filled part_at source_at
@@ -64,12 +52,9 @@ returns-in-ContToZ3 c =
     let a = c.args in
     let lent = hosted a.y.now a.f0.now a.cont.now a.z1.now a.z2.now a.z3.now a.f1.now
     a.y_perturbed.now a.f_perturbed.now a.f_origin.now in
-    record {
-      f_origin_after = λ scal f2 f3 g f.
-          filled_at a.reactions a.rates.now a.species.now a.place place.ContToZ3 (lent scal f2 f3 g f) c.in-ContToZ3.is
-          c.derive_first-in-ContToZ3.ensures.part_after;
-      changes_len = c.derive_first-in-ContToZ3.ensures.changes_len;
-    }
+    λ scal f2 f3 g f.
+    filled_at a.reactions a.rates.now a.species.now a.place place.ContToZ3 (lent scal f2 f3 g f) c.in-ContToZ3.is
+    c.derive_first-in-ContToZ3.ensures
 
 pub returns-in-ContToF1 : goal.returns-in-ContToF1
 unfolding filled part_at source_at
@@ -77,12 +62,9 @@ returns-in-ContToF1 c =
     let a = c.args in
     let lent = hosted a.y.now a.f0.now a.cont.now a.z1.now a.z2.now a.z3.now a.f1.now
     a.y_perturbed.now a.f_perturbed.now a.f_origin.now in
-    record {
-      f_origin_after = λ scal f2 f3 g f.
-          filled_at a.reactions a.rates.now a.species.now a.place place.ContToF1 (lent scal f2 f3 g f) c.in-ContToF1.is
-          c.derive_first-in-ContToF1.ensures.part_after;
-      changes_len = c.derive_first-in-ContToF1.ensures.changes_len;
-    }
+    λ scal f2 f3 g f.
+    filled_at a.reactions a.rates.now a.species.now a.place place.ContToF1 (lent scal f2 f3 g f) c.in-ContToF1.is
+    c.derive_first-in-ContToF1.ensures
 
 pub returns-in-YToFOrigin : goal.returns-in-YToFOrigin
 unfolding filled part_at source_at
@@ -90,13 +72,10 @@ returns-in-YToFOrigin c =
     let a = c.args in
     let lent = hosted a.y.now a.f0.now a.cont.now a.z1.now a.z2.now a.z3.now a.f1.now
     a.y_perturbed.now a.f_perturbed.now a.f_origin.now in
-    record {
-      f_origin_after = λ scal f2 f3 g f.
-          filled_at a.reactions a.rates.now a.species.now a.place place.YToFOrigin (lent scal f2 f3 g f)
-          c.in-YToFOrigin.is
-          c.derivative_by_plan-in-YToFOrigin.ensures.1;
-      changes_len = c.derivative_by_plan-in-YToFOrigin.ensures.0;
-    }
+    λ scal f2 f3 g f.
+    filled_at a.reactions a.rates.now a.species.now a.place place.YToFOrigin (lent scal f2 f3 g f)
+    c.in-YToFOrigin.is
+    c.derivative_by_plan-in-YToFOrigin.ensures
 
 pub returns-in-YPerturbedToFPerturbed : goal.returns-in-YPerturbedToFPerturbed
 unfolding filled part_at source_at
@@ -104,9 +83,6 @@ returns-in-YPerturbedToFPerturbed c =
     let a = c.args in
     let lent = hosted a.y.now a.f0.now a.cont.now a.z1.now a.z2.now a.z3.now a.f1.now
     a.y_perturbed.now a.f_perturbed.now a.f_origin.now in
-    record {
-      f_origin_after = λ scal f2 f3 g f.
-          filled_at a.reactions a.rates.now a.species.now a.place place.YPerturbedToFPerturbed (lent scal f2 f3 g f)
-          c.in-YPerturbedToFPerturbed.is c.derivative_by_plan-in-YPerturbedToFPerturbed.ensures.1;
-      changes_len = c.derivative_by_plan-in-YPerturbedToFPerturbed.ensures.0;
-    }
+    λ scal f2 f3 g f.
+    filled_at a.reactions a.rates.now a.species.now a.place place.YPerturbedToFPerturbed (lent scal f2 f3 g f)
+    c.in-YPerturbedToFPerturbed.is c.derivative_by_plan-in-YPerturbedToFPerturbed.ensures

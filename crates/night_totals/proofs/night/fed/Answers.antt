@@ -3,15 +3,16 @@ use Rattle.std.proofs.Common.{sym, refl, ◌∙◌, arith}
 use Rattle.night_totals.proofs.FedLaws.{fed-more, fed-all}
 use Rattle.night_totals.proofs.night.fed.Goals as goal
 
-pub loop-i-init : goal.loop-i-init
-loop-i-init c = (omega arith, refl)
+pub loop-byte-init : goal.loop-byte-init
+loop-byte-init c = (omega arith, refl)
 
-pub loop-i-preserved : goal.loop-i-preserved
-loop-i-preserved c = (
+pub loop-byte-preserved : goal.loop-byte-preserved
+loop-byte-preserved c = (
   omega arith,
-  rw c.step-next.ensures (sym (fed-more c.loop-i.next c.args.piece.now c.loop-i.i c.loop-i-test.true)
-      ∙ c.loop-i.invariant.1),
+  rw c.step-next.ensures (sym (fed-more c.loop-byte.next c.args.piece.now c.loop-byte.byte-index c.loop-byte-test.true)
+      ∙ c.loop-byte.invariant.1),
 )
 
 pub returns : goal.returns
-returns c = fed-all c.loop-i.next c.args.piece.now c.loop-i.i c.loop-i-test.false ∙ c.loop-i.invariant.1
+returns c = fed-all c.loop-byte.next c.args.piece.now c.loop-byte.byte-index c.loop-byte-test.false
+    ∙ c.loop-byte.invariant.1

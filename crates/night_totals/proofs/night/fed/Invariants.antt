@@ -3,5 +3,6 @@ use Rattle.std.proofs.Common.{◌≡◌, ◌≤◌, length, drop}
 use Rattle.night_totals.specs.Night.{fed_of}
 use Rattle.night_totals.proofs.night.fed.Given as goal
 
-abbrev pub invariant-loop-i : goal.invariant-loop-i
-invariant-loop-i l = (l.i ≤ length l.piece) × (fed_of l.next (drop l.i l.piece) ≡ fed_of l.initial.next l.piece)
+abbrev pub invariant-loop-byte : goal.invariant-loop-byte
+invariant-loop-byte l = (l.byte-index ≤ length l.piece) × (fed_of l.next (drop l.byte-index l.piece)
+    ≡ fed_of l.initial.next l.piece)

@@ -1,26 +1,31 @@
 -- `admit` meets its contract.
+use Rattle.opening.proofs.RowLaws.{passes, stops}
 use mathlib.Core.Path.{sym, ◌∙◌}
-use Rattle.opening.proofs.AdmissionLaws.{settings-bounded, later-joined, later-refused}
+use Rattle.opening.proofs.AdmissionLaws.{settings-bounded}
 use Rattle.opening.proofs.admission.admit.Goals as goal
 
 pub check_counts-requires : goal.check_counts-requires
 check_counts-requires c = settings-bounded c.args.run.settings
-    (sym c.check_settings.ensures ∙ c.in-Passed.is)
+    (sym c.check_settings.ensures ∙ c.in_ok-check_settings.was)
 
-pub returns-in-Refused : goal.returns-in-Refused
-returns-in-Refused c = let a = c.args in
-    later-refused a.run a.reply a.ip1.now a.ip2.now _
-    (sym c.check_settings.ensures ∙ c.in-Refused.is)
+pub returns-in_err-check_settings : goal.returns-in_err-check_settings
+returns-in_err-check_settings c =
+    stops _ _ c.check_settings.ensures c.in_err-check_settings.was c.from_residual.ensures.1
 
-pub returns-in-Passed : goal.returns-in-Passed
-returns-in-Passed c = let a = c.args in
-    rw (
-      c.next.ensures,
-      c.check_state.ensures,
-      c.next-counted.ensures,
-      c.check_reply.ensures,
-      c.check_counts.ensures,
-    )
-    (later-joined a.run a.reply a.ip1.now a.ip2.now
-    (sym c.check_settings.ensures
-    ∙ c.in-Passed.is))
+pub returns-in_err-check_state : goal.returns-in_err-check_state
+returns-in_err-check_state c =
+    passes _ _ c.check_settings.ensures c.in_ok-check_settings.was
+    (stops _ _ c.check_state.ensures c.in_err-check_state.was c.from_residual-in_err-check_state.ensures.1)
+
+pub returns-in_err-check_counts : goal.returns-in_err-check_counts
+returns-in_err-check_counts c =
+    passes _ _ c.check_settings.ensures c.in_ok-check_settings.was
+    (passes _ _ c.check_state.ensures c.in_ok-check_state.was
+    (stops _ _ c.check_counts.ensures c.in_err-check_counts.was c.from_residual-in_err-check_counts.ensures.1))
+
+pub returns : goal.returns
+returns c =
+    passes _ _ c.check_settings.ensures c.in_ok-check_settings.was
+    (passes _ _ c.check_state.ensures c.in_ok-check_state.was
+    (passes _ _ c.check_counts.ensures c.in_ok-check_counts.was
+    (c.check_reply.ensures)))

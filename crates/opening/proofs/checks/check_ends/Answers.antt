@@ -1,8 +1,12 @@
 -- `check_ends` meets its contract.
-use Rattle.opening.specs.Rows.{bad_number}
-use Rattle.opening.proofs.RowLaws.{no_test}
+use Rattle.opening.proofs.RowLaws.{passes, stops}
 use Rattle.opening.proofs.checks.check_ends.Goals as goal
 
+pub returns-in_err-refuse_number : goal.returns-in_err-refuse_number
+returns-in_err-refuse_number c =
+    stops _ _ c.refuse_number.ensures c.in_err-refuse_number.was c.from_residual.ensures.1
+
 pub returns : goal.returns
-unfolding bad_number
-returns c = c.with_number.ensures _ (c.with_number-verdict.ensures _ no_test)
+returns c =
+    passes _ _ c.refuse_number.ensures c.in_ok-refuse_number.was
+    (c.refuse_number-2.ensures)

@@ -2,10 +2,10 @@
 use Rattle.opening.specs.Rows.{given_below}
 use Rattle.opening.proofs.checks.is_below.Goals as goal
 
-pub returns-in-Absent : goal.returns-in-Absent
+pub returns-in-None : goal.returns-in-None
 unfolding given_below
-returns-in-Absent c = cc
+returns-in-None c = cc
 
-pub returns-in-Given : goal.returns-in-Given
+pub returns-in-Some : goal.returns-in-Some
 unfolding given_below
-returns-in-Given c = cc
+returns-in-Some c = cc

@@ -2,10 +2,10 @@
 use Rattle.opening.specs.Opening.{nind1_of}
 use Rattle.opening.proofs.first.nind1.Goals as goal
 
-pub returns-in-Absent : goal.returns-in-Absent
+pub returns-in-None : goal.returns-in-None
 unfolding nind1_of
-returns-in-Absent c = rw c.in-Absent.is c.left_of.ensures
+returns-in-None c = rw c.in-None.is c.left_of.ensures
 
-pub returns-in-Given : goal.returns-in-Given
+pub returns-in-Some : goal.returns-in-Some
 unfolding nind1_of
-returns-in-Given c = rw c.in-Given.is
+returns-in-Some c = rw c.in-Some.is

@@ -4,4 +4,4 @@ use Rattle.opening.proofs.first.shape.Goals as goal
 
 pub returns : goal.returns
 unfolding shape_of
-returns c = rw (c.nind1.ensures, c.or_none-three.ensures, c.or_none-two.ensures)
+returns c = rw (c.nind1.ensures, c.unwrap_or-three.ensures, c.unwrap_or-two.ensures)

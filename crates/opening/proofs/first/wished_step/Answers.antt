@@ -2,10 +2,10 @@
 use Rattle.opening.specs.Opening.{wished_step}
 use Rattle.opening.proofs.first.wished_step.Goals as goal
 
-pub returns-in-Given : goal.returns-in-Given
+pub returns-in-Some : goal.returns-in-Some
 unfolding wished_step
-returns-in-Given c = rw (c.in-Given.is, c.abs.ensures)
+returns-in-Some c = rw (c.in-Some.is, c.abs.ensures)
 
-pub returns-in-Absent : goal.returns-in-Absent
+pub returns-in-None : goal.returns-in-None
 unfolding wished_step
-returns-in-Absent c = rw c.in-Absent.is
+returns-in-None c = rw c.in-None.is

@@ -2,11 +2,11 @@
 use Rattle.opening.specs.Tolerances.{newton_tol_of}
 use Rattle.opening.proofs.tolerances.newton_tolerance.Goals as goal
 
-pub returns-in-Given : goal.returns-in-Given
+pub returns-in-Some : goal.returns-in-Some
 unfolding newton_tol_of
-returns-in-Given c = rw c.in-Given.is
+returns-in-Some c = rw c.in-Some.is
 
-pub returns-in-Absent : goal.returns-in-Absent
+pub returns-in-None : goal.returns-in-None
 unfolding newton_tol_of
-returns-in-Absent c = let root = c.sqrt in
-    rw (c.in-Absent.is, c.max.ensures, c.min.ensures, root.ensures.0)
+returns-in-None c = let root = c.sqrt in
+    rw (c.in-None.is, c.max.ensures, c.min.ensures, root.ensures.0)

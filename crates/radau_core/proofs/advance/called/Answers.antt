@@ -1,11 +1,12 @@
 -- `called` meets its contract, by the four steps past the matrices.
-use mathlib.Core.Path.{ap}
+use mathlib.Core.Path.{ap, ◌∙◌}
 use Rattle.state.specs.declared.run.Run.{Run}
-use Rattle.state.specs.Memory.{memory, amounts, newton, differences}
+use Rattle.state.specs.Lent.{memory_of}
+use Rattle.solve_blocks.specs.Advance.{called}
 use Rattle.solve_blocks.proofs.AdvanceLaws.{called-asked, called-main, called-matrices, called-attempt}
 use Rattle.solve_blocks.proofs.AdvanceLaws.{main-fits, matrices-fits, attempt-fits, jacobian-asks, attempt-asks}
 use Rattle.radau_core.specs.declared.step.Step.{Step}
-use Rattle.radau_core.specs.Places.{run_at, step_at}
+use Rattle.radau_core.specs.Places.{run_at, call_at, step_at}
 use Rattle.radau_core.proofs.advance.called.Goals as goal
 
 pub ask_jacobian-requires : goal.ask_jacobian-requires
@@ -40,101 +41,33 @@ attempt-requires c =
       y_len = others.1;
     }
 
-pub returns-in-Asked : goal.returns-in-Asked
-returns-in-Asked c =
-    let run-at : Run = run_at c.args.words.now c.args.doubles.now in
-    record {
-      sized_2 = c.requires.sized;
-      f_origin_after = λ f0 g f. let a = c.args in
-          called-asked (step_at a.step run-at) (memory
-          (amounts a.y.now f0 a.scal.now a.cont.now)
-          (newton a.z1.now a.z2.now a.z3.now a.f1.now a.f2.now a.f3.now)
-          g f
-          (differences a.y_perturbed.now a.f_perturbed.now a.f_origin.now))
-          _ (ap (λ (s : Step). step_at s run-at) c.in-Asked.is);
-    }
+pub returns-in-Asked-clause-f_origin_after : goal.returns-in-Asked-clause-f_origin_after
+returns-in-Asked-clause-f_origin_after c = λ f0 rtol atol mass.
+    let a = c.args in
+    let run-at : Run = run_at a.words.now a.doubles.now in
+    called-asked (step_at a.step run-at) (memory_of a.y.now f0 rtol atol mass a.work.now)
+    _ (ap (λ (s : Step). step_at s run-at) c.in-Asked.is)
 
-pub shape_of-y_perturbed-in-Main : goal.shape_of-y_perturbed-in-Main
-shape_of-y_perturbed-in-Main c = c.ask_jacobian.auto.y_perturbed
+pub returns-in-Main-clause-f_origin_after : goal.returns-in-Main-clause-f_origin_after
+returns-in-Main-clause-f_origin_after c = λ f0 rtol atol mass.
+    let a = c.args in
+    let run-at : Run = run_at a.words.now a.doubles.now in
+    called-main (step_at a.step run-at) (memory_of a.y.now f0 rtol atol mass a.work.now)
+    _ _ _ (ap (λ (s : Step). step_at s run-at) c.in-Main.is) c.ask_jacobian.ensures.f_origin_after
 
-pub shape_of-f_perturbed-in-Main : goal.shape_of-f_perturbed-in-Main
-shape_of-f_perturbed-in-Main c = c.ask_jacobian.auto.f_perturbed
+pub returns-in-Matrices-clause-f_origin_after : goal.returns-in-Matrices-clause-f_origin_after
+returns-in-Matrices-clause-f_origin_after c = λ f0 rtol atol mass.
+    let a = c.args in
+    let run-at : Run = run_at a.words.now a.doubles.now in
+    called-matrices (step_at a.step run-at) (memory_of a.y.now f0 rtol atol mass a.work.now)
+    _ _ _ (ap (λ (s : Step). step_at s run-at) c.in-Matrices.is)
+    c.ask_jacobian-in-Matrices.ensures.f_origin_after
 
-pub shape_of-f_origin-in-Main : goal.shape_of-f_origin-in-Main
-shape_of-f_origin-in-Main c = c.ask_jacobian.auto.f_origin
-
-pub returns-in-Main : goal.returns-in-Main
-returns-in-Main c =
-    let run-at : Run = run_at c.args.words.now c.args.doubles.now in
-    record {
-      sized_2 = c.ask_jacobian.ensures.sized_2;
-      f_origin_after = λ f0 g f. let a = c.args in
-          called-main (step_at a.step run-at) (memory
-          (amounts a.y.now f0 a.scal.now a.cont.now)
-          (newton a.z1.now a.z2.now a.z3.now a.f1.now a.f2.now a.f3.now)
-          g f
-          (differences a.y_perturbed.now a.f_perturbed.now a.f_origin.now))
-          _ _ _ (ap (λ (s : Step). step_at s run-at) c.in-Main.is) c.ask_jacobian.ensures.f_origin_after;
-    }
-
-pub shape_of-y_perturbed-in-Matrices : goal.shape_of-y_perturbed-in-Matrices
-shape_of-y_perturbed-in-Matrices c = c.ask_jacobian-in-Matrices.auto.y_perturbed
-
-pub shape_of-f_perturbed-in-Matrices : goal.shape_of-f_perturbed-in-Matrices
-shape_of-f_perturbed-in-Matrices c = c.ask_jacobian-in-Matrices.auto.f_perturbed
-
-pub shape_of-f_origin-in-Matrices : goal.shape_of-f_origin-in-Matrices
-shape_of-f_origin-in-Matrices c = c.ask_jacobian-in-Matrices.auto.f_origin
-
-pub returns-in-Matrices : goal.returns-in-Matrices
-returns-in-Matrices c =
-    let run-at : Run = run_at c.args.words.now c.args.doubles.now in
-    record {
-      sized_2 = c.ask_jacobian-in-Matrices.ensures.sized_2;
-      f_origin_after = λ f0 g f. let a = c.args in
-          called-matrices (step_at a.step run-at) (memory
-          (amounts a.y.now f0 a.scal.now a.cont.now)
-          (newton a.z1.now a.z2.now a.z3.now a.f1.now a.f2.now a.f3.now)
-          g f
-          (differences a.y_perturbed.now a.f_perturbed.now a.f_origin.now))
-          _ _ _ (ap (λ (s : Step). step_at s run-at) c.in-Matrices.is)
-          c.ask_jacobian-in-Matrices.ensures.f_origin_after;
-    }
-
-pub shape_of-scal : goal.shape_of-scal
-shape_of-scal c = c.attempt.auto.scal
-
-pub shape_of-cont : goal.shape_of-cont
-shape_of-cont c = c.attempt.auto.cont
-
-pub shape_of-z1 : goal.shape_of-z1
-shape_of-z1 c = c.attempt.auto.z1
-
-pub shape_of-z2 : goal.shape_of-z2
-shape_of-z2 c = c.attempt.auto.z2
-
-pub shape_of-z3 : goal.shape_of-z3
-shape_of-z3 c = c.attempt.auto.z3
-
-pub shape_of-f1 : goal.shape_of-f1
-shape_of-f1 c = c.attempt.auto.f1
-
-pub shape_of-f2 : goal.shape_of-f2
-shape_of-f2 c = c.attempt.auto.f2
-
-pub shape_of-f3 : goal.shape_of-f3
-shape_of-f3 c = c.attempt.auto.f3
-
-pub returns-in-Attempt : goal.returns-in-Attempt
-returns-in-Attempt c =
-    let run-at : Run = run_at c.args.words.now c.args.doubles.now in
-    record {
-      sized_2 = c.attempt.ensures.sized_2;
-      f_origin_after = λ f0 g f. let a = c.args in
-          called-attempt (step_at a.step run-at) (memory
-          (amounts a.y.now f0 a.scal.now a.cont.now)
-          (newton a.z1.now a.z2.now a.z3.now a.f1.now a.f2.now a.f3.now)
-          g f
-          (differences a.y_perturbed.now a.f_perturbed.now a.f_origin.now))
-          _ _ _ _ _ (ap (λ (s : Step). step_at s run-at) c.in-Attempt.is) c.attempt.ensures.f3_after;
-    }
+pub returns-in-Attempt-clause-f_origin_after : goal.returns-in-Attempt-clause-f_origin_after
+returns-in-Attempt-clause-f_origin_after c = λ f0 rtol atol mass.
+    let a = c.args in
+    let run-at : Run = run_at a.words.now a.doubles.now in
+    ap (called (call_at c.attempt.result (run_at c.attempt.new.words c.attempt.new.doubles)))
+    (c.attempt.ensures.kept f0 rtol atol mass)
+    ∙ called-attempt (step_at a.step run-at) (memory_of a.y.now f0 rtol atol mass a.work.now)
+    _ _ _ _ _ (ap (λ (s : Step). step_at s run-at) c.in-Attempt.is) c.attempt.ensures.f3_after

@@ -1,11 +1,12 @@
 -- `conclude` meets its contract, by the three ways out of a round.
-use mathlib.Core.Path.{ap}
+use mathlib.Core.Path.{ap, ◌∙◌}
 use Rattle.state.specs.declared.run.Run.{Run}
-use Rattle.state.specs.Memory.{memory, amounts, newton, given, factors}
+use Rattle.state.specs.Lent.{memory_of}
+use Rattle.solve_blocks.specs.Advance.{stepped}
 use Rattle.solve_blocks.proofs.AdvanceLaws.{conclude-again, conclude-estimates, conclude-over}
 use Rattle.solve_blocks.proofs.AdvanceLaws.{newton-fits, estimate-fits, again-asks, estimate-asks}
 use Rattle.radau_core.specs.declared.step.Round.{Round}
-use Rattle.radau_core.specs.Places.{run_at, round_at}
+use Rattle.radau_core.specs.Places.{run_at, step_at, round_at}
 use Rattle.radau_core.proofs.advance.conclude.Goals as goal
 
 pub again-requires : goal.again-requires
@@ -32,63 +33,25 @@ estimate-requires c =
       z1_len = others.1;
     }
 
-pub shape_of-cont-in-Newton : goal.shape_of-cont-in-Newton
-shape_of-cont-in-Newton c = c.again.auto.cont
+pub returns-in-Newton-clause-d_after : goal.returns-in-Newton-clause-d_after
+returns-in-Newton-clause-d_after c = λ rtol atol.
+    let a = c.args in
+    let run-at : Run = run_at a.words.now a.doubles.now in
+    conclude-again (round_at a.verdict run-at) (memory_of a.y.now a.f0.now rtol atol a.mass.now a.work.now)
+    _ _ _ (ap (λ (v : Round). round_at v run-at) c.in-Newton.is) c.again.ensures.cont_after
 
-pub returns-in-Newton : goal.returns-in-Newton
-returns-in-Newton c =
-    let run-at : Run = run_at c.args.words.now c.args.doubles.now in
-    record {
-      sized_2 = c.again.ensures.sized_2;
-      d_after = λ f3 rtol atol jac e2r e2i ip2 d. let a = c.args in
-          conclude-again (round_at a.verdict run-at) (memory
-          (amounts a.y.now a.f0.now a.scal.now a.cont.now)
-          (newton a.z1.now a.z2.now a.z3.now a.f1.now a.f2.now f3)
-          (given rtol atol a.mass.now jac)
-          (factors a.e1.now e2r e2i a.ip1.now ip2)
-          d)
-          _ _ _ (ap (λ (v : Round). round_at v run-at) c.in-Newton.is) c.again.ensures.cont_after;
-    }
+pub returns-in-Estimate-clause-d_after : goal.returns-in-Estimate-clause-d_after
+returns-in-Estimate-clause-d_after c = λ rtol atol.
+    let a = c.args in
+    let run-at : Run = run_at a.words.now a.doubles.now in
+    ap (stepped (step_at c.estimate.result (run_at c.estimate.new.words c.estimate.new.doubles)))
+    (c.estimate.ensures.kept rtol atol)
+    ∙ conclude-estimates (round_at a.verdict run-at) (memory_of a.y.now a.f0.now rtol atol a.mass.now a.work.now)
+    _ _ _ _ _ _ (ap (λ (v : Round). round_at v run-at) c.in-Estimate.is) c.estimate.ensures.f2_after
 
-pub shape_of-y-in-Estimate : goal.shape_of-y-in-Estimate
-shape_of-y-in-Estimate c = c.estimate.auto.y
-
-pub shape_of-cont-in-Estimate : goal.shape_of-cont-in-Estimate
-shape_of-cont-in-Estimate c = c.estimate.auto.cont
-
-pub shape_of-f1 : goal.shape_of-f1
-shape_of-f1 c = c.estimate.auto.f1
-
-pub shape_of-f2 : goal.shape_of-f2
-shape_of-f2 c = c.estimate.auto.f2
-
-pub returns-in-Estimate : goal.returns-in-Estimate
-returns-in-Estimate c =
-    let run-at : Run = run_at c.args.words.now c.args.doubles.now in
-    record {
-      sized_2 = c.estimate.ensures.sized_2;
-      d_after = λ f3 rtol atol jac e2r e2i ip2 d. let a = c.args in
-          conclude-estimates (round_at a.verdict run-at) (memory
-          (amounts a.y.now a.f0.now a.scal.now a.cont.now)
-          (newton a.z1.now a.z2.now a.z3.now a.f1.now a.f2.now f3)
-          (given rtol atol a.mass.now jac)
-          (factors a.e1.now e2r e2i a.ip1.now ip2)
-          d)
-          _ _ _ _ _ _ (ap (λ (v : Round). round_at v run-at) c.in-Estimate.is)
-          (c.estimate.ensures.f2_after f3);
-    }
-
-pub returns-in-Over : goal.returns-in-Over
-returns-in-Over c =
-    let run-at : Run = run_at c.args.words.now c.args.doubles.now in
-    record {
-      sized_2 = c.requires.sized;
-      d_after = λ f3 rtol atol jac e2r e2i ip2 d. let a = c.args in
-          conclude-over (round_at a.verdict run-at) (memory
-          (amounts a.y.now a.f0.now a.scal.now a.cont.now)
-          (newton a.z1.now a.z2.now a.z3.now a.f1.now a.f2.now f3)
-          (given rtol atol a.mass.now jac)
-          (factors a.e1.now e2r e2i a.ip1.now ip2)
-          d)
-          _ (ap (λ (v : Round). round_at v run-at) c.in-Over.is);
-    }
+pub returns-in-Over-clause-d_after : goal.returns-in-Over-clause-d_after
+returns-in-Over-clause-d_after c = λ rtol atol.
+    let a = c.args in
+    let run-at : Run = run_at a.words.now a.doubles.now in
+    conclude-over (round_at a.verdict run-at) (memory_of a.y.now a.f0.now rtol atol a.mass.now a.work.now)
+    _ (ap (λ (v : Round). round_at v run-at) c.in-Over.is)

@@ -1,12 +1,13 @@
 -- `replied` meets its contract, stage by stage.
 use Prim.Native.Nat.{ℕ, ◌*◌}
-use mathlib.Core.Path.{◌≡◌, sym, ◌∙◌}
+use mathlib.Core.Path.{◌≡◌, ap, sym, ◌∙◌}
 use native.Mathlib.Omega.{arith}
 use lib.ListN.{length}
 use Rattle.state.specs.declared.run.Run.{Run}
 use Rattle.state.specs.declared.run.Stage.TheVariants.{FirstDerivativeAgain}
-use Rattle.state.specs.Memory.{Memory, memory, amounts, Newton, newton, given}
-use Rattle.state.specs.Memory.{Factors, factors, Differences, differences}
+use Rattle.state.specs.Memory.{Memory}
+use Rattle.state.specs.Lent.{memory_of, newton_in}
+use Rattle.solve_blocks.specs.Advance.{stepped, conclude_of}
 use Rattle.solve_blocks.proofs.AdvanceLaws.{first-derivative, first-report, first-again, jacobian-made}
 use Rattle.solve_blocks.proofs.AdvanceLaws.{column-made, newton-1, newton-2, newton-3, refinement}
 use Rattle.solve_blocks.proofs.AdvanceLaws.{accepted-there, report-answered, derivative-again, ended-already}
@@ -35,7 +36,7 @@ started-requires c = let a = c.args in
           c.requires.memory_long.y,
       same (length a.rtol.now) y n c.requires.memory_long.rtol c.requires.memory_long.y,
       same (length a.atol.now) y n c.requires.memory_long.atol c.requires.memory_long.y,
-      same (length a.scal.now) y n c.requires.memory_long.scal c.requires.memory_long.y,
+      same (length a.work.now.scal.now) y n c.requires.memory_long.scal c.requires.memory_long.y,
     )
 
 pub started-requires-in-2 : goal.started-requires-in-2
@@ -45,7 +46,7 @@ started-requires-in-2 c = let a = c.args in
       again-heard c.requires.fit.0 y c.requires.memory_long.y,
       same (length a.rtol.now) y n c.requires.memory_long.rtol c.requires.memory_long.y,
       same (length a.atol.now) y n c.requires.memory_long.atol c.requires.memory_long.y,
-      same (length a.scal.now) y n c.requires.memory_long.scal c.requires.memory_long.y,
+      same (length a.work.now.scal.now) y n c.requires.memory_long.scal c.requires.memory_long.y,
     )
 
 pub column-requires : goal.column-requires
@@ -92,32 +93,29 @@ round-verdict-requires c = record {
 
 pub conclude-requires : goal.conclude-requires
 conclude-requires c =
-    let newton-at : Newton = let a = c.args in newton a.z1.now a.z2.now a.z3.now a.f1.now a.f2.now a.f3.now in
-    let factors-at : Factors = let a = c.args in factors a.e1.now a.e2r.now a.e2i.now a.ip1.now a.ip2.now in
+    let memory-at : Memory = let a = c.args in
+    memory_of a.y.now a.f0.now a.rtol.now a.atol.now a.mass.now a.work.now in
     let a = c.args in
     let n = a.words.now # 16 in
     let y = length a.y.now in
+    let w = c.round-verdict.new.work in
+    let l = c.round-verdict.ensures.lengths in
     record {
       sized = c.round-verdict.ensures.sized_2;
       round_fit = (
-        round-asks c.requires.fit.0 a.mass.now a.scal.now factors-at newton-at y
+        round-asks c.requires.fit.0 a.mass.now a.work.now.scal.now memory-at.factors memory-at.newton y
             c.requires.fit.1.rounds c.round-verdict.ensures.f3_after c.requires.memory_long.y,
         square-at {a = a.mass.now} y c.requires.memory_long.y c.requires.memory_long.mass,
         same (length a.f0.now) y n c.requires.memory_long.f0 c.requires.memory_long.y,
-        same (length a.scal.now) y n c.requires.memory_long.scal c.requires.memory_long.y,
-        four (length a.cont.now) y n c.requires.memory_long.cont c.requires.memory_long.y,
+        same (length w.scal.now) y n (l.0 ∙ c.requires.memory_long.scal) c.requires.memory_long.y,
+        four (length w.cont.now) y n (l.1 ∙ c.requires.memory_long.cont) c.requires.memory_long.y,
       );
       z1_len = (
-        same (length c.round-verdict.new.z1) y n
-            (c.round-verdict.auto.z1 ∙ c.requires.memory_long.newton.z1) c.requires.memory_long.y,
-        same (length c.round-verdict.new.z2) y n
-            (c.round-verdict.auto.z2 ∙ c.requires.memory_long.newton.z2) c.requires.memory_long.y,
-        same (length c.round-verdict.new.z3) y n
-            (c.round-verdict.auto.z3 ∙ c.requires.memory_long.newton.z3) c.requires.memory_long.y,
-        same (length c.round-verdict.new.f1) y n
-            (c.round-verdict.auto.f1 ∙ c.requires.memory_long.newton.f1) c.requires.memory_long.y,
-        same (length c.round-verdict.new.f2) y n
-            (c.round-verdict.auto.f2 ∙ c.requires.memory_long.newton.f2) c.requires.memory_long.y,
+        same (length w.z1.now) y n (l.2 ∙ c.requires.memory_long.newton.z1) c.requires.memory_long.y,
+        same (length w.z2.now) y n (l.3 ∙ c.requires.memory_long.newton.z2) c.requires.memory_long.y,
+        same (length w.z3.now) y n (l.4 ∙ c.requires.memory_long.newton.z3) c.requires.memory_long.y,
+        same (length w.f1.now) y n (l.5 ∙ c.requires.memory_long.newton.f1) c.requires.memory_long.y,
+        same (length w.f2.now) y n (l.6 ∙ c.requires.memory_long.newton.f2) c.requires.memory_long.y,
       );
     }
 
@@ -168,353 +166,145 @@ ended-requires c = c.requires.sized
 pub ask_first_report-requires : goal.ask_first_report-requires
 ask_first_report-requires c = c.requires.sized
 
-pub shape_of-scal-in-1 : goal.shape_of-scal-in-1
-shape_of-scal-in-1 c = c.started.auto.scal
-
-pub shape_of-scal-in-2 : goal.shape_of-scal-in-2
-shape_of-scal-in-2 c = c.started-in-2.auto.scal
-
-pub shape_of-jac : goal.shape_of-jac
-shape_of-jac c = c.column.auto.jac
-
-pub shape_of-y_perturbed : goal.shape_of-y_perturbed
-shape_of-y_perturbed c = c.column.auto.y_perturbed
-
-pub shape_of-cont-in-5 : goal.shape_of-cont-in-5
-shape_of-cont-in-5 c = c.ask_stage.auto.cont
-
-pub shape_of-cont-in-6 : goal.shape_of-cont-in-6
-shape_of-cont-in-6 c = c.ask_stage-in-6.auto.cont
-
-pub shape_of-y-in-7 : goal.shape_of-y-in-7
-shape_of-y-in-7 c = c.conclude.auto.y
-
-pub shape_of-cont-in-7 : goal.shape_of-cont-in-7
-shape_of-cont-in-7 c = c.conclude.auto.cont
-
-pub shape_of-z1-in-7 : goal.shape_of-z1-in-7
-shape_of-z1-in-7 c = c.round-verdict.auto.z1
-
-pub shape_of-z2-in-7 : goal.shape_of-z2-in-7
-shape_of-z2-in-7 c = c.round-verdict.auto.z2
-
-pub shape_of-z3-in-7 : goal.shape_of-z3-in-7
-shape_of-z3-in-7 c = c.round-verdict.auto.z3
-
-pub shape_of-f1-in-7 : goal.shape_of-f1-in-7
-shape_of-f1-in-7 c = c.conclude.auto.f1 ∙ c.round-verdict.auto.f1
-
-pub shape_of-f2-in-7 : goal.shape_of-f2-in-7
-shape_of-f2-in-7 c = c.conclude.auto.f2 ∙ c.round-verdict.auto.f2
-
-pub shape_of-f3 : goal.shape_of-f3
-shape_of-f3 c = c.round-verdict.auto.f3
-
-pub shape_of-y-in-8 : goal.shape_of-y-in-8
-shape_of-y-in-8 c = c.refined.auto.y
-
-pub shape_of-cont-in-8 : goal.shape_of-cont-in-8
-shape_of-cont-in-8 c = c.refined.auto.cont
-
-pub shape_of-scal-in-9 : goal.shape_of-scal-in-9
-shape_of-scal-in-9 c = c.scaled.auto.scal
-
-pub returns-in-1 : goal.returns-in-1
-returns-in-1 c =
+pub returns-in-1-clause-f_origin_after : goal.returns-in-1-clause-f_origin_after
+returns-in-1-clause-f_origin_after c =
     let run-at : Run = run_at c.args.words.now c.args.doubles.now in
-    let newton-at : Newton = let a = c.args in newton a.z1.now a.z2.now a.z3.now a.f1.now a.f2.now a.f3.now in
-    let factors-at : Factors = let a = c.args in factors a.e1.now a.e2r.now a.e2i.now a.ip1.now a.ip2.now in
-    let differences-at : Differences = let a = c.args in differences a.y_perturbed.now a.f_perturbed.now a.f_origin.now
-    in
     let memory-at : Memory = let a = c.args in
-    memory
-    (amounts a.y.now a.f0.now a.scal.now a.cont.now)
-    newton-at
-    (given a.rtol.now a.atol.now a.mass.now a.jac.now)
-    factors-at
-    differences-at in
+    memory_of a.y.now a.f0.now a.rtol.now a.atol.now a.mass.now a.work.now in
     let part_at : ℕ = c.args.words.now # 1 in
-    let a = c.args in record {
-      sized_2 = c.reported-heard.ensures.sized_2;
-      f_origin_after = first-report run-at c.args.reply memory-at (heard_at c.reported-heard.result
-          (run_at c.reported-heard.new.words c.reported-heard.new.doubles)) _
-          (place.at-first-report part_at c.in-1.is) c.reported-heard.ensures.doubles_after
-          (c.started.ensures a.f0.now a.cont.now a.mass.now a.jac.now
-          newton-at factors-at differences-at);
-    }
+    let a = c.args in first-report run-at c.args.reply memory-at (heard_at c.reported-heard.result
+    (run_at c.reported-heard.new.words c.reported-heard.new.doubles)) _
+    (place.at-first-report part_at c.in-1.is) c.reported-heard.ensures.doubles_after
+    (c.started.ensures a.f0.now a.work.now.cont.now a.mass.now a.work.now.jac.now
+    memory-at.newton memory-at.factors memory-at.differences)
 
-pub returns-in-2 : goal.returns-in-2
-returns-in-2 c =
+pub returns-in-2-clause-f_origin_after : goal.returns-in-2-clause-f_origin_after
+returns-in-2-clause-f_origin_after c =
     let run-at : Run = run_at c.args.words.now c.args.doubles.now in
-    let newton-at : Newton = let a = c.args in newton a.z1.now a.z2.now a.z3.now a.f1.now a.f2.now a.f3.now in
-    let factors-at : Factors = let a = c.args in factors a.e1.now a.e2r.now a.e2i.now a.ip1.now a.ip2.now in
-    let differences-at : Differences = let a = c.args in differences a.y_perturbed.now a.f_perturbed.now a.f_origin.now
-    in
     let memory-at : Memory = let a = c.args in
-    memory
-    (amounts a.y.now a.f0.now a.scal.now a.cont.now)
-    newton-at
-    (given a.rtol.now a.atol.now a.mass.now a.jac.now)
-    factors-at
-    differences-at in
+    memory_of a.y.now a.f0.now a.rtol.now a.atol.now a.mass.now a.work.now in
     let part_at : ℕ = c.args.words.now # 1 in
-    let a = c.args in record {
-      sized_2 = c.requires.sized;
-      f_origin_after = first-again run-at c.args.reply memory-at _ (place.at-first-derivative-again part_at c.in-2.is)
-          (c.started-in-2.ensures a.f0.now a.cont.now a.mass.now a.jac.now
-          newton-at factors-at differences-at);
-    }
+    let a = c.args in first-again run-at c.args.reply memory-at _ (place.at-first-derivative-again part_at c.in-2.is)
+    (c.started-in-2.ensures a.f0.now a.work.now.cont.now a.mass.now a.work.now.jac.now
+    memory-at.newton memory-at.factors memory-at.differences)
 
-pub returns-in-3 : goal.returns-in-3
-returns-in-3 c =
+pub returns-in-3-clause-f_origin_after : goal.returns-in-3-clause-f_origin_after
+returns-in-3-clause-f_origin_after c =
     let run-at : Run = run_at c.args.words.now c.args.doubles.now in
-    let newton-at : Newton = let a = c.args in newton a.z1.now a.z2.now a.z3.now a.f1.now a.f2.now a.f3.now in
-    let factors-at : Factors = let a = c.args in factors a.e1.now a.e2r.now a.e2i.now a.ip1.now a.ip2.now in
-    let differences-at : Differences = let a = c.args in differences a.y_perturbed.now a.f_perturbed.now a.f_origin.now
-    in
     let memory-at : Memory = let a = c.args in
-    memory
-    (amounts a.y.now a.f0.now a.scal.now a.cont.now)
-    newton-at
-    (given a.rtol.now a.atol.now a.mass.now a.jac.now)
-    factors-at
-    differences-at in
+    memory_of a.y.now a.f0.now a.rtol.now a.atol.now a.mass.now a.work.now in
     let part_at : ℕ = c.args.words.now # 1 in
-    record {
-      sized_2 = c.requires.sized;
-      f_origin_after = jacobian-made run-at c.args.reply memory-at (place.at-jacobian part_at c.in-3.is);
-    }
+    jacobian-made run-at c.args.reply memory-at (place.at-jacobian part_at c.in-3.is)
 
-pub returns-in-4 : goal.returns-in-4
-returns-in-4 c =
+pub returns-in-4-clause-f_origin_after : goal.returns-in-4-clause-f_origin_after
+returns-in-4-clause-f_origin_after c =
     let run-at : Run = run_at c.args.words.now c.args.doubles.now in
-    let newton-at : Newton = let a = c.args in newton a.z1.now a.z2.now a.z3.now a.f1.now a.f2.now a.f3.now in
-    let factors-at : Factors = let a = c.args in factors a.e1.now a.e2r.now a.e2i.now a.ip1.now a.ip2.now in
-    let differences-at : Differences = let a = c.args in differences a.y_perturbed.now a.f_perturbed.now a.f_origin.now
-    in
     let memory-at : Memory = let a = c.args in
-    memory
-    (amounts a.y.now a.f0.now a.scal.now a.cont.now)
-    newton-at
-    (given a.rtol.now a.atol.now a.mass.now a.jac.now)
-    factors-at
-    differences-at in
+    memory_of a.y.now a.f0.now a.rtol.now a.atol.now a.mass.now a.work.now in
     let part_at : ℕ = c.args.words.now # 1 in
-    record {
-      sized_2 = c.column.ensures.sized_2;
-      f_origin_after = column-made run-at c.args.reply memory-at _ (step_at c.column.result (run_at
-          c.column.new.words c.column.new.doubles))
-          c.column.new.y_perturbed c.column.new.jac (place.at-column
-          part_at c.in-4.is) c.column.ensures.jac_after;
-    }
+    column-made run-at c.args.reply memory-at _ (step_at c.column.result (run_at
+    c.column.new.words c.column.new.doubles))
+    c.column.new.y_perturbed c.column.new.jac (place.at-column
+    part_at c.in-4.is) c.column.ensures.jac_after
 
-pub returns-in-5 : goal.returns-in-5
-returns-in-5 c =
+pub returns-in-5-clause-f_origin_after : goal.returns-in-5-clause-f_origin_after
+returns-in-5-clause-f_origin_after c =
     let run-at : Run = run_at c.args.words.now c.args.doubles.now in
-    let newton-at : Newton = let a = c.args in newton a.z1.now a.z2.now a.z3.now a.f1.now a.f2.now a.f3.now in
-    let factors-at : Factors = let a = c.args in factors a.e1.now a.e2r.now a.e2i.now a.ip1.now a.ip2.now in
-    let differences-at : Differences = let a = c.args in differences a.y_perturbed.now a.f_perturbed.now a.f_origin.now
-    in
     let memory-at : Memory = let a = c.args in
-    memory
-    (amounts a.y.now a.f0.now a.scal.now a.cont.now)
-    newton-at
-    (given a.rtol.now a.atol.now a.mass.now a.jac.now)
-    factors-at
-    differences-at in
+    memory_of a.y.now a.f0.now a.rtol.now a.atol.now a.mass.now a.work.now in
     let part_at : ℕ = c.args.words.now # 1 in
-    record {
-      sized_2 = c.ask_stage.ensures.sized_2;
-      f_origin_after = newton-1 run-at c.args.reply memory-at (call_at c.ask_stage.result
-          (run_at c.ask_stage.new.words c.ask_stage.new.doubles))
-          c.ask_stage.new.cont (place.at-newton-1 part_at c.in-5.is) c.ask_stage.ensures.cont_after;
-    }
+    newton-1 run-at c.args.reply memory-at (call_at c.ask_stage.result
+    (run_at c.ask_stage.new.words c.ask_stage.new.doubles))
+    c.ask_stage.new.cont (place.at-newton-1 part_at c.in-5.is) c.ask_stage.ensures.cont_after
 
-pub returns-in-6 : goal.returns-in-6
-returns-in-6 c =
+pub returns-in-6-clause-f_origin_after : goal.returns-in-6-clause-f_origin_after
+returns-in-6-clause-f_origin_after c =
     let run-at : Run = run_at c.args.words.now c.args.doubles.now in
-    let newton-at : Newton = let a = c.args in newton a.z1.now a.z2.now a.z3.now a.f1.now a.f2.now a.f3.now in
-    let factors-at : Factors = let a = c.args in factors a.e1.now a.e2r.now a.e2i.now a.ip1.now a.ip2.now in
-    let differences-at : Differences = let a = c.args in differences a.y_perturbed.now a.f_perturbed.now a.f_origin.now
-    in
     let memory-at : Memory = let a = c.args in
-    memory
-    (amounts a.y.now a.f0.now a.scal.now a.cont.now)
-    newton-at
-    (given a.rtol.now a.atol.now a.mass.now a.jac.now)
-    factors-at
-    differences-at in
+    memory_of a.y.now a.f0.now a.rtol.now a.atol.now a.mass.now a.work.now in
     let part_at : ℕ = c.args.words.now # 1 in
-    record {
-      sized_2 = c.ask_stage-in-6.ensures.sized_2;
-      f_origin_after = newton-2 run-at c.args.reply memory-at (call_at c.ask_stage-in-6.result
-          (run_at c.ask_stage-in-6.new.words c.ask_stage-in-6.new.doubles))
-          c.ask_stage-in-6.new.cont (place.at-newton-2 part_at c.in-6.is) c.ask_stage-in-6.ensures.cont_after;
-    }
+    newton-2 run-at c.args.reply memory-at (call_at c.ask_stage-in-6.result
+    (run_at c.ask_stage-in-6.new.words c.ask_stage-in-6.new.doubles))
+    c.ask_stage-in-6.new.cont (place.at-newton-2 part_at c.in-6.is) c.ask_stage-in-6.ensures.cont_after
 
-pub returns-in-7 : goal.returns-in-7
-returns-in-7 c =
+pub returns-in-7-clause-f_origin_after : goal.returns-in-7-clause-f_origin_after
+returns-in-7-clause-f_origin_after c =
     let run-at : Run = run_at c.args.words.now c.args.doubles.now in
-    let newton-at : Newton = let a = c.args in newton a.z1.now a.z2.now a.z3.now a.f1.now a.f2.now a.f3.now in
-    let factors-at : Factors = let a = c.args in factors a.e1.now a.e2r.now a.e2i.now a.ip1.now a.ip2.now in
-    let differences-at : Differences = let a = c.args in differences a.y_perturbed.now a.f_perturbed.now a.f_origin.now
-    in
     let memory-at : Memory = let a = c.args in
-    memory
-    (amounts a.y.now a.f0.now a.scal.now a.cont.now)
-    newton-at
-    (given a.rtol.now a.atol.now a.mass.now a.jac.now)
-    factors-at
-    differences-at in
+    memory_of a.y.now a.f0.now a.rtol.now a.atol.now a.mass.now a.work.now in
     let part_at : ℕ = c.args.words.now # 1 in
     let a = c.args in
-    record {
-      sized_2 = c.conclude.ensures.sized_2;
-      f_origin_after = newton-3 run-at c.args.reply memory-at
-          (round_at c.round-verdict.result (run_at c.round-verdict.new.words
-          c.round-verdict.new.doubles))
-          (newton c.round-verdict.new.z1 c.round-verdict.new.z2 c.round-verdict.new.z3 c.round-verdict.new.f1
-          c.round-verdict.new.f2 c.round-verdict.new.f3)
-          _ (place.at-newton-3 part_at c.in-7.is) c.round-verdict.ensures.f3_after
-          (c.conclude.ensures.d_after c.round-verdict.new.f3 a.rtol.now a.atol.now a.jac.now a.e2r.now a.e2i.now
-          a.ip2.now differences-at);
-    }
+    let v = round_at c.round-verdict.result (run_at c.round-verdict.new.words c.round-verdict.new.doubles) in
+    newton-3 run-at a.reply memory-at v (newton_in c.round-verdict.new.work)
+    _ (place.at-newton-3 part_at c.in-7.is) c.round-verdict.ensures.f3_after
+    (c.conclude.ensures.d_after a.rtol.now a.atol.now
+    ∙ ap (λ (m : Memory). (conclude_of v m).core)
+    (c.round-verdict.ensures.kept a.y.now a.f0.now a.rtol.now a.atol.now))
 
-pub returns-in-8 : goal.returns-in-8
-returns-in-8 c =
+pub returns-in-8-clause-f_origin_after : goal.returns-in-8-clause-f_origin_after
+returns-in-8-clause-f_origin_after c =
     let run-at : Run = run_at c.args.words.now c.args.doubles.now in
-    let newton-at : Newton = let a = c.args in newton a.z1.now a.z2.now a.z3.now a.f1.now a.f2.now a.f3.now in
-    let factors-at : Factors = let a = c.args in factors a.e1.now a.e2r.now a.e2i.now a.ip1.now a.ip2.now in
-    let differences-at : Differences = let a = c.args in differences a.y_perturbed.now a.f_perturbed.now a.f_origin.now
-    in
     let memory-at : Memory = let a = c.args in
-    memory
-    (amounts a.y.now a.f0.now a.scal.now a.cont.now)
-    newton-at
-    (given a.rtol.now a.atol.now a.mass.now a.jac.now)
-    factors-at
-    differences-at in
+    memory_of a.y.now a.f0.now a.rtol.now a.atol.now a.mass.now a.work.now in
     let part_at : ℕ = c.args.words.now # 1 in
-    record {
-      sized_2 = c.refined.ensures.sized_2;
-      f_origin_after = refinement run-at c.args.reply memory-at (step_at c.refined.result (run_at
-          c.refined.new.words c.refined.new.doubles))
-          c.refined.new.y c.refined.new.cont
-          (place.at-refinement part_at c.in-8.is) (c.refined.ensures.cont_after c.args.f3.now);
-    }
+    let a = c.args in
+    let s = step_at c.refined.result (run_at c.refined.new.words c.refined.new.doubles) in
+    ap (stepped s) (c.refined.ensures.kept a.f0.now a.rtol.now a.atol.now a.mass.now)
+    ∙ refinement run-at a.reply memory-at s c.refined.new.y c.refined.new.work.cont.now
+    (place.at-refinement part_at c.in-8.is) c.refined.ensures.cont_after
 
-pub returns-in-9 : goal.returns-in-9
-returns-in-9 c =
+pub returns-in-9-clause-f_origin_after : goal.returns-in-9-clause-f_origin_after
+returns-in-9-clause-f_origin_after c =
     let run-at : Run = run_at c.args.words.now c.args.doubles.now in
-    let newton-at : Newton = let a = c.args in newton a.z1.now a.z2.now a.z3.now a.f1.now a.f2.now a.f3.now in
-    let factors-at : Factors = let a = c.args in factors a.e1.now a.e2r.now a.e2i.now a.ip1.now a.ip2.now in
-    let differences-at : Differences = let a = c.args in differences a.y_perturbed.now a.f_perturbed.now a.f_origin.now
-    in
     let memory-at : Memory = let a = c.args in
-    memory
-    (amounts a.y.now a.f0.now a.scal.now a.cont.now)
-    newton-at
-    (given a.rtol.now a.atol.now a.mass.now a.jac.now)
-    factors-at
-    differences-at in
+    memory_of a.y.now a.f0.now a.rtol.now a.atol.now a.mass.now a.work.now in
     let part_at : ℕ = c.args.words.now # 1 in
-    record {
-      sized_2 = c.ask_report.ensures.sized;
-      f_origin_after = accepted-there run-at c.args.reply memory-at
-          (call_at c.ask_report.result (run_at c.ask_report.new.words c.ask_report.new.doubles))
-          c.scaled.new.scal (place.at-accepted part_at c.in-9.is) c.ask_report.ensures.doubles_after
-          (rw c.tolerances_at-tolerances.ensures at c.scaled.ensures);
-    }
+    accepted-there run-at c.args.reply memory-at
+    (call_at c.ask_report.result (run_at c.ask_report.new.words c.ask_report.new.doubles))
+    c.scaled.new.scal (place.at-accepted part_at c.in-9.is) c.ask_report.ensures.doubles_after
+    (rw c.tolerances_at-tolerances.ensures at c.scaled.ensures)
 
-pub returns-in-10 : goal.returns-in-10
-returns-in-10 c =
+pub returns-in-10-clause-f_origin_after : goal.returns-in-10-clause-f_origin_after
+returns-in-10-clause-f_origin_after c =
     let run-at : Run = run_at c.args.words.now c.args.doubles.now in
-    let newton-at : Newton = let a = c.args in newton a.z1.now a.z2.now a.z3.now a.f1.now a.f2.now a.f3.now in
-    let factors-at : Factors = let a = c.args in factors a.e1.now a.e2r.now a.e2i.now a.ip1.now a.ip2.now in
-    let differences-at : Differences = let a = c.args in differences a.y_perturbed.now a.f_perturbed.now a.f_origin.now
-    in
     let memory-at : Memory = let a = c.args in
-    memory
-    (amounts a.y.now a.f0.now a.scal.now a.cont.now)
-    newton-at
-    (given a.rtol.now a.atol.now a.mass.now a.jac.now)
-    factors-at
-    differences-at in
+    memory_of a.y.now a.f0.now a.rtol.now a.atol.now a.mass.now a.work.now in
     let part_at : ℕ = c.args.words.now # 1 in
-    record {
-      sized_2 = c.returned.ensures.sized;
-      f_origin_after = report-answered run-at c.args.reply memory-at
-          (heard_at c.reported-heard-in-10.result
-          (run_at c.reported-heard-in-10.new.words c.reported-heard-in-10.new.doubles))
-          (step_at c.returned.result (run_at c.returned.new.words c.returned.new.doubles)) (place.at-report
-          part_at c.in-10.is) c.reported-heard-in-10.ensures.doubles_after c.returned.ensures.doubles_after;
-    }
+    report-answered run-at c.args.reply memory-at
+    (heard_at c.reported-heard-in-10.result
+    (run_at c.reported-heard-in-10.new.words c.reported-heard-in-10.new.doubles))
+    (step_at c.returned.result (run_at c.returned.new.words c.returned.new.doubles)) (place.at-report
+    part_at c.in-10.is) c.reported-heard-in-10.ensures.doubles_after c.returned.ensures.doubles_after
 
-pub returns-in-11 : goal.returns-in-11
-returns-in-11 c =
+pub returns-in-11-clause-f_origin_after : goal.returns-in-11-clause-f_origin_after
+returns-in-11-clause-f_origin_after c =
     let run-at : Run = run_at c.args.words.now c.args.doubles.now in
-    let newton-at : Newton = let a = c.args in newton a.z1.now a.z2.now a.z3.now a.f1.now a.f2.now a.f3.now in
-    let factors-at : Factors = let a = c.args in factors a.e1.now a.e2r.now a.e2i.now a.ip1.now a.ip2.now in
-    let differences-at : Differences = let a = c.args in differences a.y_perturbed.now a.f_perturbed.now a.f_origin.now
-    in
     let memory-at : Memory = let a = c.args in
-    memory
-    (amounts a.y.now a.f0.now a.scal.now a.cont.now)
-    newton-at
-    (given a.rtol.now a.atol.now a.mass.now a.jac.now)
-    factors-at
-    differences-at in
+    memory_of a.y.now a.f0.now a.rtol.now a.atol.now a.mass.now a.work.now in
     let part_at : ℕ = c.args.words.now # 1 in
-    record {
-      sized_2 = c.arrived.ensures.sized;
-      f_origin_after = derivative-again run-at c.args.reply memory-at
-          (step_at c.arrived.result (run_at c.arrived.new.words c.arrived.new.doubles))
-          (place.at-derivative-again part_at c.in-11.is) c.arrived.ensures.doubles_after;
-    }
+    derivative-again run-at c.args.reply memory-at
+    (step_at c.arrived.result (run_at c.arrived.new.words c.arrived.new.doubles))
+    (place.at-derivative-again part_at c.in-11.is) c.arrived.ensures.doubles_after
 
-pub returns-in-12 : goal.returns-in-12
-returns-in-12 c =
+pub returns-in-12-clause-f_origin_after : goal.returns-in-12-clause-f_origin_after
+returns-in-12-clause-f_origin_after c =
     let run-at : Run = run_at c.args.words.now c.args.doubles.now in
-    let newton-at : Newton = let a = c.args in newton a.z1.now a.z2.now a.z3.now a.f1.now a.f2.now a.f3.now in
-    let factors-at : Factors = let a = c.args in factors a.e1.now a.e2r.now a.e2i.now a.ip1.now a.ip2.now in
-    let differences-at : Differences = let a = c.args in differences a.y_perturbed.now a.f_perturbed.now a.f_origin.now
-    in
     let memory-at : Memory = let a = c.args in
-    memory
-    (amounts a.y.now a.f0.now a.scal.now a.cont.now)
-    newton-at
-    (given a.rtol.now a.atol.now a.mass.now a.jac.now)
-    factors-at
-    differences-at in
+    memory_of a.y.now a.f0.now a.rtol.now a.atol.now a.mass.now a.work.now in
     let part_at : ℕ = c.args.words.now # 1 in
-    record {
-      sized_2 = c.ended.ensures.sized;
-      f_origin_after = ended-already run-at c.args.reply memory-at _
-          (call_at c.ended.result (run_at c.ended.new.words c.ended.new.doubles))
-          (place.at_ended part_at c.in-12.is) (rw c.status_at-status.ensures at c.ended.ensures.doubles_after);
-    }
+    ended-already run-at c.args.reply memory-at _
+    (call_at c.ended.result (run_at c.ended.new.words c.ended.new.doubles))
+    (place.at_ended part_at c.in-12.is) (rw c.status_at-status.ensures at c.ended.ensures.doubles_after)
 
-pub returns-in_default : goal.returns-in_default
-returns-in_default c =
+pub returns-in_default-clause-f_origin_after : goal.returns-in_default-clause-f_origin_after
+returns-in_default-clause-f_origin_after c =
     let run-at : Run = run_at c.args.words.now c.args.doubles.now in
-    let newton-at : Newton = let a = c.args in newton a.z1.now a.z2.now a.z3.now a.f1.now a.f2.now a.f3.now in
-    let factors-at : Factors = let a = c.args in factors a.e1.now a.e2r.now a.e2i.now a.ip1.now a.ip2.now in
-    let differences-at : Differences = let a = c.args in differences a.y_perturbed.now a.f_perturbed.now a.f_origin.now
-    in
     let memory-at : Memory = let a = c.args in
-    memory
-    (amounts a.y.now a.f0.now a.scal.now a.cont.now)
-    newton-at
-    (given a.rtol.now a.atol.now a.mass.now a.jac.now)
-    factors-at
-    differences-at in
+    memory_of a.y.now a.f0.now a.rtol.now a.atol.now a.mass.now a.work.now in
     let part_at : ℕ = c.args.words.now # 1 in
-    record {
-      sized_2 = c.ask_first_report.ensures.sized;
-      f_origin_after = first-derivative run-at c.args.reply memory-at (call_at c.ask_first_report.result
-          (run_at c.ask_first_report.new.words c.ask_first_report.new.doubles))
-          (place.at-first-derivative part_at (omega arith)
-          (omega arith) (omega arith) (omega arith) (omega arith)
-          (omega arith) (omega arith) (omega arith) (omega arith) (omega arith) (omega arith) (omega arith))
-          c.ask_first_report.ensures.doubles_after;
-    }
+    first-derivative run-at c.args.reply memory-at (call_at c.ask_first_report.result
+    (run_at c.ask_first_report.new.words c.ask_first_report.new.doubles))
+    (place.at-first-derivative part_at (omega arith)
+    (omega arith) (omega arith) (omega arith) (omega arith)
+    (omega arith) (omega arith) (omega arith) (omega arith) (omega arith) (omega arith) (omega arith))
+    c.ask_first_report.ensures.doubles_after

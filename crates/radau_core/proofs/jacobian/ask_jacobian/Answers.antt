@@ -6,7 +6,7 @@ use Rattle.state.specs.declared.talk.Place.{Place}
 use Rattle.state.specs.declared.talk.Request.{Request}
 use Rattle.state.specs.Memory.{Differences, differences}
 use Rattle.solve_blocks.specs.Setters.{at_stage}
-use Rattle.solve_blocks.specs.Matrices.{call}
+use Rattle.state.specs.Talk.{call}
 use Rattle.solve_blocks.specs.Jacobian.{asking, ask_jacobian_by}
 use Rattle.solve_blocks.proofs.JacobianLaws.{asked_by}
 use Rattle.radau_core.specs.Places.{run_at}
@@ -40,7 +40,7 @@ returns-in-Differences c = record {
       (rw (
         c.zero-in-Differences.ensures,
         c.zero.ensures,
-        c.copy.ensures,
+        c.copy_from_slice.ensures.after,
         c.requires.words_bound.3,
         c.requires.words_bound.4,
       )

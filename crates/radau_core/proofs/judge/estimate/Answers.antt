@@ -37,24 +37,11 @@ tested-requires c = let e = ap (λ (r : Run). r.shape.n) c.counted.ensures.doubl
   );
 }
 
-pub shape_of-y : goal.shape_of-y
-shape_of-y c = omega (arith, c.tested.auto)
-
-pub shape_of-cont : goal.shape_of-cont
-shape_of-cont c = omega (arith, c.tested.auto, c.solve_first.auto, c.error_sides.auto)
-
-pub shape_of-f1 : goal.shape_of-f1
-shape_of-f1 c = omega (arith, c.defect.auto)
-
-pub shape_of-f2 : goal.shape_of-f2
-shape_of-f2 c = omega (arith, c.error_sides.auto)
-
-pub returns : goal.returns
-returns c = let a = c.args in record {
-  sized_2 = c.tested.ensures.sized_2;
-  f2_after = λ f3. estimate-by (run_at a.words.now a.doubles.now) a.e1.now a.ip1.now a.scal.now a.y.now
-      a.cont.now a.z1.now a.z2.now a.z3.now a.f1.now a.f2.now f3 a.mass.now a.f0.now
-      _ _ _ _ _ _ _ _ _ c.defect.ensures (rw c.mass_mode-mode.ensures at c.error_sides.ensures)
-      c.solve_first.ensures c.error-err.ensures c.counted.ensures.doubles_after
-      c.tested.ensures.cont_after;
-}
+pub returns-clause-f2_after : goal.returns-clause-f2_after
+returns-clause-f2_after c = let a = c.args in
+    estimate-by (run_at a.words.now a.doubles.now) a.work.now.e1.now a.work.now.ip1.now a.work.now.scal.now a.y.now
+    a.work.now.cont.now a.work.now.z1.now a.work.now.z2.now a.work.now.z3.now a.work.now.f1.now a.work.now.f2.now
+    a.work.now.f3.now a.mass.now a.f0.now
+    _ _ _ _ _ _ _ _ _ c.defect.ensures (rw c.mass_mode-mode.ensures at c.error_sides.ensures)
+    c.solve_first.ensures c.error-err.ensures c.counted.ensures.doubles_after
+    c.tested.ensures.cont_after

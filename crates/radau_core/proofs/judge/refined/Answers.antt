@@ -4,11 +4,10 @@ use Rattle.solve_blocks.proofs.JudgeLaws.{refined-by}
 use Rattle.radau_core.specs.Places.{run_at}
 use Rattle.radau_core.proofs.judge.refined.Goals as goal
 
-pub returns : goal.returns
-returns c = let a = c.args in record {
-  sized_2 = c.judge.ensures.sized_2;
-  cont_after = λ f3. c.judge.ensures.cont_after
-      ∙ refined-by (run_at a.words.now a.doubles.now) a.e1.now a.ip1.now a.scal.now a.y.now
-      a.cont.now a.z1.now a.z2.now a.z3.now a.f1.now a.f2.now f3 _ _ _
-      c.sum.ensures c.solve_first.ensures c.error-err.ensures;
-}
+pub returns-clause-cont_after : goal.returns-clause-cont_after
+returns-clause-cont_after c = let a = c.args in
+    c.judge.ensures.cont_after
+    ∙ refined-by (run_at a.words.now a.doubles.now) a.work.now.e1.now a.work.now.ip1.now a.work.now.scal.now a.y.now
+    a.work.now.cont.now a.work.now.z1.now a.work.now.z2.now a.work.now.z3.now a.work.now.f1.now a.work.now.f2.now
+    a.work.now.f3.now _ _ _
+    c.sum.ensures c.solve_first.ensures c.error-err.ensures

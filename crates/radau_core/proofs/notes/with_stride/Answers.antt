@@ -13,6 +13,6 @@ pub returns-else-stride : goal.returns-else-stride
 unfolding with_stride
 returns-else-stride c = rw c.in-None.is (no _ _ _ (sym (differs _) ∙ c.if-stride.false) refl)
 
-pub returns-in-Between : goal.returns-in-Between
+pub returns-in-Some : goal.returns-in-Some
 unfolding with_stride
-returns-in-Between c = rw (c.max.ensures, c.min.ensures, c.in-Between.is)
+returns-in-Some c = rw (c.max.ensures, c.min.ensures, c.in-Some.is)

@@ -2,4 +2,4 @@
 use Rattle.radau_core.proofs.pack.numbers_at.Goals as goal
 
 pub returns : goal.returns
-returns c = rw c.number_at.ensures
+returns c = rw c.option_at.ensures

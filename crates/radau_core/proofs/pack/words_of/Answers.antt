@@ -18,7 +18,7 @@ returns c = λ i. c.stage_tag.ensures i
     ∷ c.flag_word-5.ensures i
     ∷ c.args.run.control.singular_count
     ∷ c.args.run.control.newt_iter
-    ∷ c.number_tag.ensures i
+    ∷ c.option_tag.ensures i
     ∷ c.args.run.shape.n
     ∷ c.args.run.shape.nind1
     ∷ c.args.run.shape.nind2
@@ -31,18 +31,18 @@ returns c = λ i. c.stage_tag.ensures i
     ∷ c.source_word.ensures i
     ∷ c.flag_word-7.ensures i
     ∷ c.rule_word.ensures i
-    ∷ c.number_tag-2.ensures i
-    ∷ c.number_tag-3.ensures i
-    ∷ c.number_tag-4.ensures i
-    ∷ c.number_tag-5.ensures i
-    ∷ c.whole_tag.ensures i
-    ∷ c.whole_word.ensures i
-    ∷ c.whole_tag-2.ensures i
-    ∷ c.whole_word-2.ensures i
-    ∷ c.whole_tag-3.ensures i
-    ∷ c.whole_word-3.ensures i
+    ∷ c.option_tag-2.ensures i
+    ∷ c.option_tag-3.ensures i
+    ∷ c.option_tag-4.ensures i
+    ∷ c.option_tag-5.ensures i
+    ∷ c.option_tag-6.ensures i
+    ∷ c.unwrap_or.ensures i
+    ∷ c.option_tag-7.ensures i
+    ∷ c.unwrap_or-2.ensures i
+    ∷ c.option_tag-8.ensures i
+    ∷ c.unwrap_or-3.ensures i
     ∷ c.flag_word-8.ensures i
     ∷ c.singular_kind.ensures i
     ∷ c.singular_column.ensures i
-    ∷ c.strides_tag.ensures i
+    ∷ c.option_tag-9.ensures i
     ∷ []

@@ -2,7 +2,7 @@
 use lib.ListN.{length-set}
 use Rattle.words.specs.Loop.{pick}
 use Rattle.solve_blocks.specs.Report.{reported_of}
-use Rattle.radau_core.specs.Choices.{number_of}
+use Rattle.radau_core.specs.Choices.{option_at}
 use Rattle.radau_core.proofs.PlaceLaws.{words-at, doubles-at, resized}
 use Rattle.radau_core.proofs.report.reported.Goals as goal
 
@@ -46,7 +46,7 @@ returns-in-Modified c = record {
 }
 
 pub returns-in-Mark : goal.returns-in-Mark
-unfolding reported_of number_of pick
+unfolding reported_of option_at pick
 returns-in-Mark c = record {
   sized_2 = resized c.requires.sized (simp length-set) (simp length-set);
   doubles_after = rw (c.in-Mark.is, words-at c.requires.sized, doubles-at c.requires.sized);

@@ -12,4 +12,4 @@ returns-then-text-after g c = taken-wrong c.read_full.new.block (search rules) c
 
 pub returns : goal.returns
 returns g c = let text = c.read_full.new.block in
-    rw c.spelled.ensures (taken-right text (search rules) c.if-text-after.false)
+    rw (c.ok_or.ensures.value, c.spelled.ensures) (taken-right text (search rules) c.if-text-after.false)

@@ -5,15 +5,11 @@ use Rattle.replay.proofs.ReadLaws.{read-value, filled_none, filled_more, read_al
 use Rattle.replay.proofs.word.read_words.Goals as goal
 
 pub loop-i-init : goal.loop-i-init
-loop-i-init g c = let last = c.within-i-end.ensures in
-    (last.value, last.upper_bound.1, omega arith, inl refl, filled_none _ _)
+loop-i-init g c =
+    (c.min-i-end.ensures, omega (arith, c.min-i-end.ensures), omega arith, inl refl, filled_none _ _)
 
-pub returns-in-Wrong : goal.returns-in-Wrong
-returns-in-Wrong g c = let l = c.loop-i in
-    read_some l.invariant.0 l.invariant.3 l.invariant.4 c.loop-i-test.true
-
-pub returns-in-End : goal.returns-in-End
-returns-in-End g c = let l = c.loop-i in
+pub returns-in_default : goal.returns-in_default
+returns-in_default g c = let l = c.loop-i in
     read_some l.invariant.0 l.invariant.3 l.invariant.4 c.loop-i-test.true
 
 pub loop-i-preserved : goal.loop-i-preserved
@@ -21,8 +17,8 @@ loop-i-preserved g c = let l = c.loop-i in
     let test = c.loop-i-test.true in
     let room : l.i < length l.block = omega (arith, test, l.invariant.1, l.invariant.4.long) in
     let put = read-value c.after.ensures
-    c.read_word-next.ensures c.in-Value.is in
-    let last = c.within-i-end.result in
+    c.read_word.ensures c.in-Ok.is in
+    let last = c.min-i-end.result in
     let more : l.i + 1 ≤ last = omega (arith, test) in (
       l.invariant.0,
       l.invariant.1,

@@ -1,31 +1,21 @@
--- `spelled` meets its contract: the digits so far are what the loop's turns made of none.
-use Rattle.std.proofs.Common.{refl, le-ltb, lt-ltb}
-use Rattle.words.proofs.Branch.{yes, no}
-use Rattle.words.proofs.Loops.{begun, turned, ended}
-use Rattle.replay.specs.Word.{spelled_at, spelled_of}
+-- `spelled` meets its contract: what the bytes spell is settled by the number so far and the bytes that are left.
+use Rattle.std.proofs.Common.{◌∙◌}
+use Rattle.replay.proofs.ReadLaws.{spelled_begun, spelled_outside, spelled_on, spelled_off, spelled_done}
 use Rattle.replay.proofs.word.spelled.Goals as goal
 
-pub returns-then-text-end : goal.returns-then-text-end
-unfolding spelled_of
-returns-then-text-end c = yes _ _ _ (lt-ltb _ _ c.if-text-end.true) refl
+pub returns-in_err-byte-items : goal.returns-in_err-byte-items
+returns-in_err-byte-items c = c.from_residual.ensures ∙ spelled_outside _ _ _ c.in_err-byte-items.ensures.lookup.0
 
-pub returns-then-end-from : goal.returns-then-end-from
-unfolding spelled_of
-returns-then-end-from c = no _ _ _ (le-ltb _ _ c.if-text-end.false) (yes _ _ _ (lt-ltb _ _ c.if-end-from.true) refl)
+pub loop-byte-init : goal.loop-byte-init
+loop-byte-init c = let part = c.in_ok-byte-items.ensures.lookup in spelled_begun _ _ _ part.0.0 part.0.1 part.0.2
 
-pub loop-i-init : goal.loop-i-init
-loop-i-init c = begun c.if-end-from.false tt refl
+pub returns-in_err-value : goal.returns-in_err-value
+returns-in_err-value c =
+    c.from_residual-in_err-value.ensures ∙ spelled_off _ _ _ c.loop-byte-test.true c.in_err-value.ensures
+    ∙ c.loop-byte.invariant
 
-pub loop-i-preserved : goal.loop-i-preserved
-unfolding spelled_at
-loop-i-preserved c = turned c.loop-i.invariant c.loop-i-test.true tt (rw c.digit-next.ensures)
-
-pub returns-then-good : goal.returns-then-good
-unfolding spelled_of
-returns-then-good c = no _ _ _ (le-ltb _ _ c.if-text-end.false) (no _ _ _ (le-ltb _ _ c.if-end-from.false)
-    (rw (← ended c.loop-i.invariant c.loop-i-test.false) (yes _ _ _ c.if-good.true refl)))
+pub loop-byte-preserved : goal.loop-byte-preserved
+loop-byte-preserved c = spelled_on _ _ _ c.loop-byte-test.true c.in_ok-value.ensures ∙ c.loop-byte.invariant
 
 pub returns : goal.returns
-unfolding spelled_of
-returns c = no _ _ _ (le-ltb _ _ c.if-text-end.false) (no _ _ _ (le-ltb _ _ c.if-end-from.false)
-    (rw (← ended c.loop-i.invariant c.loop-i-test.false) (no _ _ _ c.if-good.false refl)))
+returns c = spelled_done _ _ _ c.loop-byte-test.false ∙ c.loop-byte.invariant

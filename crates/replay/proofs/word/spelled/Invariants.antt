@@ -1,8 +1,7 @@
--- What each loop of `spelled` keeps.
-use Rattle.std.proofs.Common.{true}
-use Rattle.words.proofs.Loops.{Ran, Any}
-use Rattle.replay.specs.Word.{spelling, spelled_at}
+-- What the loop of `spelled` keeps: what the bytes still spell.
+use Rattle.std.proofs.Common.{◌≡◌, drop}
+use Rattle.replay.specs.Word.{spelled_behind, spelled_of}
 use Rattle.replay.proofs.word.spelled.Given as goal
 
-abbrev pub invariant-loop-i : goal.invariant-loop-i
-invariant-loop-i l = Ran (spelled_at l.text) Any l.from l.end l.i (spelling 0 true) (spelling l.value l.good)
+abbrev pub invariant-loop-byte : goal.invariant-loop-byte
+invariant-loop-byte l = spelled_behind l.value (drop l.byte-index l.byte-items) ≡ spelled_of l.text l.from l.end

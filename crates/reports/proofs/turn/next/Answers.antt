@@ -1,19 +1,19 @@
 -- `next` meets its contract.
 use mathlib.Core.Path.{sym, ap}
-use Rattle.state.specs.declared.talk.Answer.{Answer}
 use Rattle.history.specs.History.{point, next_point}
 use Rattle.reports.proofs.turn.next.Goals as goal
+use Rattle.state.specs.Talk.{Answer}
 
-pub returns-in-Asked : goal.returns-in-Asked
+pub returns-in-Ok : goal.returns-in-Ok
 unfolding next_point
-returns-in-Asked c =
+returns-in-Ok c =
     λ m w.
     let p = c.args.pending in
-    ap (λ (a : Answer). next_point (point p.run p.request p.place m) a w) (sym c.in-Asked.is)
+    ap (λ (a : Answer). next_point (point p.run p.request p.place m) a w) (sym c.in-Ok.is)
 
-pub returns-in-Refused : goal.returns-in-Refused
+pub returns-in-Err : goal.returns-in-Err
 unfolding next_point
-returns-in-Refused c =
+returns-in-Err c =
     λ m w.
     let p = c.args.pending in
-    ap (λ (a : Answer). next_point (point p.run p.request p.place m) a w) (sym c.in-Refused.is)
+    ap (λ (a : Answer). next_point (point p.run p.request p.place m) a w) (sym c.in-Err.is)

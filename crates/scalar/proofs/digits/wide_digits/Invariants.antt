@@ -1,10 +1,7 @@
--- What each loop of `wide_digits` keeps.
-use Prim.Native.Nat.{◌-◌, ◌*◌, ◌^◌, ◌≤◌}
+-- What the loop of `wide_digits` keeps.
+use Rattle.std.proofs.Common.{◌*◌, ◌^◌, ◌≤◌}
 use Rattle.scalar.specs.Steps.{Digits}
 use Rattle.scalar.proofs.digits.wide_digits.Given as goal
 
-abbrev pub invariant-loop-left : goal.invariant-loop-left
-invariant-loop-left l = (l.left ≤ 26) × Digits (l.m * 2 ^ (52 - 2 * l.left)) l.cut.q l.cut.rem
-
-abbrev pub decreases-loop-left : goal.decreases-loop-left
-decreases-loop-left l = l.left
+abbrev pub invariant-loop : goal.invariant-loop
+invariant-loop l = (l.counter ≤ 26) × Digits (l.m * 2 ^ (2 * l.counter)) l.cut.q l.cut.rem

@@ -1,55 +1,50 @@
 -- `numbers` meets its contract.
-use mathlib.Core.Path.{refl, sym, ◌∙◌}
+use Rattle.std.proofs.Common.{◌≡◌, refl, ◌∙◌, sym, ap}
 use native.Mathlib.Omega.{arith}
-use borrow.Author.Tests.{not-true, not-false}
-use Rattle.sheet.proofs.NumbersLaws.{good-piece, bad-piece, good-passage, bad-passage, ends-few}
-use Rattle.sheet.proofs.NumbersLaws.{left-begun, left-done, left-stuck, left-more}
+use Rattle.std.specs.Result.{result_ok}
+use Rattle.std.specs.Option.{ok_or}
+use Rattle.std.proofs.lemmas.Result.{err_from_is_err_and}
+use Rattle.sheet.specs.Numbers.{piece_of, piece_at, passage_at, ends_of}
+use Rattle.sheet.proofs.NumbersLaws.{left-begun, left-done, left-stuck, left-more, ends-few, same-error}
 use Rattle.sheet.proofs.numbers.numbers.Goals as goal
 
 pub loop-i-init : goal.loop-i-init
-loop-i-init c = left-begun c.requires.at_in_bounds.0
-
-pub token_at-next-requires : goal.token_at-next-requires
-token_at-next-requires c = c.loop-i.invariant.inside
-
-pub shape_of-store-then-not-next : goal.shape_of-store-then-not-next
-shape_of-store-then-not-next c = c.loop-i.invariant.long
-
-pub returns-then-not-next : goal.returns-then-not-next
-returns-then-not-next c = record {
-  result_after = bad-passage _ _ _ refl
-      ∙ left-stuck c.loop-i.invariant c.loop-i-test.true
-      (sym (bad-piece _ _ (not-true _ c.if-not-next.true))
-      ∙ (rw c.kind_at-each.ensures at c.token_at-next.ensures.0));
-  at_in_bounds_2 = (c.loop-i.invariant.inside, omega (arith, c.loop-i.invariant.few));
-}
-
-pub offset_bounds-store-i : goal.offset_bounds-store-i
-offset_bounds-store-i c = omega (arith, c.loop-i.invariant.long)
-
-pub bounds-store-i : goal.bounds-store-i
-bounds-store-i c = omega (arith, c.loop-i.invariant.long)
+loop-i-init c = left-begun refl
 
 pub overflow_add-lines : goal.overflow_add-lines
 overflow_add-lines c = omega (
   arith,
+  c.requires,
   c.loop-i.invariant.few,
   c.ends-lines.ensures,
-  ends-few c.kind_at-each.result.mark,
+  ends-few c.kind_at-kind.result.mark,
 )
 
 pub loop-i-preserved : goal.loop-i-preserved
-loop-i-preserved c = left-more c.loop-i.invariant c.token_at-next.result.value
-    c.token_at-next.result.next c.loop-i-test.true c.requires.at_in_bounds.1
-    c.token_at-next.ensures.1 (sym (good-piece _ _ (not-false _ c.if-not-next.false))
-    ∙ (rw c.kind_at-each.ensures at c.token_at-next.ensures.0))
-    (rw c.kind_at-each.ensures at c.ends-lines.ensures)
+unfolding piece_at
+loop-i-preserved c =
+    let token = c.ok_or.ensures.ok_part ∙ ap result_ok c.in_ok-next.was in
+    left-more c.loop-i.invariant c.in_ok-next.next.value c.in_ok-next.next.rest.now c.loop-i-test.true
+    (sym (ap piece_at token) ∙ c.first_token.ensures ∙ ap (λ k. piece_of k c.loop-i.rest.now) c.kind_at-kind.ensures)
+    (c.ends-lines.ensures ∙ ap (λ k. ends_of k.mark) c.kind_at-kind.ensures)
 
-pub shape_of-store : goal.shape_of-store
-shape_of-store c = c.loop-i.invariant.long
+pub returns-in_err-next : goal.returns-in_err-next
+unfolding piece_at passage_at
+returns-in_err-next c =
+    let p = err_from_is_err_and c.from_residual.result c.from_residual.ensures.1 in
+    let token = c.ok_or.ensures.ok_part ∙ ap result_ok c.in_err-next.was in
+    let same : c.in_err-next.field-0.0 ≡ c.loop-i.lines =
+    same-error (sym c.in_err-next.was ∙ c.ok_or.ensures.value ∙ ap (λ t. ok_or t c.loop-i.lines) token) in
+    rw (p.1, p.2, same) (record {
+      result_after = left-stuck c.loop-i.invariant c.loop-i-test.true
+          (sym (ap piece_at token) ∙ c.first_token.ensures
+          ∙ ap (λ k. piece_of k c.loop-i.rest.now) c.kind_at-kind.ensures);
+      few = omega (arith, c.loop-i.invariant.few);
+    })
 
 pub returns : goal.returns
+unfolding passage_at
 returns c = record {
-  result_after = good-passage _ _ _ refl ∙ left-done c.loop-i.invariant c.loop-i-test.false;
-  at_in_bounds_2 = (c.loop-i.invariant.inside, omega (arith, c.loop-i.invariant.few));
+  result_after = left-done c.loop-i.invariant c.loop-i-test.false;
+  few = omega (arith, c.loop-i.invariant.few);
 }

@@ -1,157 +1,152 @@
--- `compare/judge` meets its contract: the parts that were right, one after the other.
-use mathlib.Core.Path.{ap}
-use lib.ListN.{length}
-use Rattle.sheet.specs.declared.numbers.Progress.{Progress}
+-- `judge` meets its contract: the parts that were right, one after the other.
+use Rattle.std.proofs.Common.{◌≡◌, ℕ, ◌*◌, ◌≤◌, ◌∙◌, sym, length, get_or, take}
 use native.Mathlib.Omega.{arith}
-use borrow.Author.Tests.{not-true, not-false}
-use Rattle.sheet.proofs.ReaderLaws.{Settled, Given, Counted, bad-judged, species-few, reactions-few}
-use Rattle.sheet.proofs.ReaderLaws.{first-bad, second-bad, third-bad, fourth, ended-lines}
+use lib.Seq.{length-take-le}
+use lib.ListN.{length-take}
+use Rattle.std.proofs.lemmas.Result.{err_from_is_err_and}
+use Rattle.sheet.specs.Numbers.{passed, part_of}
+use Rattle.sheet.specs.Reader.{judged_at}
+use Rattle.sheet.specs.declared.kind.Phase.TheVariants as phase
+use Rattle.sheet.proofs.ReaderLaws.{passage-good, passage-bad, first-bad, species-few, second-bad, third-bad}
+use Rattle.sheet.proofs.ReaderLaws.{front-taken, fourth-bad, last, count-bounded, ended-few}
 use Rattle.sheet.proofs.sheet.judge.Goals as goal
+use Rattle.sheet.proofs.sheet.judge.Goals.{In_ok-head, In_ok-given, In_ok-counted, In_ok-last}
 
-pub returns-then-not-head : goal.returns-then-not-head
-returns-then-not-head c = record {
-  result_after = first-bad c.args.bytes.now c.numbers-head.new.store c.numbers-head.result
-      c.numbers-head.ensures.result_after (not-true _ c.if-not-head.true)
-      (bad-judged _ _ _ _ _ (not-true _ c.if-not-head.true));
-  lines_bound = omega arith;
-}
+settings : (c : In_ok-head) → passed c.numbers.new.store c.in_ok-head.head.lines c.in_ok-head.head.rest.now
+    ≡ part_of phase.Settings 0 8 0 c.args.bytes.now
+settings c =
+    let e : length c.args.settings.now ≡ 8 = omega arith in
+    sym (passage-good _ c.in_ok-head.was) ∙ (rw e at c.numbers.ensures.result_after)
 
-pub numbers-given-requires : goal.numbers-given-requires
-numbers-given-requires c =
-    let s1 : Settled c.args.bytes.now c.numbers-head.new.store c.numbers-head.result = record {
-      long = omega arith;
-      is = c.numbers-head.ensures.result_after;
-      good = not-false _ c.if-not-head.false;
-    } in
-    record {
-      at_in_bounds = (c.numbers-head.ensures.at_in_bounds_2.0, omega (arith, species-few s1));
-      count_bound = omega (arith, species-few s1);
-    }
+few : (c : In_ok-head) → get_or c.numbers.new.store 7 0 ≤ 32
+few c = species-few _ _ _ _ (settings c)
 
-pub returns-then-not-given : goal.returns-then-not-given
-returns-then-not-given c =
-    let s1 : Settled c.args.bytes.now c.numbers-head.new.store c.numbers-head.result = record {
-      long = omega arith;
-      is = c.numbers-head.ensures.result_after;
-      good = not-false _ c.if-not-head.false;
-    } in
-    record {
-      result_after = second-bad s1 c.numbers-given.new.store c.numbers-given.result
-          c.numbers-given.ensures.result_after (not-true _ c.if-not-given.true)
-          (bad-judged _ _ _ _ _ (not-true _ c.if-not-given.true));
-      lines_bound = omega (arith, species-few s1);
-    }
+amounts : (c : In_ok-given) → get_or c.numbers.new.store 7 0 ≤ 32
+    → passed c.numbers-2.new.store c.in_ok-given.given.lines c.in_ok-given.given.rest.now
+    ≡ part_of phase.Amounts 0 (get_or c.numbers.new.store 7 0) c.in_ok-head.head.lines c.in_ok-head.head.rest.now
+amounts c h =
+    let e : length (take (get_or c.numbers.new.store 7 0) c.args.amounts.now) ≡ get_or c.numbers.new.store 7 0 =
+    length-take-le _ _ (let z : get_or c.numbers.new.store 7 0 ≤ length c.args.amounts.now = omega arith in z) in
+    sym (passage-good _ c.in_ok-given.was) ∙ (rw e at c.numbers-2.ensures.result_after)
 
-pub numbers-counted-requires : goal.numbers-counted-requires
-numbers-counted-requires c =
-    let s1 : Settled c.args.bytes.now c.numbers-head.new.store c.numbers-head.result = record {
-      long = omega arith;
-      is = c.numbers-head.ensures.result_after;
-      good = not-false _ c.if-not-head.false;
-    } in
-    record {
-      at_in_bounds = (c.numbers-given.ensures.at_in_bounds_2.0, omega arith);
-      count_bound = omega (arith, species-few s1);
-    }
+counted : (c : In_ok-counted) → passed c.numbers-3.new.store c.in_ok-counted.counted.lines
+    c.in_ok-counted.counted.rest.now
+    ≡ part_of phase.Count 0 1 c.in_ok-given.given.lines c.in_ok-given.given.rest.now
+counted c =
+    let e : length c.args.count.now ≡ 1 = omega arith in
+    sym (passage-good _ c.in_ok-counted.was) ∙ (rw e at c.numbers-3.ensures.result_after)
 
-pub returns-then-not-counted : goal.returns-then-not-counted
-returns-then-not-counted c =
-    let s1 : Settled c.args.bytes.now c.numbers-head.new.store c.numbers-head.result = record {
-      long = omega arith;
-      is = c.numbers-head.ensures.result_after;
-      good = not-false _ c.if-not-head.false;
-    } in
-    let s2 : Given c.args.bytes.now c.numbers-head.new.store c.numbers-given.new.store
-    c.numbers-head.result c.numbers-given.result = record {
-      before = s1;
-      is = c.numbers-given.ensures.result_after;
-      good = not-false _ c.if-not-given.false;
-    } in
-    record {
-      result_after = third-bad s2 c.numbers-counted.new.store c.numbers-counted.result
-          c.numbers-counted.ensures.result_after (not-true _ c.if-not-counted.true)
-          (bad-judged _ _ _ _ _ (not-true _ c.if-not-counted.true));
-      lines_bound = omega (arith, species-few s1);
-    }
+most : (c : In_ok-counted) → get_or c.numbers-3.new.store 0 0 ≤ 64
+most c = (count-bounded _ _ _ _ _ (counted c)).most
 
-pub bounds-count-0 : goal.bounds-count-0
-bounds-count-0 c = omega arith
+reactions : (c : In_ok-last) → get_or c.numbers-3.new.store 0 0 ≤ 64
+    → passed c.numbers-4.new.store c.in_ok-last.last.lines c.in_ok-last.last.rest.now
+    ≡ part_of phase.Reactions (get_or c.numbers.new.store 7 0) (get_or c.numbers-3.new.store 0 0 * 5)
+    c.in_ok-counted.counted.lines c.in_ok-counted.counted.rest.now
+reactions c h =
+    let e : length (take (get_or c.numbers-3.new.store 0 0 * 5) c.args.listed.now)
+    ≡ get_or c.numbers-3.new.store 0 0 * 5 =
+    length-take-le _ _ (let z : get_or c.numbers-3.new.store 0 0 * 5 ≤ length c.args.listed.now = omega arith in z) in
+    sym (passage-good _ c.in_ok-last.was) ∙ (rw e at c.numbers-4.ensures.result_after)
+
+pub returns-in_err-head : goal.returns-in_err-head
+unfolding judged_at
+returns-in_err-head c =
+    let p = err_from_is_err_and c.from_residual.result c.from_residual.ensures.1 in
+    let e : length c.args.settings.now ≡ 8 = omega arith in
+    rw (p.1, p.2) (record {
+      result_after = first-bad c.args.bytes.now (sym (passage-bad _ c.in_err-head.was)
+          ∙ (rw e at c.numbers.ensures.result_after));
+      lines_bound = omega (arith, c.in_err-head.ensures.few);
+    })
+
+pub slice_bounds-numbers-end-2 : goal.slice_bounds-numbers-end-2
+slice_bounds-numbers-end-2 c = omega (arith, few (goal.at.slice_bounds-numbers-end-2 c).In_ok-head)
+
+pub returns-in_err-given : goal.returns-in_err-given
+unfolding judged_at
+returns-in_err-given c =
+    let q = goal.at.returns-in_err-given c in
+    let h : get_or c.numbers.new.store 7 0 ≤ 32 = few q.In_ok-head in
+    let e : length (take (get_or c.numbers.new.store 7 0) c.args.amounts.now) ≡ get_or c.numbers.new.store 7 0 =
+    length-take-le _ _ (let z : get_or c.numbers.new.store 7 0 ≤ length c.args.amounts.now = omega arith in z) in
+    let p = err_from_is_err_and c.from_residual-in_err-given.result c.from_residual-in_err-given.ensures.1 in
+    rw (p.1, p.2) (record {
+      result_after = second-bad _ _ _ _ (settings q.In_ok-head)
+          (sym (passage-bad _ c.in_err-given.was) ∙ (rw e at c.numbers-2.ensures.result_after));
+      lines_bound = omega (arith, e, c.in_err-given.ensures.few, c.in_ok-head.ensures.few);
+    })
+
+pub returns-in_err-counted : goal.returns-in_err-counted
+unfolding judged_at
+returns-in_err-counted c =
+    let q = goal.at.returns-in_err-counted c in
+    let h : get_or c.numbers.new.store 7 0 ≤ 32 = few q.In_ok-head in
+    let e : length c.args.count.now ≡ 1 = omega arith in
+    let n : length (take (get_or c.numbers.new.store 7 0) c.args.amounts.now) ≤ 32 =
+    omega (arith, length-take {A = ℕ}) in
+    let p = err_from_is_err_and c.from_residual-in_err-counted.result c.from_residual-in_err-counted.ensures.1 in
+    rw (p.1, p.2) (record {
+      result_after = third-bad _ _ _ _ (settings q.In_ok-head) _ _ _ (amounts q.In_ok-given h)
+          (sym (passage-bad _ c.in_err-counted.was) ∙ (rw e at c.numbers-3.ensures.result_after));
+      lines_bound = omega (arith, n, c.in_err-counted.ensures.few, c.in_ok-given.ensures.few, c.in_ok-head.ensures.few);
+    })
 
 pub overflow_mul-numbered : goal.overflow_mul-numbered
-overflow_mul-numbered c =
-    let s1 : Settled c.args.bytes.now c.numbers-head.new.store c.numbers-head.result = record {
-      long = omega arith;
-      is = c.numbers-head.ensures.result_after;
-      good = not-false _ c.if-not-head.false;
-    } in
-    let s2 : Given c.args.bytes.now c.numbers-head.new.store c.numbers-given.new.store
-    c.numbers-head.result c.numbers-given.result = record {
-      before = s1;
-      is = c.numbers-given.ensures.result_after;
-      good = not-false _ c.if-not-given.false;
-    } in
-    let s3 : Counted c.args.bytes.now c.numbers-head.new.store c.numbers-given.new.store c.numbers-counted.new.store
-    c.numbers-head.result c.numbers-given.result c.numbers-counted.result = record {
-      before = s2;
-      long = omega arith;
-      is = c.numbers-counted.ensures.result_after;
-      good = not-false _ c.if-not-counted.false;
-    } in
-    omega (arith, reactions-few s3)
+overflow_mul-numbered c = omega (arith, most (goal.at.overflow_mul-numbered c).In_ok-counted)
 
-pub numbers-last-requires : goal.numbers-last-requires
-numbers-last-requires c =
-    let s1 : Settled c.args.bytes.now c.numbers-head.new.store c.numbers-head.result = record {
-      long = omega arith;
-      is = c.numbers-head.ensures.result_after;
-      good = not-false _ c.if-not-head.false;
-    } in
-    let s2 : Given c.args.bytes.now c.numbers-head.new.store c.numbers-given.new.store
-    c.numbers-head.result c.numbers-given.result = record {
-      before = s1;
-      is = c.numbers-given.ensures.result_after;
-      good = not-false _ c.if-not-given.false;
-    } in
-    let s3 : Counted c.args.bytes.now c.numbers-head.new.store c.numbers-given.new.store c.numbers-counted.new.store
-    c.numbers-head.result c.numbers-given.result c.numbers-counted.result = record {
-      before = s2;
-      long = omega arith;
-      is = c.numbers-counted.ensures.result_after;
-      good = not-false _ c.if-not-counted.false;
-    } in
-    record {
-      at_in_bounds = (c.numbers-counted.ensures.at_in_bounds_2.0, omega (arith, reactions-few s3));
-      count_bound = omega (arith, reactions-few s3, species-few s1);
-    }
+pub slice_bounds-numbers-end-5 : goal.slice_bounds-numbers-end-5
+slice_bounds-numbers-end-5 c = omega (arith, most (goal.at.slice_bounds-numbers-end-5 c).In_ok-counted)
+
+pub returns-in_err-last : goal.returns-in_err-last
+unfolding judged_at
+returns-in_err-last c =
+    let q = goal.at.returns-in_err-last c in
+    let h : get_or c.numbers.new.store 7 0 ≤ 32 = few q.In_ok-head in
+    let m : get_or c.numbers-3.new.store 0 0 ≤ 64 = most q.In_ok-counted in
+    let n : length (take (get_or c.numbers.new.store 7 0) c.args.amounts.now) ≤ 32 =
+    omega (arith, length-take {A = ℕ}) in
+    let e : length (take (get_or c.numbers-3.new.store 0 0 * 5) c.args.listed.now)
+    ≡ get_or c.numbers-3.new.store 0 0 * 5 =
+    length-take-le _ _ (let z : get_or c.numbers-3.new.store 0 0 * 5 ≤ length c.args.listed.now = omega arith in z) in
+    let p = err_from_is_err_and c.from_residual-in_err-last.result c.from_residual-in_err-last.ensures.1 in
+    rw (p.1, p.2) (record {
+      result_after = fourth-bad _ _ _ _ (settings q.In_ok-head) _ _ _ (amounts q.In_ok-given h) _ _ _
+          (counted q.In_ok-counted)
+          (sym (passage-bad _ c.in_err-last.was) ∙ (rw e at c.numbers-4.ensures.result_after));
+      lines_bound = omega (
+        arith,
+        n,
+        e,
+        c.in_err-last.ensures.few,
+        c.in_ok-counted.ensures.few,
+        c.in_ok-given.ensures.few,
+        c.in_ok-head.ensures.few,
+      );
+    })
 
 pub returns : goal.returns
 returns c =
-    let s1 : Settled c.args.bytes.now c.numbers-head.new.store c.numbers-head.result = record {
-      long = omega arith;
-      is = c.numbers-head.ensures.result_after;
-      good = not-false _ c.if-not-head.false;
-    } in
-    let s2 : Given c.args.bytes.now c.numbers-head.new.store c.numbers-given.new.store
-    c.numbers-head.result c.numbers-given.result = record {
-      before = s1;
-      is = c.numbers-given.ensures.result_after;
-      good = not-false _ c.if-not-given.false;
-    } in
-    let s3 : Counted c.args.bytes.now c.numbers-head.new.store c.numbers-given.new.store c.numbers-counted.new.store
-    c.numbers-head.result c.numbers-given.result c.numbers-counted.result = record {
-      before = s2;
-      long = omega arith;
-      is = c.numbers-counted.ensures.result_after;
-      good = not-false _ c.if-not-counted.false;
-    } in
-    record {
-      result_after = fourth s3 c.numbers-last.new.store c.numbers-last.result
-          c.numbers-last.ensures.result_after c.ended.ensures;
-      lines_bound = omega (
+    let q = goal.at.returns c in
+    let h : get_or c.numbers.new.store 7 0 ≤ 32 = few q.In_ok-head in
+    let m : get_or c.numbers-3.new.store 0 0 ≤ 64 = most q.In_ok-counted in
+    let d : length (take (get_or c.numbers.new.store 7 0) c.args.amounts.now) ≡ get_or c.numbers.new.store 7 0 =
+    length-take-le _ _ (let z : get_or c.numbers.new.store 7 0 ≤ length c.args.amounts.now = omega arith in z) in
+    let e : length (take (get_or c.numbers-3.new.store 0 0 * 5) c.args.listed.now)
+    ≡ get_or c.numbers-3.new.store 0 0 * 5 =
+    length-take-le _ _ (let z : get_or c.numbers-3.new.store 0 0 * 5 ≤ length c.args.listed.now = omega arith in z) in
+    let f : length c.numbers-2.new.store ≡ get_or c.numbers.new.store 7 0 = omega (arith, d) in
+    let g : length c.numbers-4.new.store ≡ get_or c.numbers-3.new.store 0 0 * 5 = omega (arith, e) in
+    rw (front-taken _ _ _ f, front-taken _ _ _ g, c.ended.ensures) (record {
+      result_after = last _ _ _ _ (settings q.In_ok-head) _ _ _ (amounts q.In_ok-given h) _ _ _
+          (counted q.In_ok-counted) c.in_ok-last.last (reactions q.In_ok-last m);
+      lines_bound = ended-few c.in_ok-last.last 1000 (omega (
         arith,
-        reactions-few s3,
-        species-few s1,
-        ap (λ (p : Progress). p.lines) c.ended.ensures,
-        ended-lines (length c.args.bytes.now) c.numbers-last.result,
-      );
-    }
+        d,
+        e,
+        c.in_ok-last.ensures.few,
+        c.in_ok-counted.ensures.few,
+        c.in_ok-given.ensures.few,
+        c.in_ok-head.ensures.few,
+      ));
+    })

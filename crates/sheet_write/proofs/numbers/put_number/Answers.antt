@@ -1,46 +1,17 @@
--- `put_number` meets its contract.
-use native.Mathlib.Omega.{arith}
-use Rattle.sheet.specs.Writes.{spell_of}
-use Rattle.sheet.proofs.Inverse.{length_digits, width-by-few}
-use Rattle.sheet.proofs.NumbersLaws.{base-small}
-use Rattle.forecast_text.proofs.PutLaws.{put_then}
-use Rattle.sheet_write.proofs.KindLaws.{base-two, put_one}
+-- `put_number` meets its contract: however it is spelled, the mark is put behind it.
+use Rattle.std.proofs.Common.{ap, ◌∙◌}
+use Rattle.forecast_text.specs.Put.{put}
+use Rattle.forecast_text.proofs.PutLaws.{put-then}
+use Rattle.sheet_write.proofs.KindLaws.{decimal-spelled, hexadecimal-spelled}
 use Rattle.sheet_write.proofs.numbers.put_number.Goals as goal
-
-pub put_digits-behind-requires : goal.put_digits-behind-requires
-put_digits-behind-requires c = let hex = c.args.kind.hex in
-    let value = c.args.value in (
-      omega (arith, width-by-few hex value),
-      omega (arith, base-two hex),
-      omega (arith, base-small hex),
-      rw (c.base.ensures, c.width_by.ensures) c.requires.1,
-    )
-
-pub bounds-out-behind : goal.bounds-out-behind
-bounds-out-behind c = omega (
-  arith,
-  c.put_digits-behind.ensures.ends,
-  length_digits c.base.result c.width_by.result c.args.value,
-  width-by-few c.args.kind.hex c.args.value,
-)
-
-pub overflow_add-result : goal.overflow_add-result
-overflow_add-result c = omega (
-  arith,
-  c.put_digits-behind.ensures.ends,
-  length_digits c.base.result c.width_by.result c.args.value,
-  width-by-few c.args.kind.hex c.args.value,
-)
+use Rattle.sheet_write.proofs.numbers.put_number.Goals.{in-Decimal, in-Hexadecimal}
 
 pub returns : goal.returns
-unfolding spell_of
-returns c = record {
-  put = put_then (rw (c.base.ensures, c.width_by.ensures) at c.put_digits-behind.ensures)
-      (put_one _ _ _);
-  upper_bound = omega (
-    arith,
-    c.put_digits-behind.ensures.ends,
-    length_digits c.base.result c.width_by.result c.args.value,
-    width-by-few c.args.kind.hex c.args.value,
-  );
-}
+returns c = put-then 4096 c.args.sheet.now _ _
+    (elim c.match-kind.branch [
+      | in-Decimal w ↦ w.sheet-is ∙ w.put_number.ensures
+          ∙ ap (put 4096 c.args.sheet.now) (decimal-spelled c.args.kind c.args.value w.in-Decimal.is c.requires)
+      | in-Hexadecimal w ↦ w.sheet-is ∙ w.put_hex.ensures
+          ∙ ap (put 4096 c.args.sheet.now) (hexadecimal-spelled c.args.kind c.args.value w.in-Hexadecimal.is)
+    ])
+    c.put.ensures

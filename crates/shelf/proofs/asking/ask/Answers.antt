@@ -1,17 +1,19 @@
 -- `ask` meets its contract, way by way.
-use Prim.Native.Nat.{ℕ, ◌+◌, ◌-◌, ◌*◌, ◌≤◌, ◌<◌}
+use Prim.Native.Nat.{ℕ, ◌+◌, ◌-◌, ◌*◌, ◌/◌, ◌≤◌, ◌<◌}
 use mathlib.Core.Path.{◌≡◌, refl, sym, ap, subst, ◌∙◌}
 use mathlib.Core.Bool.{true}
 use mathlib.Core.List.{List}
 use native.Mathlib.Omega.{arith}
 use lib.ListN.{length, take, drop}
 use lib.Ieee.{Float}
+use Rattle.std.specs.Prelude.{Some, None, Ok}
 use Rattle.words.specs.Words.{◌!◌}
+use Rattle.std.specs.Result.{is_ok}
+use Rattle.std.proofs.lemmas.List.{length-take}
 use Rattle.dense.specs.Answers.{Interpolation}
+use Rattle.dense.proofs.Theorems.{done}
 use Rattle.dense.specs.Interpolate.{interpolate_of}
 use Rattle.shelf.specs.declared.answers.Shelf.{Shelf}
-use Rattle.shelf.specs.declared.answers.Asking.TheVariants as asking
-use Rattle.shelf.specs.declared.finding.Found.TheVariants.{At, Nothing}
 use Rattle.shelf.specs.Answers.{asked}
 use Rattle.shelf.specs.Finding.{found_from}
 use Rattle.shelf.specs.Refusals.{room_fits, shelf_fits}
@@ -26,7 +28,7 @@ record Inside (n c e place : ℕ) : Type 0 where
   end : 2 * place + 1 < e
 
 inside : (n c : ℕ) (s : Shelf) (x : Float) (ends : List Float) (place : ℕ) → room_fits n c (length ends) ≡ true
-    → shelf_fits s ≡ true → At place ≡ found_from x ends s.place s.steps → Inside n c (length ends) place
+    → shelf_fits s ≡ true → Some place ≡ found_from x ends s.place s.steps → Inside n c (length ends) place
 inside n c s x ends place wide fits e =
     let room = room-fit n c (length ends) wide in
     let low : place ≤ 47 = subst Low (sym e) (found-low x ends s.steps s.place (shelf-fit s fits).place) in
@@ -43,104 +45,114 @@ returns-then-not-shelf_fits c = let a = c.args in
     (sym c.room_fits.ensures ∙ c.if-not-room_fits.false)
     (sym c.shelf_fits.ensures ∙ c.if-not-shelf_fits.true)
 
-pub find-found-requires : goal.find-found-requires
-find-found-requires c = (
+pub find-requires : goal.find-requires
+find-requires c = (
   (room-fit _ _ _ (sym c.room_fits.ensures ∙ c.if-not-room_fits.false)).ends,
   (shelf-fit _ (sym c.shelf_fits.ensures ∙ c.if-not-shelf_fits.false)).place,
 )
 
-pub overflow_mul-start-in-At : goal.overflow_mul-start-in-At
-overflow_mul-start-in-At c = let a = c.args in
-    let known = inside (length a.target.now) (length a.coefficients.now) a.shelf a.x a.ends.now c.in-At.place
+pub overflow_mul-start-2 : goal.overflow_mul-start-2
+overflow_mul-start-2 c = let a = c.args in
+    let known = inside (length a.target.now) (length a.coefficients.now) a.shelf a.x a.ends.now c.in-Some.place
     (sym c.room_fits.ensures ∙ c.if-not-room_fits.false) (sym c.shelf_fits.ensures ∙ c.if-not-shelf_fits.false)
-    c.in-At.ensures in
+    c.in-Some.ensures in
     omega (arith, known.room)
 
-pub overflow_add-end : goal.overflow_add-end
-overflow_add-end c = let a = c.args in
-    let known = inside (length a.target.now) (length a.coefficients.now) a.shelf a.x a.ends.now c.in-At.place
+pub overflow_add-part : goal.overflow_add-part
+overflow_add-part c = let a = c.args in
+    let known = inside (length a.target.now) (length a.coefficients.now) a.shelf a.x a.ends.now c.in-Some.place
     (sym c.room_fits.ensures ∙ c.if-not-room_fits.false) (sym c.shelf_fits.ensures ∙ c.if-not-shelf_fits.false)
-    c.in-At.ensures in
+    c.in-Some.ensures in
     omega (arith, known.room)
 
 pub offset_bounds-coefficients-start : goal.offset_bounds-coefficients-start
 offset_bounds-coefficients-start c = let a = c.args in
-    let known = inside (length a.target.now) (length a.coefficients.now) a.shelf a.x a.ends.now c.in-At.place
+    let known = inside (length a.target.now) (length a.coefficients.now) a.shelf a.x a.ends.now c.in-Some.place
     (sym c.room_fits.ensures ∙ c.if-not-room_fits.false) (sym c.shelf_fits.ensures ∙ c.if-not-shelf_fits.false)
-    c.in-At.ensures in
+    c.in-Some.ensures in
     omega (arith, known.room)
 
-pub slice_bounds-interpolate-end : goal.slice_bounds-interpolate-end
-slice_bounds-interpolate-end c = let a = c.args in
-    let known = inside (length a.target.now) (length a.coefficients.now) a.shelf a.x a.ends.now c.in-At.place
+pub slice_bounds-part-end : goal.slice_bounds-part-end
+slice_bounds-part-end c = let a = c.args in
+    let known = inside (length a.target.now) (length a.coefficients.now) a.shelf a.x a.ends.now c.in-Some.place
     (sym c.room_fits.ensures ∙ c.if-not-room_fits.false) (sym c.shelf_fits.ensures ∙ c.if-not-shelf_fits.false)
-    c.in-At.ensures in
+    c.in-Some.ensures in
     omega (arith, known.room)
 
 pub overflow_mul-place : goal.overflow_mul-place
 overflow_mul-place c = let a = c.args in
-    let known = inside (length a.target.now) (length a.coefficients.now) a.shelf a.x a.ends.now c.in-At.place
+    let known = inside (length a.target.now) (length a.coefficients.now) a.shelf a.x a.ends.now c.in-Some.place
     (sym c.room_fits.ensures ∙ c.if-not-room_fits.false) (sym c.shelf_fits.ensures ∙ c.if-not-shelf_fits.false)
-    c.in-At.ensures in
+    c.in-Some.ensures in
     omega (arith, known.end)
 
 pub offset_bounds-ends-place : goal.offset_bounds-ends-place
 offset_bounds-ends-place c = let a = c.args in
-    let known = inside (length a.target.now) (length a.coefficients.now) a.shelf a.x a.ends.now c.in-At.place
+    let known = inside (length a.target.now) (length a.coefficients.now) a.shelf a.x a.ends.now c.in-Some.place
     (sym c.room_fits.ensures ∙ c.if-not-room_fits.false) (sym c.shelf_fits.ensures ∙ c.if-not-shelf_fits.false)
-    c.in-At.ensures in
+    c.in-Some.ensures in
     omega (arith, known.end)
 
 pub bounds-ends-place : goal.bounds-ends-place
 bounds-ends-place c = let a = c.args in
-    let known = inside (length a.target.now) (length a.coefficients.now) a.shelf a.x a.ends.now c.in-At.place
+    let known = inside (length a.target.now) (length a.coefficients.now) a.shelf a.x a.ends.now c.in-Some.place
     (sym c.room_fits.ensures ∙ c.if-not-room_fits.false) (sym c.shelf_fits.ensures ∙ c.if-not-shelf_fits.false)
-    c.in-At.ensures in
+    c.in-Some.ensures in
     omega (arith, known.end)
 
-pub overflow_mul-place-in-At : goal.overflow_mul-place-in-At
-overflow_mul-place-in-At c = let a = c.args in
-    let known = inside (length a.target.now) (length a.coefficients.now) a.shelf a.x a.ends.now c.in-At.place
+pub overflow_mul-place-2 : goal.overflow_mul-place-2
+overflow_mul-place-2 c = let a = c.args in
+    let known = inside (length a.target.now) (length a.coefficients.now) a.shelf a.x a.ends.now c.in-Some.place
     (sym c.room_fits.ensures ∙ c.if-not-room_fits.false) (sym c.shelf_fits.ensures ∙ c.if-not-shelf_fits.false)
-    c.in-At.ensures in
+    c.in-Some.ensures in
     omega (arith, known.end)
 
 pub overflow_add-place : goal.overflow_add-place
 overflow_add-place c = let a = c.args in
-    let known = inside (length a.target.now) (length a.coefficients.now) a.shelf a.x a.ends.now c.in-At.place
+    let known = inside (length a.target.now) (length a.coefficients.now) a.shelf a.x a.ends.now c.in-Some.place
     (sym c.room_fits.ensures ∙ c.if-not-room_fits.false) (sym c.shelf_fits.ensures ∙ c.if-not-shelf_fits.false)
-    c.in-At.ensures in
+    c.in-Some.ensures in
     omega (arith, known.end)
 
-pub offset_bounds-ends-place-in-At : goal.offset_bounds-ends-place-in-At
-offset_bounds-ends-place-in-At c = let a = c.args in
-    let known = inside (length a.target.now) (length a.coefficients.now) a.shelf a.x a.ends.now c.in-At.place
+pub offset_bounds-ends-place-2 : goal.offset_bounds-ends-place-2
+offset_bounds-ends-place-2 c = let a = c.args in
+    let known = inside (length a.target.now) (length a.coefficients.now) a.shelf a.x a.ends.now c.in-Some.place
     (sym c.room_fits.ensures ∙ c.if-not-room_fits.false) (sym c.shelf_fits.ensures ∙ c.if-not-shelf_fits.false)
-    c.in-At.ensures in
+    c.in-Some.ensures in
     omega (arith, known.end)
 
-pub bounds-ends-place-in-At : goal.bounds-ends-place-in-At
-bounds-ends-place-in-At c = let a = c.args in
-    let known = inside (length a.target.now) (length a.coefficients.now) a.shelf a.x a.ends.now c.in-At.place
+pub bounds-ends-place-2 : goal.bounds-ends-place-2
+bounds-ends-place-2 c = let a = c.args in
+    let known = inside (length a.target.now) (length a.coefficients.now) a.shelf a.x a.ends.now c.in-Some.place
     (sym c.room_fits.ensures ∙ c.if-not-room_fits.false) (sym c.shelf_fits.ensures ∙ c.if-not-shelf_fits.false)
-    c.in-At.ensures in
+    c.in-Some.ensures in
     omega (arith, known.end)
 
-pub returns-in-At : goal.returns-in-At
-returns-in-At c = let a = c.args in
-    let place = c.in-At.place in
+pub returns-in_default : goal.returns-in_default
+returns-in_default c = let a = c.args in
+    ask-found a.shelf a.x a.target.now a.coefficients.now a.ends.now
+    (sym c.room_fits.ensures ∙ c.if-not-room_fits.false) (sym c.shelf_fits.ensures ∙ c.if-not-shelf_fits.false)
+    None c.in_default.ensures refl
+
+pub unwrap-requires : goal.unwrap-requires
+unwrap-requires c = let a = c.args in
+    let n = length a.target.now in
+    let start = c.in-Some.place * (4 * n) in
+    let part = take (start + 4 * n - start) (drop start a.coefficients.now) in
+    let enough : length part / 4 ≤ n = simp length-take (omega arith) in
+    ap (λ (o : Interpolation). is_ok o.answer) c.interpolate.ensures
+    ∙ ap is_ok (done a.x a.target.now part (a.ends.now ! (2 * c.in-Some.place))
+    (a.ends.now ! (2 * c.in-Some.place + 1)) enough)
+
+pub returns : goal.returns
+returns c = let a = c.args in
+    let place = c.in-Some.place in
     let n = length a.target.now in
     let size : place * (4 * n) + 4 * n - place * (4 * n) ≡ 4 * n = omega arith in
     ask-found a.shelf a.x a.target.now a.coefficients.now a.ends.now
     (sym c.room_fits.ensures ∙ c.if-not-room_fits.false) (sym c.shelf_fits.ensures ∙ c.if-not-shelf_fits.false)
-    (At place) c.in-At.ensures
-    (ap (λ (o : Interpolation). asked asking.Answered o.yi) c.interpolate.ensures
-    ∙ ap (λ k. asked asking.Answered (interpolate_of a.x a.target.now
+    (Some place) c.in-Some.ensures
+    (ap (λ (o : Interpolation). asked (Ok tt) o.yi) c.interpolate.ensures
+    ∙ ap (λ k. asked (Ok tt) (interpolate_of a.x a.target.now
     (take k (drop (place * (4 * n)) a.coefficients.now)) (a.ends.now ! (2 * place))
     (a.ends.now ! (2 * place + 1))).yi) size)
-
-pub returns-in-Nothing : goal.returns-in-Nothing
-returns-in-Nothing c = let a = c.args in
-    ask-found a.shelf a.x a.target.now a.coefficients.now a.ends.now
-    (sym c.room_fits.ensures ∙ c.if-not-room_fits.false) (sym c.shelf_fits.ensures ∙ c.if-not-shelf_fits.false)
-    Nothing c.in-Nothing.ensures refl

@@ -1,11 +1,8 @@
--- What each loop of `find` keeps.
-use Prim.Native.Nat.{◌≤◌}
-use mathlib.Core.Path.{◌≡◌}
+-- What the loop of `find` keeps.
+use Rattle.std.proofs.Common.{◌≡◌, ◌-◌, ◌≤◌}
 use Rattle.shelf.specs.Finding.{found_from}
 use Rattle.shelf.proofs.finding.find.Given as goal
 
-abbrev pub invariant-loop-left : goal.invariant-loop-left
-invariant-loop-left l = (l.at ≤ 47) × (found_from l.x l.ends l.at l.left ≡ found_from l.x l.ends l.place l.steps)
-
-abbrev pub decreases-loop-left : goal.decreases-loop-left
-decreases-loop-left l = l.left
+abbrev pub invariant-loop : goal.invariant-loop
+invariant-loop l =
+    (l.at ≤ 47) × (found_from l.x l.ends l.at (l.steps - l.counter) ≡ found_from l.x l.ends l.place l.steps)

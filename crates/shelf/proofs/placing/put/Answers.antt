@@ -3,13 +3,14 @@ use Prim.Native.Nat.{ℕ, ◌+◌, ◌*◌, ◌/◌, ◌%◌, ◌≤◌}
 use mathlib.Core.Path.{◌≡◌, sym, ◌∙◌}
 use mathlib.Core.Bool.{true}
 use native.Mathlib.Omega.{arith}
-use lib.ListN.{length, length-set}
+use mathlib.Core.List.{[], ◌∷◌}
+use lib.ListN.{length}
+use Rattle.std.specs.Prelude.{Ok}
 use Rattle.shelf.specs.declared.answers.Shelf.{Shelf}
-use Rattle.shelf.specs.declared.answers.Placing.TheVariants as placing
 use Rattle.shelf.specs.Shelf.{shelf}
 use Rattle.shelf.specs.Answers.{placed}
 use Rattle.shelf.specs.Refusals.{room_fits, shelf_fits}
-use Rattle.shelf.proofs.Over.{over-two}
+use Rattle.shelf.proofs.Over.{put-over}
 use Rattle.shelf.proofs.TestLaws.{room-fit, shelf-fit, within-room}
 use Rattle.shelf.proofs.PutLaws.{put-uneven, put-narrow, put-unfit, put-done}
 use Rattle.shelf.proofs.placing.put.Goals as goal
@@ -49,59 +50,29 @@ returns-then-not-shelf_fits c = let a = c.args in
     c.if-cont-ne0.false (sym c.room_fits.ensures ∙ c.if-not-room_fits.false)
     (sym c.shelf_fits.ensures ∙ c.if-not-shelf_fits.true)
 
-pub overflow_mul-place : goal.overflow_mul-place
-overflow_mul-place c = let a = c.args in
+pub overflow_mul-start : goal.overflow_mul-start
+overflow_mul-start c = let a = c.args in
     let known = tested (length a.cont.now) (length a.coefficients.now) (length a.ends.now) a.shelf c.if-cont-ne0.false
     (sym c.room_fits.ensures ∙ c.if-not-room_fits.false) (sym c.shelf_fits.ensures ∙ c.if-not-shelf_fits.false) in
     omega (arith, known.room)
 
-pub copy-requires : goal.copy-requires
-copy-requires c = let a = c.args in
+pub overflow_add-start : goal.overflow_add-start
+overflow_add-start c = let a = c.args in
     let known = tested (length a.cont.now) (length a.coefficients.now) (length a.ends.now) a.shelf c.if-cont-ne0.false
     (sym c.room_fits.ensures ∙ c.if-not-room_fits.false) (sym c.shelf_fits.ensures ∙ c.if-not-shelf_fits.false) in
-    known.room
+    omega (arith, known.room)
 
-pub overflow_mul-ends : goal.overflow_mul-ends
-overflow_mul-ends c = let a = c.args in
+pub offset_bounds-coefficients-start : goal.offset_bounds-coefficients-start
+offset_bounds-coefficients-start c = let a = c.args in
     let known = tested (length a.cont.now) (length a.coefficients.now) (length a.ends.now) a.shelf c.if-cont-ne0.false
     (sym c.room_fits.ensures ∙ c.if-not-room_fits.false) (sym c.shelf_fits.ensures ∙ c.if-not-shelf_fits.false) in
-    omega (arith, known.ends)
+    omega (arith, known.room)
 
-pub offset_bounds-ends-place : goal.offset_bounds-ends-place
-offset_bounds-ends-place c = let a = c.args in
+pub slice_bounds-copy_from_slice-end : goal.slice_bounds-copy_from_slice-end
+slice_bounds-copy_from_slice-end c = let a = c.args in
     let known = tested (length a.cont.now) (length a.coefficients.now) (length a.ends.now) a.shelf c.if-cont-ne0.false
     (sym c.room_fits.ensures ∙ c.if-not-room_fits.false) (sym c.shelf_fits.ensures ∙ c.if-not-shelf_fits.false) in
-    omega (arith, known.ends)
-
-pub bounds-ends-place : goal.bounds-ends-place
-bounds-ends-place c = let a = c.args in
-    let known = tested (length a.cont.now) (length a.coefficients.now) (length a.ends.now) a.shelf c.if-cont-ne0.false
-    (sym c.room_fits.ensures ∙ c.if-not-room_fits.false) (sym c.shelf_fits.ensures ∙ c.if-not-shelf_fits.false) in
-    omega (arith, known.ends)
-
-pub overflow_mul-ends-2 : goal.overflow_mul-ends-2
-overflow_mul-ends-2 c = let a = c.args in
-    let known = tested (length a.cont.now) (length a.coefficients.now) (length a.ends.now) a.shelf c.if-cont-ne0.false
-    (sym c.room_fits.ensures ∙ c.if-not-room_fits.false) (sym c.shelf_fits.ensures ∙ c.if-not-shelf_fits.false) in
-    omega (arith, known.ends)
-
-pub overflow_add-ends : goal.overflow_add-ends
-overflow_add-ends c = let a = c.args in
-    let known = tested (length a.cont.now) (length a.coefficients.now) (length a.ends.now) a.shelf c.if-cont-ne0.false
-    (sym c.room_fits.ensures ∙ c.if-not-room_fits.false) (sym c.shelf_fits.ensures ∙ c.if-not-shelf_fits.false) in
-    omega (arith, known.ends)
-
-pub offset_bounds-ends-place-2 : goal.offset_bounds-ends-place-2
-offset_bounds-ends-place-2 c = let a = c.args in
-    let known = tested (length a.cont.now) (length a.coefficients.now) (length a.ends.now) a.shelf c.if-cont-ne0.false
-    (sym c.room_fits.ensures ∙ c.if-not-room_fits.false) (sym c.shelf_fits.ensures ∙ c.if-not-shelf_fits.false) in
-    omega (arith, known.ends)
-
-pub bounds-ends-place-2 : goal.bounds-ends-place-2
-bounds-ends-place-2 c = let a = c.args in
-    let known = tested (length a.cont.now) (length a.coefficients.now) (length a.ends.now) a.shelf c.if-cont-ne0.false
-    (sym c.room_fits.ensures ∙ c.if-not-room_fits.false) (sym c.shelf_fits.ensures ∙ c.if-not-shelf_fits.false) in
-    simp length-set (omega (arith, known.ends))
+    omega (arith, known.room)
 
 pub steps_after-requires : goal.steps_after-requires
 steps_after-requires c = let a = c.args in
@@ -115,15 +86,36 @@ place_after-requires c = let a = c.args in
     (sym c.room_fits.ensures ∙ c.if-not-room_fits.false) (sym c.shelf_fits.ensures ∙ c.if-not-shelf_fits.false) in
     known.place
 
+pub overflow_mul-end : goal.overflow_mul-end
+overflow_mul-end c = let a = c.args in
+    let known = tested (length a.cont.now) (length a.coefficients.now) (length a.ends.now) a.shelf c.if-cont-ne0.false
+    (sym c.room_fits.ensures ∙ c.if-not-room_fits.false) (sym c.shelf_fits.ensures ∙ c.if-not-shelf_fits.false) in
+    omega (arith, known.ends)
+
+pub overflow_add-end : goal.overflow_add-end
+overflow_add-end c = let a = c.args in
+    let known = tested (length a.cont.now) (length a.coefficients.now) (length a.ends.now) a.shelf c.if-cont-ne0.false
+    (sym c.room_fits.ensures ∙ c.if-not-room_fits.false) (sym c.shelf_fits.ensures ∙ c.if-not-shelf_fits.false) in
+    omega (arith, known.ends)
+
+pub offset_bounds-ends-end : goal.offset_bounds-ends-end
+offset_bounds-ends-end c = let a = c.args in
+    let known = tested (length a.cont.now) (length a.coefficients.now) (length a.ends.now) a.shelf c.if-cont-ne0.false
+    (sym c.room_fits.ensures ∙ c.if-not-room_fits.false) (sym c.shelf_fits.ensures ∙ c.if-not-shelf_fits.false) in
+    omega (arith, known.ends)
+
+pub slice_bounds-copy_from_slice-end-2 : goal.slice_bounds-copy_from_slice-end-2
+slice_bounds-copy_from_slice-end-2 c = let a = c.args in
+    let known = tested (length a.cont.now) (length a.coefficients.now) (length a.ends.now) a.shelf c.if-cont-ne0.false
+    (sym c.room_fits.ensures ∙ c.if-not-room_fits.false) (sym c.shelf_fits.ensures ∙ c.if-not-shelf_fits.false) in
+    omega (arith, known.ends)
+
 pub returns : goal.returns
 returns c = let a = c.args in
     let wide = sym c.room_fits.ensures ∙ c.if-not-room_fits.false in
     let fits = sym c.shelf_fits.ensures ∙ c.if-not-shelf_fits.false in
-    let known = tested (length a.cont.now) (length a.coefficients.now) (length a.ends.now) a.shelf c.if-cont-ne0.false
-    wide fits in
-    let first = c.copy.ensures in
-    let second = over-two (2 * a.shelf.place) a.xold a.h a.ends.now known.ends in
     put-done a.shelf a.cont.now a.xold a.h a.coefficients.now a.ends.now
     c.if-cont-ne0.false wide fits
-    (λ i. placed (placing.Kept (shelf (c.steps_after.ensures i) (c.place_after.ensures i))) (first i)
-    (second i))
+    (λ i. placed (Ok (shelf (c.steps_after.ensures i) (c.place_after.ensures i)))
+    (put-over (a.shelf.place * length a.cont.now) a.cont.now a.coefficients.now c.copy_from_slice.ensures.after i)
+    (put-over (2 * a.shelf.place) (a.xold ∷ a.h ∷ []) a.ends.now c.copy_from_slice-2.ensures.after i))

@@ -1,11 +1,7 @@
 -- `zero` meets its contract.
 use Rattle.state.specs.Memory.{zeros}
-use Rattle.state.proofs.FillLaws.{put_next, filled}
 use Rattle.state.proofs.parts.zero.Goals as goal
-
-pub loop-i-preserved : goal.loop-i-preserved
-loop-i-preserved c = put_next c.loop-i.invariant c.loop-i-test.true
 
 pub returns : goal.returns
 unfolding zeros
-returns c = filled c.loop-i.invariant c.loop-i-test.false
+returns c = c.fill.ensures.after (λ y e. e)

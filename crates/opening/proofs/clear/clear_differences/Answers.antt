@@ -1,5 +1,0 @@
--- `clear_differences` meets its contract.
-use Rattle.opening.proofs.clear.clear_differences.Goals as goal
-
-pub returns : goal.returns
-returns c = rw (c.zero.ensures, c.zero-2.ensures, c.zero-3.ensures)

@@ -1,7 +1,0 @@
--- What each loop of `meet_pivots` keeps.
-use mathlib.Core.Path.{◌≡◌}
-use lib.ListN.{length}
-use Rattle.replay_matrix.proofs.memory.meet_pivots.Given as goal
-
-abbrev pub invariant-loop-i : goal.invariant-loop-i
-invariant-loop-i g l = l.i-end ≡ length l.part

@@ -1,6 +1,0 @@
--- What each loop of `taken_pivots` keeps.
-use Rattle.std.proofs.Common.{◌≤◌, length}
-use Rattle.replay_run.proofs.memory.taken_pivots.Given as goal
-
-abbrev pub invariant-loop-i : goal.invariant-loop-i
-invariant-loop-i l = l.i-end ≤ length l.part
