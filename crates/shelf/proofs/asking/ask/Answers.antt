@@ -21,6 +21,7 @@ use Rattle.shelf.proofs.TestLaws.{room-fit, shelf-fit, within-room}
 use Rattle.shelf.proofs.FindLaws.{Low, found-low}
 use Rattle.shelf.proofs.AskLaws.{ask-narrow, ask-unfit, ask-found}
 use Rattle.shelf.proofs.asking.ask.Goals as goal
+use Rattle.shelf.proofs.asking.ask.Goals.{In-Some}
 
 -- what is known of the place that was found, among the parts of 48 steps of n amounts
 record Inside (n c e place : ℕ) : Type 0 where
@@ -33,6 +34,12 @@ inside n c s x ends place wide fits e =
     let room = room-fit n c (length ends) wide in
     let low : place ≤ 47 = subst Low (sym e) (found-low x ends s.steps s.place (shelf-fit s fits).place) in
     record { room = within-room n (4 * n) c place refl room.coefficients low; end = omega (arith, low, room.ends) }
+
+known : (c : In-Some)
+    → Inside (length c.args.target.now) (length c.args.coefficients.now) (length c.args.ends.now) c.in-Some.place
+known c =
+    inside _ _ c.args.shelf c.args.x c.args.ends.now _ (sym c.room_fits.ensures ∙ c.if-not-room_fits.false)
+    (sym c.shelf_fits.ensures ∙ c.if-not-shelf_fits.false) c.in-Some.ensures
 
 pub returns-then-not-room_fits : goal.returns-then-not-room_fits
 returns-then-not-room_fits c = let a = c.args in
@@ -52,81 +59,37 @@ find-requires c = (
 )
 
 pub overflow_mul-start-2 : goal.overflow_mul-start-2
-overflow_mul-start-2 c = let a = c.args in
-    let known = inside (length a.target.now) (length a.coefficients.now) a.shelf a.x a.ends.now c.in-Some.place
-    (sym c.room_fits.ensures ∙ c.if-not-room_fits.false) (sym c.shelf_fits.ensures ∙ c.if-not-shelf_fits.false)
-    c.in-Some.ensures in
-    omega (arith, known.room)
+overflow_mul-start-2 c = omega (arith, (known (goal.at.overflow_mul-start-2 c).In-Some).room)
 
 pub overflow_add-part : goal.overflow_add-part
-overflow_add-part c = let a = c.args in
-    let known = inside (length a.target.now) (length a.coefficients.now) a.shelf a.x a.ends.now c.in-Some.place
-    (sym c.room_fits.ensures ∙ c.if-not-room_fits.false) (sym c.shelf_fits.ensures ∙ c.if-not-shelf_fits.false)
-    c.in-Some.ensures in
-    omega (arith, known.room)
+overflow_add-part c = omega (arith, (known (goal.at.overflow_add-part c).In-Some).room)
 
 pub offset_bounds-coefficients-start : goal.offset_bounds-coefficients-start
-offset_bounds-coefficients-start c = let a = c.args in
-    let known = inside (length a.target.now) (length a.coefficients.now) a.shelf a.x a.ends.now c.in-Some.place
-    (sym c.room_fits.ensures ∙ c.if-not-room_fits.false) (sym c.shelf_fits.ensures ∙ c.if-not-shelf_fits.false)
-    c.in-Some.ensures in
-    omega (arith, known.room)
+offset_bounds-coefficients-start c = omega (arith, (known (goal.at.offset_bounds-coefficients-start c).In-Some).room)
 
 pub slice_bounds-part-end : goal.slice_bounds-part-end
-slice_bounds-part-end c = let a = c.args in
-    let known = inside (length a.target.now) (length a.coefficients.now) a.shelf a.x a.ends.now c.in-Some.place
-    (sym c.room_fits.ensures ∙ c.if-not-room_fits.false) (sym c.shelf_fits.ensures ∙ c.if-not-shelf_fits.false)
-    c.in-Some.ensures in
-    omega (arith, known.room)
+slice_bounds-part-end c = omega (arith, (known (goal.at.slice_bounds-part-end c).In-Some).room)
 
 pub overflow_mul-place : goal.overflow_mul-place
-overflow_mul-place c = let a = c.args in
-    let known = inside (length a.target.now) (length a.coefficients.now) a.shelf a.x a.ends.now c.in-Some.place
-    (sym c.room_fits.ensures ∙ c.if-not-room_fits.false) (sym c.shelf_fits.ensures ∙ c.if-not-shelf_fits.false)
-    c.in-Some.ensures in
-    omega (arith, known.end)
+overflow_mul-place c = omega (arith, (known (goal.at.overflow_mul-place c).In-Some).end)
 
 pub offset_bounds-ends-place : goal.offset_bounds-ends-place
-offset_bounds-ends-place c = let a = c.args in
-    let known = inside (length a.target.now) (length a.coefficients.now) a.shelf a.x a.ends.now c.in-Some.place
-    (sym c.room_fits.ensures ∙ c.if-not-room_fits.false) (sym c.shelf_fits.ensures ∙ c.if-not-shelf_fits.false)
-    c.in-Some.ensures in
-    omega (arith, known.end)
+offset_bounds-ends-place c = omega (arith, (known (goal.at.offset_bounds-ends-place c).In-Some).end)
 
 pub bounds-ends-place : goal.bounds-ends-place
-bounds-ends-place c = let a = c.args in
-    let known = inside (length a.target.now) (length a.coefficients.now) a.shelf a.x a.ends.now c.in-Some.place
-    (sym c.room_fits.ensures ∙ c.if-not-room_fits.false) (sym c.shelf_fits.ensures ∙ c.if-not-shelf_fits.false)
-    c.in-Some.ensures in
-    omega (arith, known.end)
+bounds-ends-place c = omega (arith, (known (goal.at.bounds-ends-place c).In-Some).end)
 
 pub overflow_mul-place-2 : goal.overflow_mul-place-2
-overflow_mul-place-2 c = let a = c.args in
-    let known = inside (length a.target.now) (length a.coefficients.now) a.shelf a.x a.ends.now c.in-Some.place
-    (sym c.room_fits.ensures ∙ c.if-not-room_fits.false) (sym c.shelf_fits.ensures ∙ c.if-not-shelf_fits.false)
-    c.in-Some.ensures in
-    omega (arith, known.end)
+overflow_mul-place-2 c = omega (arith, (known (goal.at.overflow_mul-place-2 c).In-Some).end)
 
 pub overflow_add-place : goal.overflow_add-place
-overflow_add-place c = let a = c.args in
-    let known = inside (length a.target.now) (length a.coefficients.now) a.shelf a.x a.ends.now c.in-Some.place
-    (sym c.room_fits.ensures ∙ c.if-not-room_fits.false) (sym c.shelf_fits.ensures ∙ c.if-not-shelf_fits.false)
-    c.in-Some.ensures in
-    omega (arith, known.end)
+overflow_add-place c = omega (arith, (known (goal.at.overflow_add-place c).In-Some).end)
 
 pub offset_bounds-ends-place-2 : goal.offset_bounds-ends-place-2
-offset_bounds-ends-place-2 c = let a = c.args in
-    let known = inside (length a.target.now) (length a.coefficients.now) a.shelf a.x a.ends.now c.in-Some.place
-    (sym c.room_fits.ensures ∙ c.if-not-room_fits.false) (sym c.shelf_fits.ensures ∙ c.if-not-shelf_fits.false)
-    c.in-Some.ensures in
-    omega (arith, known.end)
+offset_bounds-ends-place-2 c = omega (arith, (known (goal.at.offset_bounds-ends-place-2 c).In-Some).end)
 
 pub bounds-ends-place-2 : goal.bounds-ends-place-2
-bounds-ends-place-2 c = let a = c.args in
-    let known = inside (length a.target.now) (length a.coefficients.now) a.shelf a.x a.ends.now c.in-Some.place
-    (sym c.room_fits.ensures ∙ c.if-not-room_fits.false) (sym c.shelf_fits.ensures ∙ c.if-not-shelf_fits.false)
-    c.in-Some.ensures in
-    omega (arith, known.end)
+bounds-ends-place-2 c = omega (arith, (known (goal.at.bounds-ends-place-2 c).In-Some).end)
 
 pub returns-in_default : goal.returns-in_default
 returns-in_default c = let a = c.args in
