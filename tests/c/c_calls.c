@@ -266,6 +266,16 @@ static void nights(void) {
     elchepur_totals_fed(forged, (const uint8_t *)two, strlen(two));
     same("a place outside the line", elchepur_totals_told(forged, totals, &line), ELCHEPUR_REFUSED_SHEET_LINE);
     same("the line behind those that are said to be there", line, 4);
+    elchepur_totals_start(forged);
+    forged[18] = 9;
+    elchepur_totals_fed(forged, (const uint8_t *)"status ", 7);
+    same("a value stays where no number has begun", forged[18], 9);
+    elchepur_totals_fed(forged, (const uint8_t *)"0", 1);
+    same("a number takes its place", forged[18], 0);
+    forged[15] = forged[20] = 5;
+    elchepur_totals_fed(forged, (const uint8_t *)two, strlen(two));
+    same("behind a line too many a flag stays, as 1", forged[15], 1);
+    same("so does the flag of a wrong line", forged[20], 1);
 }
 
 // Two totals joined, each test of 28 failed on either side in turn, and lines up to the last that are taken.

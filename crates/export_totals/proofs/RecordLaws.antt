@@ -1,5 +1,5 @@
 -- What one call packs the next unpacks, and so pieces over the border come to the whole text.
-use Rattle.std.proofs.Common.{◌≡◌, ℕ, ◌↔◌, List, [], ◌∷◌, Option, None, Some, Result, refl, ap, ◌∙◌}
+use Rattle.std.proofs.Common.{◌≡◌, ℕ, ◌↔◌, List, [], ◌∷◌, Option, None, Some, Result, Bool, refl, ap, ◌∙◌}
 use Rattle.words.specs.Loop.{pick}
 use Rattle.night_totals.specs.Night.{start_of, fed_of, told_of}
 use Rattle.night_totals.specs.Reads.{Reads}
@@ -9,50 +9,61 @@ use Rattle.night_totals.specs.declared.night.Stand.{Stand}
 use Rattle.night_totals.specs.declared.night.Stand.TheVariants as stands
 use Rattle.night_totals.specs.declared.night.NightError.{NightError}
 use Rattle.night_totals.proofs.Theorems.{borders-hidden, told-exactly}
-use Rattle.export_totals.specs.Record.{beyond_word, wrong_word, begun_word, value_word, words_of}
-use Rattle.export_totals.specs.Record.{stand_from, number_from, night_from}
+use Rattle.export_totals.specs.declared.held.Held.{Held}
+use Rattle.export_totals.specs.Held.{held_of, held_fed}
+use Rattle.export_totals.specs.Record.{beyond_word, wrong_word, begun_word, value_word, held_words, words_of}
+use Rattle.export_totals.specs.Record.{stand_from, number_from, night_from, held_from, fed_words}
 use Rattle.export_totals.specs.Border.{taken_from, taken_of, whole_of}
+use Rattle.export_totals.proofs.FedLaws.{night-fed}
 
 -- ---- read back
 
-stand-back : (s : Stand) → stand_from (beyond_word s) (wrong_word s) ≡ s
+stand-back : (s : Stand) (w : Bool) → stand_from (beyond_word s) (wrong_word s w) ≡ s
 unfolding pick
-stand-back stands.Open = refl
-stand-back stands.Wrong = refl
-stand-back stands.Beyond = refl
+stand-back stands.Open w = refl
+stand-back stands.Wrong w = refl
+stand-back stands.Beyond w = refl
 
-number-back : (o : Option ℕ) → number_from (begun_word o) (value_word o) ≡ o
+number-back : (o : Option ℕ) (idle : ℕ) → number_from (begun_word o) (value_word o idle) ≡ o
 unfolding pick
-number-back None = refl
-number-back (Some v) = refl
+number-back None idle = refl
+number-back (Some v) idle = refl
 
-pub unpacked : (n : Night) → night_from (words_of n) ≡ n
-unfolding night_from words_of
-unpacked n =
+-- whatever else the words hold
+held-back : (h : Held) → night_from (held_words h) ≡ h.night
+unfolding night_from held_words
+held-back h =
     λ i.
     record {
-      stand = stand-back n.stand i;
+      stand = stand-back h.night.stand h.wrong i;
       filling = record {
-        at = n.filling.at;
-        number = number-back n.filling.number i;
-        filled = n.filling.filled;
-        values = n.filling.values;
+        at = h.night.filling.at;
+        number = number-back h.night.filling.number h.idle i;
+        filled = h.night.filling.filled;
+        values = h.night.filling.values;
       };
-      totals = n.totals;
+      totals = h.night.totals;
     }
 
--- pieces that were taken one after the other from the words of a record
-taken-from : (n : Night) (pieces : List (List ℕ))
-    → night_from (taken_from (words_of n) pieces) ≡ fed_of n (whole_of pieces)
+pub unpacked : (n : Night) → night_from (words_of n) ≡ n
+unpacked n = held-back (held_of n)
+
+-- a piece that any words take, told by their night
+pub fed-words : (words piece : List ℕ) → night_from (fed_words words piece) ≡ fed_of (night_from words) piece
+fed-words words piece = held-back (held_fed (held_from words) piece) ∙ night-fed (held_from words) piece
+
+-- pieces that any words take one after the other
+taken-from : (words : List ℕ) (pieces : List (List ℕ))
+    → night_from (taken_from words pieces) ≡ fed_of (night_from words) (whole_of pieces)
 unfolding taken_from whole_of fed_of
-taken-from n [] = unpacked n
-taken-from n (piece ∷ pieces) =
-    ap (λ (m : Night). night_from (taken_from (words_of (fed_of m piece)) pieces)) (unpacked n)
-    ∙ taken-from (fed_of n piece) pieces
-    ∙ borders-hidden n piece (whole_of pieces)
+taken-from words [] = refl
+taken-from words (piece ∷ pieces) =
+    taken-from (fed_words words piece) pieces
+    ∙ ap (λ (m : Night). fed_of m (whole_of pieces)) (fed-words words piece)
+    ∙ borders-hidden (night_from words) piece (whole_of pieces)
 
 pub taken : (pieces : List (List ℕ)) → night_from (taken_of pieces) ≡ fed_of start_of (whole_of pieces)
-taken pieces = taken-from start_of pieces
+taken pieces = taken-from (words_of start_of) pieces ∙ ap (λ m. fed_of m (whole_of pieces)) (unpacked start_of)
 
 pub told-of-pieces-proof : (pieces : List (List ℕ)) (a : Result Totals NightError)
     → (told_of (night_from (taken_of pieces)) ≡ a) ↔ Reads (whole_of pieces) a

@@ -9,13 +9,17 @@ use Rattle.night_totals.specs.Reads.{Reads}
 use Rattle.night_totals.specs.declared.night.Night.{Night}
 use Rattle.night_totals.specs.declared.totals.Totals.{Totals}
 use Rattle.night_totals.specs.declared.night.NightError.{NightError}
-use Rattle.export_totals.specs.Record.{words_of, night_from}
+use Rattle.export_totals.specs.Record.{words_of, night_from, fed_words}
 use Rattle.export_totals.specs.Border.{taken_of, whole_of}
-use Rattle.export_totals.proofs.RecordLaws.{unpacked, taken, told-of-pieces-proof}
+use Rattle.export_totals.proofs.RecordLaws.{unpacked, fed-words, taken, told-of-pieces-proof}
 
 -- What one call packs the next unpacks.
 pub read_back : (n : Night) → night_from (words_of n) ≡ n
 read_back = unpacked
+
+-- Of any words, also those that no call made, the night goes on by the piece, whatever else they hold.
+pub words-fed : (words piece : List ℕ) → night_from (fed_words words piece) ≡ fed_of (night_from words) piece
+words-fed = fed-words
 
 -- Pieces that are handed over one after the other come to the record of their bytes in one.
 pub pieces-taken : (pieces : List (List ℕ)) → night_from (taken_of pieces) ≡ fed_of start_of (whole_of pieces)

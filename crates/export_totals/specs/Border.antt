@@ -1,12 +1,12 @@
 -- What is answered and left where a night is told, on plain numbers; and what calls one after the other lead to.
 use Rattle.std.specs.Prelude.{ℕ, List, [], ◌∷◌, ◌++◌, Result, Ok, Err}
-use Rattle.night_totals.specs.Night.{start_of, fed_of}
+use Rattle.night_totals.specs.Night.{start_of}
 use Rattle.night_totals.specs.declared.totals.Totals.{Totals}
 use Rattle.night_totals.specs.declared.night.NightError.{NightError}
 use Rattle.night_totals.specs.declared.night.NightError.TheVariants as night_error
 use Rattle.night_join.specs.declared.joining.JoinError.{JoinError}
 use Rattle.night_join.specs.declared.joining.JoinError.TheVariants as join_error
-use Rattle.export_totals.specs.Record.{totals_words, words_of, night_from}
+use Rattle.export_totals.specs.Record.{totals_words, words_of, fed_words}
 
 pub record TotalsTold : Type 0 where
   pub number : ℕ
@@ -25,7 +25,7 @@ told_left (Err night_error.TooMany) totals line = totals_told 26 totals line
 -- the words after pieces that were taken one after the other
 unfoldable pub taken_from : List ℕ → List (List ℕ) → List ℕ
 taken_from words [] = words
-taken_from words (piece ∷ pieces) = taken_from (words_of (fed_of (night_from words) piece)) pieces
+taken_from words (piece ∷ pieces) = taken_from (fed_words words piece) pieces
 
 abbrev pub taken_of : List (List ℕ) → List ℕ
 taken_of pieces = taken_from (words_of start_of) pieces

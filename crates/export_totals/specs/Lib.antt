@@ -1,3 +1,4 @@
 -- The record of a night as words, and what is answered and left.
+pub mod Held
 pub mod Record
 pub mod Border

@@ -7,6 +7,8 @@ use Rattle.night_totals.specs.declared.totals.Totals.{Totals}
 use Rattle.night_totals.specs.declared.night.Night.{Night}
 use Rattle.night_totals.specs.declared.night.Stand.{Stand}
 use Rattle.night_totals.specs.declared.night.Stand.TheVariants as stands
+use Rattle.export_totals.specs.Held.{held_of, held_fed}
+use Rattle.export_totals.specs.declared.held.Held.{Held}
 
 abbrev pub flag_of : ℕ → Bool
 flag_of word = not (eqb word 0)
@@ -25,26 +27,30 @@ beyond_word stands.Open = 0
 beyond_word stands.Wrong = 0
 beyond_word stands.Beyond = 1
 
-abbrev pub wrong_word : Stand → ℕ
-wrong_word stands.Open = 0
-wrong_word stands.Wrong = 1
-wrong_word stands.Beyond = 0
+abbrev pub wrong_word : Stand → Bool → ℕ
+wrong_word stands.Open w = 0
+wrong_word stands.Wrong w = 1
+wrong_word stands.Beyond w = pick w 1 0
 
 abbrev pub begun_word : Option ℕ → ℕ
 begun_word None = 0
 begun_word (Some v) = 1
 
-abbrev pub value_word : Option ℕ → ℕ
-value_word None = 0
-value_word (Some v) = v
+abbrev pub value_word : Option ℕ → ℕ → ℕ
+value_word None idle = idle
+value_word (Some v) idle = v
 
-abbrev pub line_words : Night → List ℕ
-line_words n =
-    beyond_word n.stand ∷ n.filling.at ∷ begun_word n.filling.number ∷ value_word n.filling.number ∷ n.filling.filled
-    ∷ wrong_word n.stand ∷ n.filling.values
+abbrev pub line_words : Held → List ℕ
+line_words h =
+    beyond_word h.night.stand ∷ h.night.filling.at ∷ begun_word h.night.filling.number
+    ∷ value_word h.night.filling.number h.idle ∷ h.night.filling.filled ∷ wrong_word h.night.stand h.wrong
+    ∷ h.night.filling.values
 
-unfoldable pub words_of : Night → List ℕ
-words_of n = totals_words n.totals ++ line_words n
+unfoldable pub held_words : Held → List ℕ
+held_words h = totals_words h.night.totals ++ line_words h
+
+abbrev pub words_of : Night → List ℕ
+words_of n = held_words (held_of n)
 
 -- ---- read
 
@@ -95,3 +101,15 @@ night_from w =
       filling = filling_from w;
       totals = totals_from w;
     }
+
+abbrev pub held_from : List ℕ → Held
+held_from w =
+    record {
+      night = night_from w;
+      idle = pick (flag_of (get_or w 17 0)) 0 (get_or w 18 0);
+      wrong = flag_of (get_or w 20 0);
+    }
+
+-- the words after a piece
+abbrev pub fed_words : List ℕ → List ℕ → List ℕ
+fed_words w piece = held_words (held_fed (held_from w) piece)

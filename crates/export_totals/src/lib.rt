@@ -4,5 +4,6 @@
 #![tactic(auto)]
 
 pub mod depots;
+mod held;
 pub mod nights;
 mod record;

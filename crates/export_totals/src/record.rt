@@ -1,9 +1,10 @@
 // The record of a night as 37 words, and its totals as 15. Read, every word means something: of a flag 0 is no, and any
 // other word yes.
 ghost use Rattle.std.specs.Prelude.{◌+◌, ◌≤◌, ◌≡◌, length};
-ghost use Rattle.export_totals.specs.Record.{totals_words, line_words, words_of};
+ghost use Rattle.export_totals.specs.Record.{totals_words, line_words, held_words, held_from};
 ghost use Rattle.export_totals.specs.Record.{totals_from, number_from, filling_from, stand_from, night_from};
 
+use crate::held::Held;
 use night_totals::counts::{Counts, Runs};
 use night_totals::filling::Filling;
 use night_totals::night::{Night, Stand};
@@ -35,18 +36,19 @@ pub fn totals_words(totals: Totals) -> [u64; 15]
 }
 
 // How the line stands that has begun, and how far it has come.
-fn line_words(night: Night) -> [u64; 22]
-    ensures { result ≡ line_words night }
+#[tactic(auto, unfolding(words::specs::Loop::pick))]
+fn line_words(held: Held) -> [u64; 22]
+    ensures { result ≡ line_words held }
 {
-    let filling = night.filling;
-    let (beyond, wrong) = match night.stand {
+    let filling = held.night.filling;
+    let (beyond, wrong) = match held.night.stand {
         Stand::Open => (0, 0),
         Stand::Wrong => (0, 1),
-        Stand::Beyond => (1, 0),
+        Stand::Beyond => (1, held.wrong as u64),
     };
     let (begun, value) = match filling.number {
         Some(value) => (1, value),
-        None => (0, 0),
+        None => (0, held.idle),
     };
     let mut words = [0u64; 22];
     words[..6].copy_from_slice(&[
@@ -61,12 +63,12 @@ fn line_words(night: Night) -> [u64; 22]
     words
 }
 
-pub fn words_of(night: Night) -> [u64; 37]
-    ensures { result ≡ words_of night }
+pub fn held_words(held: Held) -> [u64; 37]
+    ensures { result ≡ held_words held }
 {
     let mut words = [0u64; 37];
-    words[..TOTALS].copy_from_slice(&totals_words(night.totals));
-    words[TOTALS..].copy_from_slice(&line_words(night));
+    words[..TOTALS].copy_from_slice(&totals_words(held.night.totals));
+    words[TOTALS..].copy_from_slice(&line_words(held));
     words
 }
 
@@ -143,6 +145,17 @@ pub fn night_from(words: &[u64; 37]) -> Night
         stand: stand_from(words[15], words[20]),
         filling: filling_from(words),
         totals: totals_from(words),
+    }
+}
+
+#[tactic(auto, unfolding(crate::specs::Record::held_from, words::specs::Loop::pick))]
+pub fn held_from(words: &[u64; 37]) -> Held
+    ensures { result ≡ held_from words.now }
+{
+    Held {
+        night: night_from(words),
+        idle: if words[17] != 0 { 0 } else { words[18] },
+        wrong: words[20] != 0,
     }
 }
 
