@@ -1,10 +1,10 @@
--- `held_words` meets its contract: two groups are put.
+-- `words_of` meets its contract: two groups are put.
 use Rattle.std.proofs.Common.{append-nil}
-use Rattle.export_totals.specs.Record.{held_words}
-use Rattle.export_totals.proofs.record.held_words.Goals as goal
+use Rattle.export_totals.specs.Record.{words_of}
+use Rattle.export_totals.proofs.record.words_of.Goals as goal
 
 pub returns : goal.returns
-unfolding held_words
+unfolding words_of
 returns c = rw (
   c.copy_from_slice.ensures.after,
   c.copy_from_slice-2.ensures.after,
