@@ -7,9 +7,10 @@ allows for one input coincide.
                                          the script is tried on theorems that are about something else
 
 A function is offered where another crate can name it: it is `pub`, and so is each module on the way to it. Its theorem
-is NAME-once of its crate's proofs/Determinism.antt, and states `Settles` (crates/words/specs/Contract.antt) of what the
-kit reads off that very function, its `Kinds` and `Reads`. So the kit ties the theorem to the contract in src/: where a
-contract asks something or leaves a part open, the crate is not proved. Here it is seen that no theorem is missing.
+is NAME-once of its crate's proofs/Determinism.antt, of a method also TYPE-NAME-once, and states `Settles`
+(crates/words/specs/Contract.antt) of what the kit reads off that very function, its `Kinds` and `Reads`; where it is
+over a number or a type, at each of them. So the kit ties the theorem to the contract in src/: where a contract asks
+something or leaves a part open, the crate is not proved. Here it is seen that no theorem is missing.
 
 Exit status: 0 every offered function has its theorem; 1 one has none; 2 wrong use."""
 
@@ -24,41 +25,35 @@ ROOT = pathlib.Path(__file__).resolve().parents[2]
 SETTLES = "use Rattle.words.specs.Contract.{Settles}"
 FILE = "crates/{}/proofs/Determinism.antt"
 # What the first answer depends on standard input, which is no argument: their contracts are relations, or say as much
-# as is known of any reader. That of `lend` says what is lent, and not where it lies. `new` and `end` of `Out` hand on
-# to standard output, of which no contract speaks. Those of `lent` and `optional` are equations too, but a type's
-# parameter, or the lifetime in it, stands in what a call asks. The last four ask that the run is fit, what a plan is,
-# or how a number is spelt, and are for crates here, which prove it; what users call refuses (docs/DECISIONS.md).
+# as is known of any reader. `new` and `end` of `Out` hand on to standard output, of which no contract speaks. The last
+# three ask that the run is fit, or what a plan is, and are for crates here, which prove it; what users call refuses
+# (docs/DECISIONS.md).
 UNSETTLED = {
     "replay::word::read_word": "reads standard input",
     "replay::word::read_words": "reads standard input",
     "replay::word::read_block": "reads standard input",
     "replay::input::read_full": "reads standard input",
     "replay::input::read_text": "reads standard input",
-    "replay::memory::Memory::lend": "lends parts of what it is lent",
     "replay::out::Out::new": "writes to standard output",
     "replay::out::Out::end": "writes to standard output",
     "sheet_input::reading::read_all": "reads standard input",
     "piece_input::reading::read_piece": "reads standard input",
     "piece_input::answering::answer": "reads standard input",
-    "state::lent::Newton::fits": "speaks of slices that a struct borrows",
-    "state::lent::Newton::clear": "speaks of slices that a struct borrows",
-    "state::lent::Factors::fits": "speaks of slices that a struct borrows",
-    "state::lent::Factors::clear": "speaks of slices that a struct borrows",
-    "state::lent::Differences::fits": "speaks of slices that a struct borrows",
-    "state::lent::Differences::clear": "speaks of slices that a struct borrows",
-    "radau_core::optional::option_tag": "is an equation at every type",
-    "radau_core::optional::option_at": "is an equation at every type",
     "radau_core::advance::advanced": "asks that the run is fit",
-    "forecast_text::numerals::digits_of": "asks that the digits spell the number",
     "model::planned::Plan::new": "makes a plan, which says what it is for and not what stands in it",
     "model::planned::derivative_by_plan": "asks that the plan is the model's",
 }
 
-FUNCTION = re.compile(r'^( *)pub (?:extern "C" )?fn (\w+)\b', re.M)
+FUNCTION = re.compile(r'^( *)pub (?:extern "C" )?fn (\w+(?:<T: Copy>)?)', re.M)
 MENTIONED = re.compile(r"\bpub\b[^\n]*\bfn (\w+)")
 OWNER = re.compile(r"^impl(?:<[^>]*>)? (\w+(?:<\w+>)?)(?:<'[^>]*>)? \{", re.M)
 # A method of a type with a const parameter settles its call at each number that memory has room for.
 AT_EACH = "\nmodule _ (n : ℕ) (fits : Fits w64 n) (few : n < 2 ^ 62) where\n"
+# A function over a type settles its call at every type that is Copy, where the type's values live as long as the call,
+# which the language asks of each call.
+AT_TYPE = "\nmodule _ (T : RattleType) (laws : Laws T) (copy : IsCopy T) (clone : Ghosts T.Denot) (dict : Dict) where\n"
+LIVES = "use contract.BorrowLft.{◌⊑◌}"
+PARTS = ("Kinds.ps", "Kinds.r", "Reads.Asked", "Reads.Post")
 
 
 class Complaint(Exception):
@@ -129,26 +124,48 @@ def text_in(file):
     return (ROOT / file).read_text() if (ROOT / file).is_file() else ""
 
 
+def title(path, text):
+    """The name of its theorem: of a method it begins with its type where types share the method's name."""
+    short = path[-1].replace("_", "-") + "-once"
+    owner = path[-2] if path[:-1] and path[-2][0].isupper() else ""
+    whole = re.sub(r"(?<=.)(?=[A-Z])", "-", owner).lower() + "-" + short
+    return whole if owner and re.search(rf"^ *pub {re.escape(whole)}\s*:", text, re.M) else short
+
+
+def statement(alias, over):
+    """What a function's theorem states, the function going by `alias`, over a number, a type or nothing."""
+    ps, r, asked, post = (f"{alias}.{part}" for part in PARTS)
+    if over == AT_EACH:
+        ps, r, asked, post = (f"({part} n fits)" for part in (ps, r, asked, post))
+    if over == AT_TYPE:
+        ps, r, post = f"({ps} T laws copy)", f"({r} T laws copy)", f"({post} T laws copy clone dict)"
+        asked = f"(λ κs a. κs.0 ⊑ T.lives → {asked} T laws copy clone dict κs a)"
+    return f"Settles {ps} {r} {asked} {post}"
+
+
 def theorem(crate, path, text_of=text_in):
     """The theorem that the contract settles its call, and its file; or that there is none, and why."""
-    each, name = any("<" in part for part in path), name_of(crate, path)
+    over = AT_TYPE if "<T: Copy>" in path[-1] else AT_EACH if any("<" in part for part in path) else ""
+    name = name_of(crate, path)
     if name in UNSETTLED:
         return "none", UNSETTLED[name]
     path = tuple(part.split("<")[0] for part in path)
-    by, file = path[-1].replace("_", "-") + "-once", FILE.format(crate)
+    file = FILE.format(crate)
     text = text_of(file)
+    by = title(path, text)
     module = re.escape(f"use Rattle.{crate}.proofs.{'.'.join(path)} as ")
     alias = re.findall(rf"^{module}(\S+)$", text, re.M)
     insist(len(alias) == 1, f"is not named once in {file}")
-    insist(not each or (AT_EACH in text and text.count("\nmodule ") == 1), f"has no theorem at each number in {file}")
-    head, ends = ("  ", " n fits)") if each else ("", "")
+    alone = over in text and len(re.findall(r"^ *module ", text, re.M)) == 1
+    insist(not over or alone, f"has no theorem at each of its kind in {file}")
+    lives = f"\n{LIVES}\n" in text and text.count("◌⊑◌") == 1
+    insist(over != AT_TYPE or lives, f"has another `⊑` in {file}")
+    head = "  " if over else ""
     begun = f"{head}{re.escape(by)}"
     stated = re.findall(rf"^{head}pub {re.escape(by)}\s*:((?:.|\n(?!{begun}\b))*)\n{begun}\b", text, re.M)
     insist(len(stated) == 1, f"has no theorem {by}")
-    parts = ("Kinds.ps", "Kinds.r", "Reads.Asked", "Reads.Post")
-    wanted = " ".join(["Settles", *(f"{'(' * each}{alias[0]}.{part}{ends}" for part in parts)])
-    insist(stated[0].split() == wanted.split(), f"has a theorem {by} of something else")
-    brought = re.findall(r"^use \S+ as (\S+)$|^(?:abbrev |unfoldable |pub )*(\S+) :", text, re.M)
+    insist(stated[0].split() == statement(alias[0], over).split(), f"has a theorem {by} of something else")
+    brought = re.findall(r"^use \S+ as (\S+)$|^ *(?:abbrev |unfoldable |pub )*(\S+) :", text, re.M)
     insist([each for pair in brought for each in pair].count(alias[0]) == 1, f"shares the name {alias[0]} in {file}")
     named = re.findall(r"\bSettles\b *[,}:]", text)
     insist(len(named) == 1 and f"\n{SETTLES}\n" in text, f"has another `Settles` in {file}")
@@ -198,6 +215,18 @@ def complained(attempt):
     return False
 
 
+def tried_over(over, place, path, wrongs):
+    """The same of a function over a number or a type, by changes that each make a right theorem wrong."""
+    head = HELD[:HELD.index("\npub held")].replace("part.held as", f"part.{place} as")
+    head = head.replace(SETTLES, f"{LIVES}\n{SETTLES}")
+    right = f"{head}{over}  pub held-once :\n      {statement('held', over)}\n  held-once κs a = one\n"
+    tell = lambda text: theorem("samples", path, lambda file: LIBRARY if "Lib" in file else text)
+    tell(right)
+    for old, new in wrongs:
+        wrong = right.replace(old, new)
+        insist(wrong != right and complained(lambda: tell(wrong)), f"a theorem with {new} in place of {old} passes")
+
+
 def tried():
     """Sees that the right sample passes and that every wrong one is complained of."""
     sample(HELD)
@@ -208,15 +237,23 @@ def tried():
     insist(complained(lambda: list(functions("pub const fn held() {}\n"))), "a function in another form passes")
     method = "impl Held {\n    pub fn of() {}\n}\nimpl Lent<'_> {\n    pub fn by() {}\n}\npub fn by() {}\n"
     insist(list(functions(method)) == [("Held", "of"), ("Lent", "by"), ("by",)], "a method is misread")
+    right = HELD.replace("part.held as", "part.LentOut.held as").replace("held-once", "lent-out-held-once")
+    tell = lambda text: theorem("samples", ("part", "LentOut", "held"), lambda file: LIBRARY if "Lib" in file else text)
+    insist(tell(right)[0] == "lent-out-held-once", "a method's theorem under its type's name is not found")
+    for wrong in (right.replace("lent-out", "kept"), right.replace("LentOut", "Kept"), right.replace("held.", "kept.")):
+        insist(complained(lambda: tell(wrong)), "a theorem about another type's method passes")
     method = "impl<const N: usize> Held<N> {\n    pub fn of() {}\n}\n"
     insist(list(functions(method)) == [("Held<N>", "of")], "a method of a type with a parameter is misread")
-    parts = "".join(f" (held.{part} n fits)" for part in ("Kinds.ps", "Kinds.r", "Reads.Asked", "Reads.Post"))
-    right = HELD[:HELD.index("\npub held")].replace("part.held as", "part.Held.held as") + AT_EACH \
-        + f"  pub held-once :\n      Settles{parts}\n  held-once κs a = (tt, one)\n"
-    tell = lambda text: theorem("samples", ("part", "Held<N>", "held"), lambda file: LIBRARY if "Lib" in file else text)
-    tell(right)
-    for wrong in (right.replace("2 ^ 62", "2"), right.replace(" n fits)", " 3 fits)"), right.replace("held.", "kept.")):
-        insist(complained(lambda: tell(wrong)), "a theorem about some numbers only passes")
+    tried_over(AT_EACH, "Held.held", ("part", "Held<N>", "held"),
+               [("2 ^ 62", "2"), (" n fits)", " 3 fits)"), ("held.", "kept.")])
+    method = "pub fn of<T: Copy>(x: T) {}\npub fn by<T: Copy + Drop>(x: T) {}\npub fn at<R: Read>(r: R) {}\n"
+    insist(list(functions(method)) == [("of<T: Copy>",), ("by",), ("at",)], "a function over a type is misread")
+    tried_over(AT_TYPE, "held", ("part", "held<T: Copy>"),
+               [("(dict : Dict)", "(dict : Dict) (static : T.lives ≡ [])"), ("module _ (T : RattleType)", "module _"),
+                (".ps T ", ".ps F64 "), (".Post T ", ".Post F64 "), ("⊑ T.lives", "⊑ []"), ("a. κs.0", "a. ⊥ → κs.0"),
+                (LIVES, f"{LIVES}\n◌⊑◌ : ℕ → ℕ → Type 0"), (LIVES, "use other.BorrowLft.{◌⊑◌}"),
+                ("  pub held", "  abbrev held : Type 0\n\n  pub held"),
+                ("  pub held", "  module held where\n\n  pub held")])
 
 
 def main():

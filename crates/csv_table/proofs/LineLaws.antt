@@ -9,7 +9,7 @@ use lib.Ieee.{Float, nan}
 use lib.ListN.{length, get_or, take}
 use mathlib.Core.Bool.{Bool, true, false, ◌&&◌}
 use lib.Dec.{leb}
-use borrow.Author.Tests.{le-leb}
+use borrow.Author.Tests.{le-leb, leb-true}
 use Rattle.words.specs.Loop.{pick}
 use Rattle.words.proofs.Branch.{pick_yes, pick_no}
 use Rattle.sheet.specs.Digits.{digits, decimal_of}
@@ -72,6 +72,13 @@ both false b p q = p
 pub ordered : (n : ℕ) (line buffer : List ℕ) → 1 ≤ n → n ≤ 32 → ordered_of n line buffer ≡ line_of line buffer
 unfolding ordered_of
 ordered n line buffer h k = pick_yes _ _ (both (leb 1 n) (leb n 32) (le-leb 1 n h) (le-leb n 32 k))
+
+second : (a b : Bool) → (a && b) ≡ true → b ≡ true
+second true b e = e
+second false b e = cc
+
+pub order-few : (n : ℕ) {b : Bool} → b ≡ (leb 1 n && leb n 32) → b ≡ true → n ≤ 32
+order-few n is e = leb-true n 32 (second (leb 1 n) (leb n 32) (sym is ∙ e))
 
 module _ (n : ℕ) (line buffer : List ℕ) {b : Bool} (is : b ≡ (leb 1 n && leb n 32)) where
   pub ordered-by : b ≡ true → ordered_of n line buffer ≡ line_of line buffer

@@ -1,5 +1,5 @@
 // The lines of a table, put together in room that is long enough for each.
-ghost use Rattle.std.specs.Prelude.{◌≤◌, ◌≡◌, length};
+ghost use Rattle.std.specs.Prelude.{◌≤◌, ◌≡◌};
 ghost use Rattle.forecast_text.specs.Put.{put};
 ghost use Rattle.csv_table.specs.Table.{names_text, header_text, amounts_text, record_text};
 
@@ -17,15 +17,13 @@ fn put_names(text: &mut Text<ROOM>, n: usize)
 }
 
 // No more than 122 bytes.
-pub fn header_line(n: usize) -> Text<ROOM>
+pub fn put_header_line(text: &mut Text<ROOM>, n: usize)
     requires { n ≤ 32 }
-    ensures { result ≡ header_text n }
+    ensures { text.new ≡ put 1024 text.old (header_text n) }
 {
-    let mut text = Text::new();
     text.put(b"x");
-    put_names(&mut text, n);
+    put_names(text, n);
     text.put(b"\r\n");
-    text
 }
 
 // The amounts, each with a comma in front.
@@ -38,14 +36,11 @@ fn put_amounts(text: &mut Text<ROOM>, amounts: &[f64])
     }
 }
 
-// No more than 826 bytes.
-pub fn record_line(x: f64, amounts: &[f64]) -> Text<ROOM>
-    requires { length amounts.now ≤ 32 }
-    ensures { result ≡ record_text x amounts.now }
+// No more than 826 bytes, of 32 amounts.
+pub fn put_record_line(text: &mut Text<ROOM>, x: f64, amounts: &[f64])
+    ensures { text.new ≡ put 1024 text.old (record_text x amounts.now) }
 {
-    let mut text = Text::new();
-    put_number(&mut text, x);
-    put_amounts(&mut text, amounts);
+    put_number(text, x);
+    put_amounts(text, amounts);
     text.put(b"\r\n");
-    text
 }

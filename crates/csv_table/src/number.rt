@@ -6,7 +6,6 @@ ghost use Rattle.csv_table.specs.NumberText.{trimmed, fraction_text, exponent_te
 ghost use Rattle.csv_table.specs.NumberText.{number_text};
 
 use bits::pattern;
-use forecast_text::numerals::digits_of;
 use forecast_text::texts::Text;
 
 // More bytes than a line has: a record has no more than 826, a header no more than 122.
@@ -53,12 +52,13 @@ fn put_fraction(text: &mut Text<ROOM>, fraction: u64)
         return;
     }
     let kept = trim(fraction);
-    let digits = digits_of(16, kept.width, kept.value);
     text.put(b".");
-    text.put(&digits[0..kept.width]);
+    text.put_digits(16, kept.width, kept.value);
 }
 
-// Puts the exponent with its sign.
+// Puts the exponent with its sign. Laid into the loop over a record, as what calls it is: that saves the calls for each
+// number.
+#[inline(always)]
 fn put_exponent(text: &mut Text<ROOM>, exponent: u64)
     requires { exponent < 2048 }
     ensures { text.new ≡ put 1024 text.old (exponent_text exponent) }
@@ -71,6 +71,7 @@ fn put_exponent(text: &mut Text<ROOM>, exponent: u64)
 }
 
 // Puts a number without its sign.
+#[inline(always)]
 fn put_magnitude(text: &mut Text<ROOM>, exponent: u64, fraction: u64)
     requires { (exponent < 2048) × (fraction < 0x0010_0000_0000_0000) }
     ensures { text.new ≡ put 1024 text.old (magnitude_text exponent fraction) }
@@ -99,6 +100,7 @@ fn put_sign(text: &mut Text<ROOM>, bits: u64)
     }
 }
 
+#[inline(always)]
 pub fn put_number(text: &mut Text<ROOM>, x: f64)
     ensures { text.new ≡ put 1024 text.old (number_text x) }
 {

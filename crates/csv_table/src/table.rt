@@ -3,7 +3,7 @@ ghost use Rattle.std.specs.Prelude.{◌≡◌, ◌&&◌, leb};
 ghost use Rattle.csv_table.specs.Table.{export, line_of, header_of, record_of};
 
 use crate::answers::ExportError;
-use crate::lines::{header_line, record_line};
+use crate::lines::{put_header_line, put_record_line};
 use crate::number::ROOM;
 use forecast_text::texts::Text;
 
@@ -18,8 +18,8 @@ fn is_order(n: usize) -> bool
 }
 
 // A line over the first bytes of a buffer, where it fits.
-fn put_line(line: Text<ROOM>, out: &mut [u8]) -> Result<usize, ExportError>
-    ensures { export result out.new ≡ line_of line out.old }
+fn put_line(line: &Text<ROOM>, out: &mut [u8]) -> Result<usize, ExportError>
+    ensures { export result out.new ≡ line_of line.now out.old }
 {
     if line.len() <= out.len() {
         line.copy_over(out);
@@ -36,7 +36,9 @@ pub fn put_header(n: usize, out: &mut [u8]) -> Result<usize, ExportError>
     if !is_order(n) {
         return Err(ExportError::Order);
     }
-    put_line(header_line(n), out)
+    let mut line = Text::new();
+    put_header_line(&mut line, n);
+    put_line(&line, out)
 }
 
 // The record of a point. What stands behind it in the buffer stays.
@@ -46,5 +48,7 @@ pub fn put_record(x: f64, amounts: &[f64], out: &mut [u8]) -> Result<usize, Expo
     if !is_order(amounts.len()) {
         return Err(ExportError::Order);
     }
-    put_line(record_line(x, amounts), out)
+    let mut line = Text::new();
+    put_record_line(&mut line, x, amounts);
+    put_line(&line, out)
 }

@@ -10,7 +10,7 @@ ghost use Rattle.export.specs.Talk.{settings_given, crossed, left, open_left, ad
 use crate::choices::tolerances;
 use crate::settings::given_settings;
 use crate::talk::{reply_of, tell_call, tell_opened, tell_result};
-use opening::admission::admission;
+use opening::admission::admission_lent;
 use opening::open;
 use radau_core::advance::advanced;
 use radau_core::pack::{doubles_of, run_at, words_of};
@@ -131,7 +131,7 @@ fn advance_lent(
     let run = run_at(words, doubles);
     let stage = run.stage;
     let reply = reply_of(stage, reply, value);
-    if let Err(refusal) = admission(run, reply, y, f0, rtol, atol, mass, work) {
+    if let Err(refusal) = admission_lent(run, reply, y, f0, rtol, atol, mass, work) {
         return refusal_number(refusal);
     }
     *words = words_of(run);

@@ -1,5 +1,4 @@
 -- The record goes over the border and back; then the contracts settle their calls.
-pub mod FedLaws
 pub mod RecordLaws
 pub mod BorderLaws
 pub mod Theorems

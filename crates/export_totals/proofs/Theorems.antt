@@ -17,7 +17,7 @@ use Rattle.export_totals.proofs.RecordLaws.{unpacked, fed-words, taken, told-of-
 pub read_back : (n : Night) → night_from (words_of n) ≡ n
 read_back = unpacked
 
--- Of any words, also those that no call made, the night goes on by the piece, whatever else they hold.
+-- Of any words, also those that no call made, the night goes on by the piece.
 pub words-fed : (words piece : List ℕ) → night_from (fed_words words piece) ≡ fed_of (night_from words) piece
 words-fed = fed-words
 

@@ -1,4 +1,3 @@
 -- The record of a night as words, and what is answered and left.
-pub mod Held
 pub mod Record
 pub mod Border

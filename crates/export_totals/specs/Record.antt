@@ -1,14 +1,15 @@
 -- The record of a night as 37 words: its totals, then the line that has begun. Read, every word means something: of a
 -- flag 0 is no, and any other word yes.
-use Rattle.std.specs.Prelude.{ℕ, Bool, not, List, [], ◌∷◌, ◌++◌, eqb, get_or, drop, Option, None, Some}
+use Rattle.std.specs.Prelude.{ℕ, Bool, not, List, [], ◌∷◌, ◌++◌, eqb, get_or, drop}
 use Rattle.words.specs.Loop.{pick}
 use Rattle.night_totals.specs.declared.filling.Filling.{Filling}
+use Rattle.night_totals.specs.declared.filling.Number.{Number}
+use Rattle.night_totals.specs.declared.filling.Number.TheVariants as numbers
+use Rattle.night_totals.specs.Night.{fed_of}
 use Rattle.night_totals.specs.declared.totals.Totals.{Totals}
 use Rattle.night_totals.specs.declared.night.Night.{Night}
 use Rattle.night_totals.specs.declared.night.Stand.{Stand}
 use Rattle.night_totals.specs.declared.night.Stand.TheVariants as stands
-use Rattle.export_totals.specs.Held.{held_of, held_fed}
-use Rattle.export_totals.specs.declared.held.Held.{Held}
 
 abbrev pub flag_of : ℕ → Bool
 flag_of word = not (eqb word 0)
@@ -26,31 +27,29 @@ abbrev pub beyond_word : Stand → ℕ
 beyond_word stands.Open = 0
 beyond_word stands.Wrong = 0
 beyond_word stands.Beyond = 1
+beyond_word stands.WrongBeyond = 1
 
-abbrev pub wrong_word : Stand → Bool → ℕ
-wrong_word stands.Open w = 0
-wrong_word stands.Wrong w = 1
-wrong_word stands.Beyond w = pick w 1 0
+abbrev pub wrong_word : Stand → ℕ
+wrong_word stands.Open = 0
+wrong_word stands.Wrong = 1
+wrong_word stands.Beyond = 0
+wrong_word stands.WrongBeyond = 1
 
-abbrev pub begun_word : Option ℕ → ℕ
-begun_word None = 0
-begun_word (Some v) = 1
+abbrev pub begun_word : Number → ℕ
+begun_word (numbers.Awaited v) = 0
+begun_word (numbers.Begun v) = 1
 
-abbrev pub value_word : Option ℕ → ℕ → ℕ
-value_word None idle = idle
-value_word (Some v) idle = v
+abbrev pub value_word : Number → ℕ
+value_word (numbers.Awaited v) = v
+value_word (numbers.Begun v) = v
 
-abbrev pub line_words : Held → List ℕ
-line_words h =
-    beyond_word h.night.stand ∷ h.night.filling.at ∷ begun_word h.night.filling.number
-    ∷ value_word h.night.filling.number h.idle ∷ h.night.filling.filled ∷ wrong_word h.night.stand h.wrong
-    ∷ h.night.filling.values
+abbrev pub line_words : Night → List ℕ
+line_words n =
+    beyond_word n.stand ∷ n.filling.at ∷ begun_word n.filling.number ∷ value_word n.filling.number
+    ∷ n.filling.filled ∷ wrong_word n.stand ∷ n.filling.values
 
-unfoldable pub held_words : Held → List ℕ
-held_words h = totals_words h.night.totals ++ line_words h
-
-abbrev pub words_of : Night → List ℕ
-words_of n = held_words (held_of n)
+unfoldable pub words_of : Night → List ℕ
+words_of n = totals_words n.totals ++ line_words n
 
 -- ---- read
 
@@ -78,8 +77,8 @@ totals_from w =
       place = get_or w 14 0;
     }
 
-abbrev pub number_from : ℕ → ℕ → Option ℕ
-number_from begun value = pick (flag_of begun) (Some value) None
+abbrev pub number_from : ℕ → ℕ → Number
+number_from begun value = pick (flag_of begun) (numbers.Begun value) (numbers.Awaited value)
 
 abbrev pub filling_from : List ℕ → Filling
 filling_from w =
@@ -90,9 +89,10 @@ filling_from w =
       values = drop 21 w;
     }
 
--- a line too many is not wrong as well
 abbrev pub stand_from : ℕ → ℕ → Stand
-stand_from beyond wrong = pick (flag_of beyond) stands.Beyond (pick (flag_of wrong) stands.Wrong stands.Open)
+stand_from beyond wrong =
+    pick (flag_of beyond) (pick (flag_of wrong) stands.WrongBeyond stands.Beyond)
+    (pick (flag_of wrong) stands.Wrong stands.Open)
 
 unfoldable pub night_from : List ℕ → Night
 night_from w =
@@ -102,14 +102,6 @@ night_from w =
       totals = totals_from w;
     }
 
-abbrev pub held_from : List ℕ → Held
-held_from w =
-    record {
-      night = night_from w;
-      idle = pick (flag_of (get_or w 17 0)) 0 (get_or w 18 0);
-      wrong = flag_of (get_or w 20 0);
-    }
-
 -- the words after a piece
 abbrev pub fed_words : List ℕ → List ℕ → List ℕ
-fed_words w piece = held_words (held_fed (held_from w) piece)
+fed_words w piece = words_of (fed_of (night_from w) piece)

@@ -4,6 +4,5 @@
 #![tactic(auto)]
 
 pub mod depots;
-mod held;
 pub mod nights;
 mod record;

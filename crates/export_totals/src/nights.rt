@@ -1,14 +1,12 @@
 // A night over the border: begun, fed, told and printed. Its record goes in and out as 37 words.
 ghost use Rattle.std.specs.Prelude.{◌≡◌, length};
 ghost use Rattle.sheet.specs.Reader.{over};
-ghost use Rattle.night_totals.specs.Night.{start_of, told_of};
+ghost use Rattle.night_totals.specs.Night.{start_of, fed_of, told_of};
 ghost use Rattle.night_totals.specs.Printed.{printed_of};
-ghost use Rattle.export_totals.specs.Held.{held_fed};
-ghost use Rattle.export_totals.specs.Record.{words_of, held_words, fed_words, night_from};
+ghost use Rattle.export_totals.specs.Record.{words_of, night_from};
 ghost use Rattle.export_totals.specs.Border.{totals_told, told_left};
 
-use crate::held::{Held, alone, beyond, step};
-use crate::record::{held_from, held_words, night_from, totals_words};
+use crate::record::{night_from, totals_words, words_of};
 use night_totals::night::NightError;
 use night_totals::{fed, print, start, told};
 
@@ -17,30 +15,16 @@ use night_totals::{fed, print, start, told};
 pub extern "C" fn elchepur_totals_start(night: &mut [u64; 37])
     ensures { night.new ≡ words_of start_of }
 {
-    *night = held_words(alone(start()));
-}
-
-// The words after a piece. A night alone takes it whole, until a line is one too many.
-fn words_fed(before: Held, piece: &[u8]) -> [u64; 37]
-    ensures { result ≡ held_words (held_fed before piece.now) }
-{
-    let night = fed(before.night, piece);
-    if before.idle == 0 && !beyond(night.stand) {
-        return held_words(alone(night));
-    }
-    let mut next = before;
-    for byte in piece {
-        next = step(next, *byte);
-    }
-    held_words(next)
+    *night = words_of(start());
 }
 
 // Takes a piece of the lines.
 #[unsafe(no_mangle)]
 pub extern "C" fn elchepur_totals_fed(night: &mut [u64; 37], piece: &[u8])
-    ensures { night.new ≡ fed_words night.old piece.now }
+    ensures { night.new ≡ words_of (fed_of (night_from night.old) piece.now) }
 {
-    *night = words_fed(held_from(night), piece);
+    let next = fed(night_from(night), piece);
+    *night = words_of(next);
 }
 
 // What became of all that was taken, where nothing more comes: 0 and the totals, 20 and the wrong line, or 26.

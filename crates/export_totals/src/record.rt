@@ -1,12 +1,11 @@
 // The record of a night as 37 words, and its totals as 15. Read, every word means something: of a flag 0 is no, and any
 // other word yes.
 ghost use Rattle.std.specs.Prelude.{◌+◌, ◌≤◌, ◌≡◌, length};
-ghost use Rattle.export_totals.specs.Record.{totals_words, line_words, held_words, held_from};
+ghost use Rattle.export_totals.specs.Record.{totals_words, line_words, words_of};
 ghost use Rattle.export_totals.specs.Record.{totals_from, number_from, filling_from, stand_from, night_from};
 
-use crate::held::Held;
 use night_totals::counts::{Counts, Runs};
-use night_totals::filling::Filling;
+use night_totals::filling::{Filling, Number};
 use night_totals::night::{Night, Stand};
 use night_totals::totals::Totals;
 
@@ -35,20 +34,32 @@ pub fn totals_words(totals: Totals) -> [u64; 15]
     ]
 }
 
+// One by one, the numbers of a night stay in registers while it is fed. As a block they are copied at each byte.
+fn one_by_one(values: [u64; 16]) -> [u64; 16]
+    ensures { result ≡ values }
+{
+    [
+        values[0], values[1], values[2], values[3], values[4], values[5], values[6], values[7],
+        values[8], values[9], values[10], values[11], values[12], values[13], values[14],
+        values[15],
+    ]
+}
+
 // How the line stands that has begun, and how far it has come.
 #[tactic(auto, unfolding(words::specs::Loop::pick))]
-fn line_words(held: Held) -> [u64; 22]
-    ensures { result ≡ line_words held }
+fn line_words(night: Night) -> [u64; 22]
+    ensures { result ≡ line_words night }
 {
-    let filling = held.night.filling;
-    let (beyond, wrong) = match held.night.stand {
+    let filling = night.filling;
+    let (beyond, wrong) = match night.stand {
         Stand::Open => (0, 0),
         Stand::Wrong => (0, 1),
-        Stand::Beyond => (1, held.wrong as u64),
+        Stand::Beyond => (1, 0),
+        Stand::WrongBeyond => (1, 1),
     };
     let (begun, value) = match filling.number {
-        Some(value) => (1, value),
-        None => (0, held.idle),
+        Number::Awaited(value) => (0, value),
+        Number::Begun(value) => (1, value),
     };
     let mut words = [0u64; 22];
     words[..6].copy_from_slice(&[
@@ -59,16 +70,16 @@ fn line_words(held: Held) -> [u64; 22]
         filling.filled as u64,
         wrong,
     ]);
-    words[6..].copy_from_slice(&filling.values);
+    words[6..].copy_from_slice(&one_by_one(filling.values));
     words
 }
 
-pub fn held_words(held: Held) -> [u64; 37]
-    ensures { result ≡ held_words held }
+pub fn words_of(night: Night) -> [u64; 37]
+    ensures { result ≡ words_of night }
 {
     let mut words = [0u64; 37];
-    words[..TOTALS].copy_from_slice(&totals_words(held.night.totals));
-    words[TOTALS..].copy_from_slice(&line_words(held));
+    words[..TOTALS].copy_from_slice(&totals_words(night.totals));
+    words[TOTALS..].copy_from_slice(&line_words(night));
     words
 }
 
@@ -101,13 +112,13 @@ fn totals_from(words: &[u64]) -> Totals
 }
 
 #[tactic(auto, unfolding(words::specs::Loop::pick))]
-fn number_from(begun: u64, value: u64) -> Option<u64>
+fn number_from(begun: u64, value: u64) -> Number
     ensures { result ≡ number_from begun value }
 {
     if begun != 0 {
-        return Some(value);
+        return Number::Begun(value);
     }
-    None
+    Number::Awaited(value)
 }
 
 fn filling_from(words: &[u64; 37]) -> Filling
@@ -128,12 +139,17 @@ fn stand_from(beyond: u64, wrong: u64) -> Stand
     ensures { result ≡ stand_from beyond wrong }
 {
     if beyond != 0 {
-        return Stand::Beyond;
+        return if wrong != 0 {
+            Stand::WrongBeyond
+        } else {
+            Stand::Beyond
+        };
     }
     if wrong != 0 {
-        return Stand::Wrong;
+        Stand::Wrong
+    } else {
+        Stand::Open
     }
-    Stand::Open
 }
 
 // The night of any words at all.
@@ -145,17 +161,6 @@ pub fn night_from(words: &[u64; 37]) -> Night
         stand: stand_from(words[15], words[20]),
         filling: filling_from(words),
         totals: totals_from(words),
-    }
-}
-
-#[tactic(auto, unfolding(crate::specs::Record::held_from, words::specs::Loop::pick))]
-pub fn held_from(words: &[u64; 37]) -> Held
-    ensures { result ≡ held_from words.now }
-{
-    Held {
-        night: night_from(words),
-        idle: if words[17] != 0 { 0 } else { words[18] },
-        wrong: words[20] != 0,
     }
 }
 

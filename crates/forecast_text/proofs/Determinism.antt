@@ -9,11 +9,13 @@ use Rattle.words.specs.Contract.{Settles}
 use Rattle.words.proofs.OneOutcome.{◌▹◌, one-part, one-result, two-parts}
 use Rattle.forecast_text.proofs.numerals.decimal_width as decimal_width
 use Rattle.forecast_text.proofs.numerals.digit_byte as digit_byte
+use Rattle.forecast_text.proofs.numerals.digits_of as digits_of
 use Rattle.forecast_text.proofs.printed.print as print
 use Rattle.forecast_text.proofs.texts.Text.copy_over as copy_over
 use Rattle.forecast_text.proofs.texts.Text.len as len
 use Rattle.forecast_text.proofs.texts.Text.new as new
 use Rattle.forecast_text.proofs.texts.Text.put as put
+use Rattle.forecast_text.proofs.texts.Text.put_digits as put_digits
 use Rattle.forecast_text.proofs.texts.Text.put_float as put_float
 use Rattle.forecast_text.proofs.texts.Text.put_hex as put_hex
 use Rattle.forecast_text.proofs.texts.Text.put_line as put_line
@@ -26,6 +28,9 @@ digit-byte-once κs a = (tt, λ o p. one-result o.1)
 pub decimal-width-once :
     Settles decimal_width.Kinds.ps decimal_width.Kinds.r decimal_width.Reads.Asked decimal_width.Reads.Post
 decimal-width-once κs a = (tt, λ o p. λ e f. one-result o.1 e.0 f.0)
+
+pub digits-of-once : Settles digits_of.Kinds.ps digits_of.Kinds.r digits_of.Reads.Asked digits_of.Reads.Post
+digits-of-once κs a = (tt, λ o p. one-result o.1)
 
 pub print-once : Settles print.Kinds.ps print.Kinds.r print.Reads.Asked print.Reads.Post
 print-once κs a =
@@ -48,6 +53,11 @@ module _ (n : ℕ) (fits : Fits w64 n) (few : n < 2 ^ 62) where
   pub put-once :
       Settles (put.Kinds.ps n fits) (put.Kinds.r n fits) (put.Reads.Asked n fits) (put.Reads.Post n fits)
   put-once κs a = (search rules, λ o p. one-part (λ t. tt ▹ t ▹ tt ▹ tt))
+
+  pub put-digits-once :
+      Settles (put_digits.Kinds.ps n fits) (put_digits.Kinds.r n fits)
+      (put_digits.Reads.Asked n fits) (put_digits.Reads.Post n fits)
+  put-digits-once κs a = (search rules, λ o p. one-part (λ t. tt ▹ t ▹ tt ▹ tt ▹ tt ▹ tt))
 
   pub put-number-once :
       Settles (put_number.Kinds.ps n fits) (put_number.Kinds.r n fits)

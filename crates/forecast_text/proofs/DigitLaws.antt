@@ -10,17 +10,20 @@ use native.Mathlib.Nat.{pow-suc}
 use Rattle.words.specs.Loop.{pick}
 use native.Mathlib.Omega.{arith}
 use borrow.Author.Tests.{lt-ltb, le-ltb, ltb-true, ltb-false}
-use Rattle.std.specs.Prelude.{◌⊎◌}
+use Rattle.std.specs.Prelude.{◌⊎◌, min, max}
 use Rattle.std.proofs.Common.{inl, inr}
 use lib.Dec.{ltb}
-use lib.ListN.{set}
+use lib.ListN.{length, set, take, replicate, length-replicate}
 use lib.Seq.{sets}
 use Rattle.words.proofs.Branch.{pick_yes, pick_no, pick_all}
-use Rattle.sheet.specs.Digits.{byte_of, power, digits, width_of, decimal_of}
+use Rattle.sheet.specs.Digits.{byte_of, power, digits, hex_of, width_of, decimal_of}
+use Rattle.sheet.specs.Reader.{over}
+use Rattle.sheet.proofs.DigitsLaws.{sixteen}
 use Rattle.sheet.proofs.Inverse.{length_digits, power-some}
 use Rattle.forecast_text.specs.Printed.{width_in, numeral_of}
 use Rattle.forecast_text.specs.Put.{Put}
-use Rattle.forecast_text.proofs.PutLaws.{sets_last}
+use Rattle.forecast_text.specs.Numerals.{lowest, last_digits}
+use Rattle.forecast_text.proofs.PutLaws.{sets_last, over-put, put-cut}
 
 -- ---- the last digit
 
@@ -84,6 +87,18 @@ module _ (b : ℕ) (some : 0 < b) where
             ∙ ap (λ n. sets (set m (at + n) (byte_of (v % b))) at (digits b k (v / b))) (length_digits b k (v / b))));
       }
 
+  -- the same of any number, whose last digits are put
+  pub last-turn : (left v at : ℕ) (m : List ℕ) → 0 < left
+      → sets (set m (at + (left - 1)) (byte_of (v % b))) at (digits b (left - 1) (v / b % power b (left - 1)))
+      ≡ sets m at (digits b left (v % power b left))
+  unfolding power
+  last-turn zero v at m s = absurd (let z : ⊥ = omega arith in z)
+  last-turn (suc k) v at m s =
+      let e : suc k - 1 ≡ k = omega arith in
+      let pos : 0 < power b k = power-some b k some in
+      let t = digit-turn (suc k) (v % (power b k * b)) at m s (mod-lt v (power-some b (suc k) some)) in
+      rw (e, ← low_digit (power b k) v pos, ← low-rest (power b k) v pos) (rw e at t.is)
+
 -- no digit is left to put
 pub digits-put : (b width value left rest at : ℕ) {m₀ m : List ℕ} → left ≤ 0
     → sets m at (digits b left rest) ≡ sets m₀ at (digits b width value)
@@ -94,6 +109,36 @@ digits-put b width value zero rest at h e = record {
   is = e;
 }
 digits-put b width value (suc k) rest at h e = absurd (let z : ⊥ = omega arith in z)
+
+pub length-lowest : (b n v : ℕ) → length (lowest b n v) ≡ n
+length-lowest b n v = length_digits b n (v % power b n)
+
+-- of a number that they spell, the last digits are all
+pub lowest-spelt : (b n v : ℕ) → v < power b n → lowest b n v ≡ digits b n v
+lowest-spelt b n v spelt = ap (digits b n) (mod-eq_of_lt spelt)
+
+module _ (base width v : ℕ) (least : 2 ≤ base) (most : base ≤ 16) (few : width ≤ 20) where
+  pub last-lowest : last_digits base width v ≡ lowest base width v
+  unfolding last_digits
+  last-lowest =
+      let b : max 2 (min base 16) ≡ base = omega arith in
+      let n : min width 20 ≡ width = omega arith in
+      rw (b, n) refl
+
+  pub last-spelt : v < power base width → last_digits base width v ≡ digits base width v
+  last-spelt spelt = last-lowest ∙ lowest-spelt base width v spelt
+
+  -- they stand in the first of twenty bytes
+  pub lowest-first : take width (over (last_digits base width v) (replicate 20 0)) ≡ lowest base width v
+  lowest-first =
+      let room : width ≤ length {A = ℕ} (replicate 20 0) = omega (arith, length-replicate {A = ℕ} 20 0) in
+      rw last-lowest
+      (put-cut width (over-put (lowest base width v) (replicate 20 0)) (length-lowest base width v) room)
+
+  -- and where they spell the number, it does
+  pub spelt-first : v < power base width
+      → take width (over (last_digits base width v) (replicate 20 0)) ≡ digits base width v
+  spelt-first spelt = lowest-first ∙ lowest-spelt base width v spelt
 
 -- ---- how many digits
 
@@ -116,6 +161,14 @@ width-spells (suc k) v h =
 pub twenty : power 10 20 ≡ 10 ^ 20
 unfolding power
 twenty = refl
+
+-- any count is spelt so in base 10, and in base 16 by sixteen
+pub numeral-lowest : (v w : ℕ) → v < 2 ^ 64 → w ≡ width_in 19 v → lowest 10 w v ≡ numeral_of v
+numeral-lowest v w h e =
+    rw e (lowest-spelt 10 (width_in 19 v) v (width-spells 19 v (omega (arith, twenty))))
+
+pub hex-lowest : (v : ℕ) → v < 2 ^ 64 → lowest 16 16 v ≡ hex_of v
+hex-lowest v h = lowest-spelt 16 16 v (omega (arith, sixteen))
 
 -- ---- the digits of a sheet's decimals are those of any count
 

@@ -70,17 +70,17 @@ reached-few e h =
       length-take e.species e.amounts,
     ))
 
-refusal-few : (e : ForecastError) → length (refusal_text e) ≤ 771
+refusal-short : (e : ForecastError) → length (refusal_text e) ≤ 32
 unfolding refusal_text text
-refusal-few (Opening x) = simp length-append (omega (arith, numeral-few (refusal_number x)))
-refusal-few (Malformed k) = simp length-append (omega (arith, numeral-few k))
-refusal-few TooLong = omega arith
+refusal-short (Opening x) = simp length-append (omega (arith, numeral-few (refusal_number x)))
+refusal-short (Malformed k) = simp length-append (omega (arith, numeral-few k))
+refusal-short TooLong = omega arith
 
 -- an array of amounts has 32 of them
 pub printed-few-proof : (f : Forecast) → IfOk f (λ e. length e.amounts ≡ 32) → length (printed_of f) ≤ 771
 unfolding printed_of
 printed-few-proof (Ok e) h = reached-few e h
-printed-few-proof (Err x) h = refusal-few x
+printed-few-proof (Err x) h = omega (arith, refusal-short x)
 
 -- what was put of g into fresh room is what is printed of f
 pub answered : (f g : Forecast) {before after : List ℕ} → f ≡ g → IfOk g (λ e. length e.amounts ≡ 32) → before ≡ []
@@ -89,7 +89,11 @@ answered f g {before} {after} is h fresh p =
     let few : length (printed_of g) ≤ 1024 = omega (arith, printed-few-proof g h) in
     p ∙ ap (λ m. put 1024 m (printed_of g)) fresh ∙ put-whole 1024 (printed_of g) few ∙ ap printed_of (sym is)
 
-pub refused : (f : Forecast) (x y : ForecastError) {before after : List ℕ} → f ≡ Err x → x ≡ y → before ≡ []
-    → after ≡ put 1024 before (refusal_text y) → after ≡ printed_of f
+-- a refusal, in any room of 32 bytes or more
+pub refused : (room : ℕ) (f : Forecast) (x y : ForecastError) {before after : List ℕ} → 32 ≤ room → f ≡ Err x → x ≡ y
+    → before ≡ [] → after ≡ put room before (refusal_text y) → after ≡ printed_of f
 unfolding printed_of
-refused f x y is same fresh p = answered f (Err y) (is ∙ ap Err same) tt fresh p
+refused room f x y wide is same fresh p =
+    let few : length (refusal_text y) ≤ room = omega (arith, refusal-short y) in
+    p ∙ ap (λ m. put room m (refusal_text y)) fresh ∙ put-whole room (refusal_text y) few
+    ∙ ap printed_of (sym (is ∙ ap Err same))

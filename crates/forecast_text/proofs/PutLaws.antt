@@ -1,16 +1,15 @@
 -- Bytes put into memory: one text behind another is both in a row, the last byte may be put first, and bytes put from
 -- the start stand over the first entries.
-use Prim.Native.Nat.{ℕ, zero, suc, ◌+◌, ◌-◌, ◌≤◌}
+use Prim.Native.Nat.{ℕ, zero, suc, ◌+◌, ◌-◌, ◌≤◌, ◌<◌}
 use mathlib.Core.Path.{◌≡◌, refl, sym, ap, ◌∙◌}
 use mathlib.Core.List.{List, [], ◌∷◌, ◌++◌, append_assoc, append-nil}
 use native.Mathlib.Omega.{arith}
-use lib.ListN.{length, set, take, drop, length-append}
+use lib.ListN.{length, get_or, set, take, drop, length-append, drop_of_length-le}
 use lib.Seq.{sets, sets-eq, set_comm, take_all, take-append_seam}
 use Rattle.std.proofs.lemmas.List.{length-take, take_min}
-use borrow.Rule.Slice.PartMut.{put_mid}
-use Rattle.std.proofs.lemmas.Slice.{put_mid-paste}
 use Rattle.std.specs.Prelude.{min}
 use Rattle.sheet.specs.Reader.{over}
+use Rattle.sheet.proofs.DigitsLaws.{drop_more}
 use Rattle.forecast_text.specs.Put.{Put, put}
 
 -- ---- one behind the other
@@ -34,14 +33,21 @@ put_then {at} {next} {last} {xs} {ys} {m₀} p q =
           ∙ sym (sets-append xs ys m₀ at);
     }
 
--- ---- a text over as many bytes
+-- ---- a text, byte by byte
 
-pub text-copied : (at k : ℕ) (m copied bytes : List ℕ) → copied ≡ bytes → at + length bytes ≤ length m
-    → k ≡ at + length bytes - at → put_mid at k m copied ≡ sets m at bytes
-text-copied at k m copied bytes e h n =
-    put_mid-paste at k m copied bytes (length bytes) e (omega arith) refl
-    ∙ ap (λ l. take at m ++ l ++ drop (at + length bytes) m) (take_all (length bytes) bytes (omega arith))
-    ∙ sym (sets-eq bytes m at h)
+pub text-first : (at : ℕ) (bytes m : List ℕ) → sets m (at + 0) bytes ≡ sets m at bytes
+text-first at bytes m = let e : at + 0 ≡ at = omega arith in ap (λ k. sets m k bytes) e
+
+module _ (at i : ℕ) (bytes m : List ℕ) where
+  pub text-more : i < length bytes
+      → sets (set m (at + i) (get_or bytes i 0)) (at + (i + 1)) (drop (i + 1) bytes) ≡ sets m (at + i) (drop i bytes)
+  text-more h =
+      let e : at + (i + 1) ≡ suc (at + i) = omega arith in
+      ap (λ k. sets (set m (at + i) (get_or bytes i 0)) k (drop (i + 1) bytes)) e
+      ∙ ap (λ l. sets m (at + i) l) (sym (drop_more bytes i h))
+
+  pub text-all : length bytes ≤ i → m ≡ sets m (at + i) (drop i bytes)
+  text-all h = ap (λ l. sets m (at + i) l) (sym (drop_of_length-le bytes h))
 
 -- ---- the last byte first
 
@@ -71,6 +77,9 @@ sets_over (v ∷ vs) (x ∷ m) = sets_behind vs m v 0 ∙ ap (λ l. v ∷ l) (se
 
 pub put-over : {bytes m₀ m₁ : List ℕ} {next : ℕ} → Put 0 bytes m₀ m₁ next → m₁ ≡ over bytes m₀
 put-over {bytes} {m₀} p = p.is ∙ sets_over bytes m₀
+
+pub over-put : (bytes m : List ℕ) → Put 0 bytes m (over bytes m) (length bytes)
+over-put bytes m = record { ends = omega arith; is = sym (sets_over bytes m) }
 
 -- no more of a text is put over memory than finds room there
 over-cut : (vs m : List ℕ) → over (take (length m) vs) m ≡ over vs m
@@ -138,3 +147,11 @@ put-copied {room} {count} {next} {memory} {before} {after} {part} bytes m n b t 
     ap (λ n. take n after) whole ∙ ap (λ l. take (length (before ++ part)) l) written
     ∙ take-append_seam (before ++ part) (drop (count + length part) memory)
     ∙ ap (λ l. before ++ l) (t ∙ take_min (room - count) bytes ∙ ap (λ n. take n bytes) left)
+
+-- and where all of it finds room
+pub put-fits : {room count next : ℕ} {memory before after : List ℕ} (bytes : List ℕ) → length memory ≡ room
+    → count ≤ room → take count memory ≡ before → length bytes ≤ room - count
+    → Put count bytes memory after next → take next after ≡ put room before bytes
+put-fits {room} {count} bytes m n b h p =
+    let all : min (room - count) (length bytes) ≡ length bytes = omega arith in
+    put-copied bytes m n b (sym (ap (λ k. take k bytes) all ∙ take_all (length bytes) bytes (omega arith))) p

@@ -1,12 +1,15 @@
 // What numbers are put into memory with, for every crate that does: the byte of a digit, and how many there are.
-ghost use Rattle.std.specs.Prelude.{◌%◌, ◌≤◌, ◌<◌, ◌≡◌, take};
-ghost use Rattle.sheet.specs.Digits.{byte_of, power, digits};
+ghost use Rattle.std.specs.Prelude.{◌+◌, ◌%◌, ◌≤◌, ◌≡◌, length, replicate};
+ghost use Rattle.sheet.specs.Digits.{byte_of};
+ghost use Rattle.sheet.specs.Reader.{over};
 ghost use Rattle.forecast_text.specs.Printed.{width_in};
+ghost use Rattle.forecast_text.specs.Put.{Put};
+ghost use Rattle.forecast_text.specs.Numerals.{lowest, last_digits};
 
 use bits::{BYTE_0, TEN_BELOW_A};
 
 // As many digits as a number may have, in any base from ten to sixteen.
-const DIGITS: usize = 20;
+pub(crate) const DIGITS: usize = 20;
 
 // The byte of a number's last hexadecimal digit.
 pub fn digit_byte(number: u64) -> u8
@@ -31,18 +34,26 @@ pub fn decimal_width(value: u64) -> usize
     }
 }
 
-// The digits of a number that `width` digits of a base can spell, in the first of the room.
-pub fn digits_of(base: u64, width: usize, value: u64) -> [u8; DIGITS]
-    requires width { width ≤ 20 }
+// Puts the last `width` digits of a number from a place on, the very last first, and returns the place behind them.
+#[inline(always)]
+pub(crate) fn put_digits(out: &mut [u8], at: usize, base: u64, width: usize, value: u64) -> usize
+    requires room { at + width ≤ length out.old }
     requires base { (2 ≤ base) × (base ≤ 16) }
-    requires spelt { value < power base width }
-    ensures { take width result ≡ digits base width value }
+    ensures { Put at (lowest base width value) out.old out.new result }
 {
-    let mut digits = [0; DIGITS];
     let mut rest = value;
     for place in (0..width).rev() {
-        digits[place] = digit_byte(rest % base);
+        out[at + place] = digit_byte(rest % base);
         rest = rest / base;
     }
+    at + width
+}
+
+// The last `width` digits of a number, in the first of the room: all of it where they spell it.
+pub fn digits_of(base: u64, width: usize, value: u64) -> [u8; DIGITS]
+    ensures { result ≡ over (last_digits base width value) (replicate 20 0) }
+{
+    let mut digits = [0; DIGITS];
+    put_digits(&mut digits, 0, base.clamp(2, 16), width.min(DIGITS), value);
     digits
 }

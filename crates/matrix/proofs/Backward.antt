@@ -3,10 +3,10 @@
 -- reads, besides it, entry k. Turns in two rows may change places where neither reads what the other writes, and so may
 -- a turn and the division of another entry. The proof goes over the number d of columns done: they leave what d whole
 -- rows leave once each row above them has lost its first d parts (`columns-then-rows`). With d = n no row is left
--- above. `rows-solved`: a row's sum may be kept in a variable. `solved-by`: both phases.
+-- above. `rows-solved`: a row's sum may be kept in a variable. `solved-after`, `solved-by`: both phases.
 use Prim.Native.Nat.{ℕ, zero, suc, ◌+◌, ◌-◌, ◌≤◌, ◌<◌}
 use mathlib.Core.Logic.{◌≢◌}
-use mathlib.Core.Path.{◌≡◌, sym, ap, ◌∙◌}
+use mathlib.Core.Path.{◌≡◌, refl, sym, ap, ◌∙◌}
 use mathlib.Core.List.{List}
 use native.Mathlib.Omega.{arith}
 use lib.Dec.{eqb}
@@ -18,7 +18,7 @@ use Rattle.matrix.specs.Substitution.{exchanged, Side, forward_at, back_at, subs
 use Rattle.matrix.specs.Reordered.{Entries, gained_at, stepped, stepped_at, sum_at, row_solved_at}
 use Rattle.matrix.specs.Reordered.{solved_by_rows}
 use Rattle.matrix.proofs.Interchange.{none, more, whole, past, through, split, alike, idle}
-use Rattle.matrix.proofs.Sides.{taken, quotient, taken_at, divided_at, Lawful}
+use Rattle.matrix.proofs.Sides.{taken, quotient, taken_at, divided_at, Lawful, ReadOnce}
 
 -- row n - ib by its own number
 pub row_counted : {A B E : Type 0} (entries : Entries A B E) (a : A) (n i : ℕ) (b : B) → i < n
@@ -221,6 +221,17 @@ module _ {A B E : Type 0} (side : Side A B) (entries : Entries A B E)
       ∙ ap (λ (m : ℕ). side.divided a n 0 (loop (forward_at side a n ip) 0 m b)) z
       ∙ ap (side.divided a n 0) (loop-none (forward_at side a n ip) 0 b)
 
+  -- both phases, by what stands after each
+  pub solved-after : (ip : List ℕ) (b : B) {b₁ b₂ : B} → 1 ≤ n → P n b₁
+      → b₁ ≡ loop (forward_at side a n ip) 0 (n - 1) b
+      → b₂ ≡ loop (row_solved_at entries a n) 1 (n + 1) b₁ → b₂ ≡ solved side a n ip b
+  unfolding solved substituted
+  solved-after ip b {b₁} {b₂} h full e₁ e₂ =
+      let e : b₂ ≡ substituted side a n ip b
+      = e₂ ∙ by_rows h b₁ full ∙ ap (λ (t : B). side.divided a n 0 (loop (back_at side a n) 1 n t)) e₁ in
+      pick_all (λ (t : B). b₂ ≡ t) (eqb n 1) (side.divided a n 0 b) (substituted side a n ip b)
+      (λ t. e ∙ one ip b (eqb-true n 1 t)) (λ t. e)
+
   -- a step of the forward phase
   step_kept : (ip : List ℕ) (k : ℕ) → k < n → (s : B) → P n s → P n (stepped_at entries a n ip k s)
   unfolding stepped_at stepped gained_at exchanged
@@ -228,23 +239,19 @@ module _ {A B E : Type 0} (side : Side A B) (entries : Entries A B E)
       through (P n) (gained_at entries a n k _) (k + 1) n (omega arith) (λ i l₁ l₂ t q. law.kept t n i _ q) _
       (law.kept _ n k _ (law.kept s n _ _ full))
 
-  step-is : (ip : List ℕ) (k : ℕ) → k < n → (s : B) → P n s → stepped_at entries a n ip k s ≡ forward_at side a n ip k s
+  step-is : ReadOnce side entries P → (ip : List ℕ) (k : ℕ) → k < n → (s : B) → P n s
+      → stepped_at entries a n ip k s ≡ forward_at side a n ip k s
   unfolding stepped_at forward_at
-  step-is ip k h s full = sym (law.steps a n k _ s full h)
+  step-is once ip k h s full = sym (once.steps a n k _ s full h)
 
-  -- both phases
-  pub solved-by : (ip : List ℕ) (b : B) → 1 ≤ n → P n b → solved_by_rows entries a n ip b ≡ solved side a n ip b
-  unfolding solved substituted solved_by_rows
-  solved-by ip b h full =
-      let b₁ = loop (stepped_at entries a n ip) 0 (n - 1) b in
-      let full₁ : P n b₁
-      = through (P n) (stepped_at entries a n ip) 0 (n - 1) (omega arith)
-      (λ k l₁ l₂ s q. step_kept ip k (omega arith) s q) b full in
-      let e₁ : b₁ ≡ loop (forward_at side a n ip) 0 (n - 1) b
-      = alike (P n) (stepped_at entries a n ip) (forward_at side a n ip) 0 (n - 1) (omega arith)
-      (λ k l₁ l₂ s q. step_kept ip k (omega arith) s q) (λ k l₁ l₂ s q. step-is ip k (omega arith) s q) b full in
-      let b₂ = loop (row_solved_at entries a n) 1 (n + 1) b₁ in
-      let e : b₂ ≡ substituted side a n ip b
-      = by_rows h b₁ full₁ ∙ ap (λ (t : B). side.divided a n 0 (loop (back_at side a n) 1 n t)) e₁ in
-      pick_all (λ (t : B). b₂ ≡ t) (eqb n 1) (side.divided a n 0 b) (substituted side a n ip b)
-      (λ t. e ∙ one ip b (eqb-true n 1 t)) (λ t. e)
+  -- both phases, as the code goes
+  pub solved-by : ReadOnce side entries P → (ip : List ℕ) (b : B) → 1 ≤ n → P n b
+      → solved_by_rows entries a n ip b ≡ solved side a n ip b
+  unfolding solved_by_rows
+  solved-by once ip b h full =
+      solved-after ip b h
+      (through (P n) (stepped_at entries a n ip) 0 (n - 1) (omega arith)
+      (λ k l₁ l₂ s q. step_kept ip k (omega arith) s q) b full)
+      (alike (P n) (stepped_at entries a n ip) (forward_at side a n ip) 0 (n - 1) (omega arith)
+      (λ k l₁ l₂ s q. step_kept ip k (omega arith) s q) (λ k l₁ l₂ s q. step-is once ip k (omega arith) s q) b full)
+      refl

@@ -1,6 +1,6 @@
 -- The entries of a right side as places: what a store leaves alone, and that stores at two places may change turns.
--- `Lawful` is what proofs/Backward.antt asks of a kind of right side; real ones (`real-lawful`) and complex ones
--- (`complex-lawful`) obey it.
+-- `Lawful` is what proofs/Backward.antt asks of a kind of right side for its back phase, `ReadOnce` for its forward
+-- phase; real ones (`real-lawful`, `real-once`) and complex ones (`complex-lawful`, `complex-once`) obey both.
 use Prim.Native.Nat.{ℕ, ◌+◌, ◌<◌}
 use mathlib.Core.Logic.{◌≢◌}
 use mathlib.Core.Path.{◌≡◌, refl, sym, ap, ◌∙◌}
@@ -52,6 +52,9 @@ pub record Lawful {A B E : Type 0} (side : Side A B) (entries : Entries A B E) (
   -- the definition's acts are these
   pub divides : (a : A) (n k : ℕ) (b : B) → side.divided a n k b ≡ divided_at entries a n k b
   pub takes : (a : A) (n k : ℕ) (b : B) → side.back a n k b ≡ loop (taken_at entries a n k) 0 k b
+
+-- a step of the forward phase may read entry k once, which no turn writes
+pub record ReadOnce {A B E : Type 0} (side : Side A B) (entries : Entries A B E) (P : ℕ → B → Type 0) : Type 0 where
   pub steps : (a : A) (n k m : ℕ) (b : B) → P n b → k < n → side.forward a n k m b ≡ stepped entries a n k m b
 
 -- ---- real right sides
@@ -88,8 +91,10 @@ real-lawful =
       kept = λ b n i x p. length-set b i x ∙ p;
       divides = divides-real;
       takes = takes-real;
-      steps = steps-real;
     }
+
+pub real-once : ReadOnce real_side real_entries Full
+real-once = record { steps = steps-real }
 
 -- ---- complex right sides, part by part
 
@@ -156,5 +161,7 @@ complex-lawful =
       kept = kept-complex;
       divides = divides-complex;
       takes = takes-complex;
-      steps = steps-complex;
     }
+
+pub complex-once : ReadOnce complex_side complex_entries BothFull
+complex-once = record { steps = steps-complex }

@@ -3,7 +3,8 @@
 --     last multiplier that is not zero it doesn't go at all (proofs/Rows.antt: the matrix is the same) a complex
 --     update is one loop that asks for the multiplier's case in each turn, where lu.rs has three loops
 --     (proofs/Cases.antt: the same) a back phase goes row by row, where linear.rs goes column by column
---     (proofs/Backward.antt: the right side is the same)
+--     (proofs/Backward.antt: the right side is the same) a step of the real forward phase reads b[k] once, where
+--     linear.rs reads it in each turn (proofs/Sides.antt: the same)
 use Rattle.std.specs.Prelude.{ℕ, ◌+◌, ◌-◌, ◌≤◌, ◌<◌, ◌≡◌, List, get_or, set, Float}
 use Rattle.std.specs.Float.Ieee.{neg, eq, ne}
 use Rattle.words.specs.Words.{◌⊕◌, ◌⊗◌, ◌⊘◌, ◌!◌}

@@ -87,7 +87,8 @@ fn change_all(
 )
     requires { (reactions ≤ 64) × (reactions ≤ length rates.now) × (4 * reactions ≤ length species.now)
         × ((k : ℕ) → k < 4 * reactions → get_or species.now k 0 ≤ length y.now) }
-    ensures { Changes reactions y.now rates.now species.now changes.new }
+    ensures changes_len { length changes.new ≡ 128 }
+    ensures changed { Changes reactions y.now rates.now species.now changes.new }
 {
     for i in 0..reactions {
         let k = 4 * i;
@@ -137,7 +138,8 @@ pub fn derivative_by_plan(
     dy: &mut [f64],
 )
     requires { IfSome plan (λ p. IsPlanOf p.now reactions species.now) }
-    ensures { dy.new ≡ (derived_of reactions y.now rates.now species.now dy.old).dy }
+    ensures changes_len { length changes.new ≡ 128 }
+    ensures dy_after { dy.new ≡ (derived_of reactions y.now rates.now species.now dy.old).dy }
 {
     match plan {
         Some(plan) if y.len() == plan.n && dy.len() == plan.n && reactions <= rates.len() => {

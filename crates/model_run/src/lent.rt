@@ -1,5 +1,5 @@
 // A run in lent memory, answered and advanced turn by turn up to its end.
-ghost use Rattle.std.specs.Prelude.{◌≡◌, IfSome};
+ghost use Rattle.std.specs.Prelude.{◌≡◌, length, IfSome};
 ghost use Rattle.state.specs.Memory.{memory, amounts, newton, given, factors, differences};
 ghost use Rattle.state.specs.Lent.{memory_of, SameWork};
 ghost use Rattle.history.specs.Host.{is_end};
@@ -51,6 +51,7 @@ fn turned(
         ≡ turn_of (answered_by reactions rates.now species.now)
         (point (run_at words.old doubles.old) call.request call.place
         (memory_of y.old f0.old rtol.now atol.now mass.now work.old)) }
+    ensures changes_len { length changes.new ≡ 128 }
 {
     let request = call.request;
     let place = call.place;

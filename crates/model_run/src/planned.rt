@@ -1,6 +1,6 @@
 // What the host does between two advances: asked for a derivative it fills in that of the model's reactions, and every
 // report it answers with 'continue'. It goes by the plan of the model, or without one where there is none.
-ghost use Rattle.std.specs.Prelude.{◌≡◌, List, take, Float, IfSome};
+ghost use Rattle.std.specs.Prelude.{◌≡◌, List, length, take, Float, IfSome};
 ghost use Rattle.state.specs.Memory.{Given, Factors, memory, amounts, newton, differences};
 ghost use Rattle.history.specs.Host.{filled, wrote};
 ghost use Rattle.model.specs.Derivative.{derived_of};
@@ -22,9 +22,10 @@ fn derive_first(
     changes: &mut [f64; CHANGES],
 )
     requires { IfSome plan (λ p. IsPlanOf p.now reactions species.now) }
-    ensures { part.new
+    ensures part_after { part.new
         ≡ (derived_of reactions (take n cont.now) rates.now
         species.now part.old).dy }
+    ensures changes_len { length changes.new ≡ 128 }
 {
     if n < cont.len() {
         derivative_by_plan(plan, changes, reactions, &cont[..n], rates, species, part);
@@ -53,7 +54,7 @@ fn fill(
     changes: &mut [f64; CHANGES],
 )
     requires { IfSome plan (λ p. IsPlanOf p.now reactions species.now) }
-    ensures { (scal f2 f3 : List Float) (g : Given) (f : Factors) → memory
+    ensures f_origin_after { (scal f2 f3 : List Float) (g : Given) (f : Factors) → memory
         (amounts y.now f0.new scal cont.now)
         (newton z1.new z2.new z3.new f1.new f2 f3)
         g f
@@ -69,6 +70,7 @@ fn fill(
         (newton z1.old z2.old z3.old f1.old f2 f3)
         g f
         (differences y_perturbed.now f_perturbed.old f_origin.old)) }
+    ensures changes_len { length changes.new ≡ 128 }
 {
     let n = y.len();
     match place {
@@ -135,6 +137,7 @@ pub fn answer_by_plan(
         (newton z1.old z2.old z3.old f1.old f2 f3)
         g f
         (differences y_perturbed.now f_perturbed.old f_origin.old)) }
+    ensures changes_len { length changes.new ≡ 128 }
 {
     match request {
         Request::Derivative(_) => {

@@ -8,14 +8,16 @@ use Rattle.night_totals.specs.Filling.{passed_of, passed_from, digit_of, stored_
 use Rattle.night_totals.specs.Filling.{behind_from, behind_of, number_of, filled_of}
 use Rattle.night_totals.specs.Printed.{totals_numbers, totals_from}
 use Rattle.night_totals.specs.declared.filling.Filling.{Filling}
-use Rattle.night_totals.proofs.FormLaws.{opened, none-some}
+use Rattle.night_totals.specs.declared.filling.Number.{Number}
+use Rattle.night_totals.specs.declared.filling.Number.TheVariants as numbers
+use Rattle.night_totals.proofs.FormLaws.{by_number}
 use Rattle.night_chain.specs.Texts.{Short}
 
 abbrev pub Small : List ℕ → Type 0
 Small vs = (k : ℕ) → get_or vs k 0 < 10000000000000000
 
 pub record Few (q : Filling) : Type 0 where
-  pub number : (v : ℕ) → q.number ≡ Some v → v < 10000000000000000
+  pub number : (v : ℕ) → q.number ≡ numbers.Begun v → v < 10000000000000000
   pub values : Small q.values
 
 -- a text of a form, as far as it has come
@@ -35,8 +37,8 @@ set-small (x ∷ vs) zero v l h (suc k) = h (suc k)
 set-small (x ∷ vs) (suc i) v l h zero = h zero
 set-small (x ∷ vs) (suc i) v l h (suc k) = set-small vs i v l (λ j. h (suc j)) k
 
-no-number : (v : ℕ) → None ≡ Some v → v < 10000000000000000
-no-number v e = absurd (none-some e)
+no-number : (v : ℕ) → numbers.Awaited 0 ≡ numbers.Begun v → v < 10000000000000000
+no-number v e = absurd (let z : ◌≡◌ {A = ℕ} 0 1 = cc in omega arith)
 
 pub blank-few : Few blank_of
 blank-few = record { number = no-number; values = zeros 16 }
@@ -60,17 +62,17 @@ kept-few q v l x = record { number = no-number; values = set-small q.values q.fi
 behind-few : (form : List ℕ) (q : Filling) (b : ℕ) → Few q → AllFew (behind_of form q b)
 unfolding behind_of stored_of
 behind-few form q b x =
-    let F = λ (o : Option ℕ). AllFew (behind_from form q o b) in
-    opened q.number (λ n. subst F (sym n) tt)
+    let F = λ (n : Number). AllFew (behind_from form q n b) in
+    by_number q.number (λ v e. subst F (sym e) tt)
     (λ v e. subst F (sym e) (pick_all (λ o. AllFew (passed_from form o b)) (leb 16 q.filled) None (Some (kept q v))
     (λ e. tt) (λ n. passed-few form (kept q v) b (kept-few q v (x.number v e) x))))
 
 digit-few : (q : Filling) (d : ℕ) → d < 10 → Few q → AllFew (digit_of q d)
 unfolding digit_of longer_of
 digit-few q d l x =
-    let F = λ (o : Option ℕ). AllFew (grown q (longer_of o d)) in
+    let F = λ (n : Number). AllFew (grown q (longer_of n d)) in
     let G = λ (o : Option ℕ). AllFew (grown q o) in
-    opened q.number (λ n. subst F (sym n) (valued-few q d (omega arith) x))
+    by_number q.number (λ v e. subst F (sym e) (valued-few q d (omega arith) x))
     (λ v e. subst F (sym e) (pick_all G (eqb v 0) None _ (λ e. tt)
     (λ e. pick_all G (leb 1000000000000000 v) None _ (λ e. tt)
     (λ e. let h : v < 1000000000000000 = leb-false _ _ e in valued-few q (v * 10 + d) (omega arith) x))))

@@ -1,6 +1,6 @@
 -- What is printed of totals: its fourteen lines, and its numbers found again.
 use Rattle.std.proofs.Common.{Some}
-use Rattle.std.proofs.Common.{◌≡◌, ℕ, zero, suc, ◌+◌, ◌/◌, ◌%◌, ◌≤◌, true, false, eqb, ltb, List, [], ◌∷◌, ◌++◌, length}
+use Rattle.std.proofs.Common.{◌≡◌, ℕ, zero, suc, ◌+◌, ◌/◌, ◌%◌, ◌≤◌, true, false, eqb, ltb, List, [], ◌∷◌, ◌++◌}
 use Rattle.std.proofs.Common.{get_or, sym, refl, ap, ◌∙◌, append_assoc, append-nil, arith, ne_eqb, eqb-true}
 use Rattle.words.specs.Loop.{pick}
 use Rattle.words.proofs.Branch.{pick_no, pick_all}
@@ -13,6 +13,7 @@ use Rattle.night_totals.specs.declared.filling.Filling.{Filling}
 use Rattle.night_totals.specs.declared.totals.Totals.{Totals}
 use Rattle.night_totals.proofs.FormLaws.{split, slots_in, spelt-byte, spelt-number}
 use Rattle.night_totals.proofs.CompleteLaws.{fill_of, proper_from, set_in, state_at, filled-whole}
+use Rattle.night_totals.proofs.WrittenLaws.{form-length, form-slots}
 use Rattle.night_chain.specs.Texts.{printed, Short, first_lines, Begins}
 use Rattle.night_chain.proofs.TextLaws.{ended, behind, first-behind, ended-append, first-append, behind-append}
 use Rattle.night_chain.proofs.TextLaws.{first-fewer, ends_line, behind-plain}
@@ -63,17 +64,9 @@ behind-spelt (x ∷ f) (suc n) k vs h =
 
 -- ---- the form of totals
 
-pub form-length : length totals_form ≡ 138
-unfolding text
-form-length = refl
-
 form-proper : proper_from false totals_form ≡ true
 unfolding text proper_from pick
 form-proper = refl
-
-pub form-slots : slots_in totals_form ≡ 15
-unfolding text slots_in pick
-form-slots = refl
 
 pub form-ended : ended totals_form ≡ 14
 unfolding text ended pick

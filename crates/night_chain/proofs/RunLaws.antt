@@ -10,17 +10,20 @@ use Rattle.night_totals.specs.Form.{spelt}
 use Rattle.night_totals.specs.Filling.{blank_of, numbered_at, kept, filled_of}
 use Rattle.night_totals.specs.Printed.{totals_form, totals_from, printed_of}
 use Rattle.night_totals.specs.declared.filling.Filling.{Filling}
+use Rattle.night_totals.specs.declared.filling.Number.{Number}
+use Rattle.night_totals.specs.declared.filling.Number.TheVariants as numbers
 use Rattle.night_totals.specs.declared.totals.Totals.{Totals}
-use Rattle.night_totals.proofs.FormLaws.{opened, slots_in, slots-append, spelt-append}
+use Rattle.night_totals.proofs.FormLaws.{by_number, slots_in, slots-append, spelt-append}
 use Rattle.night_totals.proofs.SoundLaws.{begun, past, Sound, Next, blank-sound, blank-past, idle-off, filled_next}
 use Rattle.night_totals.proofs.SoundLaws.{kept-past}
 use Rattle.night_totals.proofs.CompleteLaws.{filled_from, fill_of, fill-append}
 use Rattle.night_totals.proofs.LineLaws.{ends-wrong}
+use Rattle.night_totals.proofs.WrittenLaws.{form-length, form-slots}
 use Rattle.night_chain.specs.Texts.{printed, Short, first_lines, Begins}
 use Rattle.night_chain.proofs.TextLaws.{ended, behind, first-behind, ended-append, first-append, ended-first}
 use Rattle.night_chain.proofs.TextLaws.{early-lines, Meet, longer, shorter, meet, first_byte}
 use Rattle.night_chain.proofs.FewLaws.{Few, AllFew, blank-few, kept-few, filled-few, totals-short}
-use Rattle.night_chain.proofs.PrintedLaws.{numeral-plain, ended-spelt, form-length, form-slots, form-ended}
+use Rattle.night_chain.proofs.PrintedLaws.{numeral-plain, ended-spelt, form-ended}
 use Rattle.night_chain.proofs.PrintedLaws.{form-ends, printed_ended, printed-filled}
 
 -- the bytes of totals that have begun, and are not whole yet
@@ -80,9 +83,10 @@ start_plain : numbered_at totals_form 0 ≡ false
 unfolding numbered_at text
 start_plain = refl
 
-past-idle : (q : Filling) → q.number ≡ None → past totals_form q ≡ spelt (take q.at totals_form) 0 q.values
+past-idle : (q : Filling) {v : ℕ} → q.number ≡ numbers.Awaited v
+    → past totals_form q ≡ spelt (take q.at totals_form) 0 q.values
 unfolding past
-past-idle q off = ap (λ o. spelt (take q.at totals_form) 0 q.values ++ begun o) off ∙ append-nil _
+past-idle q off = ap (λ n. spelt (take q.at totals_form) 0 q.values ++ begun n) off ∙ append-nil _
 
 printed-from : (vs : List ℕ) → spelt totals_form 0 vs ≡ printed (totals_from vs)
 unfolding spelt text pick printed_of
@@ -90,14 +94,14 @@ printed-from vs = refl
 
 pub past-whole : (q : Filling) → Sound totals_form q → q.at ≡ 138 → past totals_form q ≡ printed (totals_from q.values)
 past-whole q s e =
-    past-idle q (idle-off totals_form q s (ap (numbered_at totals_form) e ∙ end-plain))
+    past-idle q (idle-off totals_form q s (ap (numbered_at totals_form) e ∙ end-plain)).is
     ∙ ap (λ f. spelt f 0 q.values) (take_all q.at totals_form (omega (arith, form-length)))
     ∙ printed-from q.values
 
 pub past-none : (q : Filling) → Sound totals_form q → q.at ≡ 0 → past totals_form q ≡ []
 unfolding spelt
 past-none q s e =
-    past-idle q (idle-off totals_form q s (ap (numbered_at totals_form) e ∙ start_plain))
+    past-idle q (idle-off totals_form q s (ap (numbered_at totals_form) e ∙ start_plain)).is
     ∙ ap (λ k. spelt (take k totals_form) 0 q.values) e
 
 -- the form begins with an l
@@ -122,10 +126,10 @@ begun-some come q x n = some_or_none come (λ e. eqb-false _ _ n (none-zero q (x
 
 -- ---- fewer than fourteen lines have come
 
-begun-plain : (o : Option ℕ) → ended (begun o) ≡ 0
+begun-plain : (n : Number) → ended (begun n) ≡ 0
 unfolding ended
-begun-plain None = refl
-begun-plain (Some v) = numeral-plain v
+begun-plain (numbers.Awaited v) = refl
+begun-plain (numbers.Begun v) = numeral-plain v
 
 past-ended : (q : Filling) → ended (past totals_form q) ≡ ended (take q.at totals_form)
 unfolding past ended
@@ -154,7 +158,7 @@ record Ahead (come : List ℕ) : Type 0 where
   rest : List ℕ
   is : come ++ rest ≡ printed t
 
-ahead-idle : (q : Filling) → Few q → q.number ≡ None → Ahead (past totals_form q)
+ahead-idle : (q : Filling) {v : ℕ} → Few q → q.number ≡ numbers.Awaited v → Ahead (past totals_form q)
 ahead-idle q f off =
     let front = take q.at totals_form in
     let back = drop q.at totals_form in
@@ -179,8 +183,8 @@ slots-left at slot =
 
 ahead : (come : List ℕ) (q : Filling) → Run come q → Ahead come
 ahead come q x =
-    rw (← x.is) (opened q.number
-    (λ off. ahead-idle q x.few off)
+    rw (← x.is) (by_number q.number
+    (λ v off. ahead-idle q x.few off)
     (λ v y. let slot = x.sound.here v y in
     let n : q.filled < 16 = omega (arith, x.sound.counted, slots-left q.at slot) in
     let p = kept-past totals_form (omega (arith, form-length)) q x.sound slot v y n in

@@ -16,6 +16,7 @@ use Rattle.night_chain.specs.Texts.{printed, Short, AllShort, nothing, another, 
 use Rattle.night_chain.specs.Reads.{joined_from, joined_of}
 use Rattle.night_chain.specs.Chain.{chain_at, start_of, lines_of, taken_of, step_of, fed_of}
 use Rattle.night_chain.specs.declared.chain.Chain.{Chain}
+use Rattle.night_chain.specs.declared.chain.Stand.TheVariants as stands
 use Rattle.night_chain.proofs.TextLaws.{ended, ended-append}
 use Rattle.night_chain.proofs.FewLaws.{totals-short}
 use Rattle.night_chain.proofs.PrintedLaws.{printed_ended}
@@ -32,7 +33,7 @@ pub record Going (s : List ℕ) (c : Chain) : Type 0 where
   pub q : Filling
   pub is : s ≡ printed_all ts ++ come
   pub short : AllShort ts
-  pub at : c ≡ chain_at (Some q) (lines_at ts come) (joined_of ts)
+  pub at : c ≡ chain_at (stands.Open q) (lines_at ts come) (joined_of ts)
   pub run : Run come q
 
 -- behind a byte with which no totals go on
@@ -44,7 +45,7 @@ pub record Wrong (s : List ℕ) (c : Chain) : Type 0 where
   pub more : List ℕ
   pub is : s ≡ printed_all ts ++ (come ++ (b ∷ more))
   pub short : AllShort ts
-  pub at : c ≡ chain_at None (lines_at ts come) (joined_of ts)
+  pub at : c ≡ chain_at (stands.Wrong blank_of) (lines_at ts come) (joined_of ts)
   pub run : Run come q
   pub bad : filled_of totals_form q b ≡ None
 
@@ -99,12 +100,12 @@ lines-whole ts t come e =
 -- ---- one byte more
 
 module _ (n : ℕ) (j : Result Totals JoinError) (r : Filling) (b : ℕ) where
-  taken-on : eqb r.at 138 ≡ false → taken_of n j (Some r) b ≡ chain_at (Some r) (lines_of n b) j
+  taken-on : eqb r.at 138 ≡ false → taken_of n j (Some r) b ≡ chain_at (stands.Open r) (lines_of n b) j
   unfolding taken_of
   taken-on e = pick_no _ _ e
 
   taken-whole : eqb r.at 138 ≡ true
-      → taken_of n j (Some r) b ≡ chain_at (Some blank_of) (lines_of n b) (then_join j (totals_from r.values))
+      → taken_of n j (Some r) b ≡ chain_at (stands.Open blank_of) (lines_of n b) (then_join j (totals_from r.values))
   unfolding taken_of
   taken-whole e = pick_yes _ _ e
 
@@ -148,7 +149,7 @@ module _ (s : List ℕ) (c : Chain) (b : ℕ) where
         short = x.short;
         at =
             taken_is (Some r) w ∙ taken-on _ _ r b e
-            ∙ ap (λ n. chain_at (Some r) n (joined_of x.ts)) (lines-on x.ts x.come b);
+            ∙ ap (λ n. chain_at (stands.Open r) n (joined_of x.ts)) (lines-on x.ts x.come b);
         run = run_more x.come x.q b x.run r w e;
       })
 
@@ -168,9 +169,10 @@ module _ (s : List ℕ) (c : Chain) (b : ℕ) where
             short = short-more t x.short (totals-short r.values (next-few x.come x.q b x.run r w).values);
             at =
                 taken_is (Some r) w ∙ taken-whole _ _ r b e
-                ∙ ap (λ n. chain_at (Some blank_of) n (then_join (joined_of x.ts) t))
+                ∙ ap (λ n. chain_at (stands.Open blank_of) n (then_join (joined_of x.ts) t))
                 (lines-on x.ts x.come b ∙ lines-whole x.ts t (x.come ++ (b ∷ [])) whole)
-                ∙ ap (λ (j : Result Totals JoinError). chain_at (Some blank_of) (lines_at (x.ts ++ (t ∷ [])) []) j)
+                ∙ ap (λ (j : Result Totals JoinError). chain_at (stands.Open blank_of) (lines_at (x.ts ++ (t ∷ [])) [])
+                j)
                 (sym (joined-more _ x.ts t));
             run = run-blank;
           })

@@ -1,10 +1,11 @@
 -- What is told of a text is what it comes to, and nothing else is.
-use Rattle.std.proofs.Common.{Result, Err, None, Some}
+use Rattle.std.proofs.Common.{Result, Err}
 use Rattle.std.proofs.Common.{◌≡◌, ℕ, suc, ◌+◌, ◌*◌, ◌%◌, ◌^◌, ◌<◌, ◌≤◌, true, false, eqb, ltb, ◌↔◌, List, [], ◌∷◌}
 use Rattle.std.proofs.Common.{◌++◌, length, sym, refl, ap, ◌∙◌, append_assoc, append-nil, arith, ltb-false, ltb-true}
 use Rattle.std.proofs.Common.{eqb-true}
 use native.Mathlib.Nat.{mod-add-mod}
 use Rattle.words.proofs.Branch.{pick_yes, pick_no}
+use Rattle.night_totals.specs.Filling.{blank_of}
 use Rattle.night_totals.specs.Night.{plus}
 use Rattle.night_totals.specs.declared.filling.Filling.{Filling}
 use Rattle.night_totals.specs.declared.totals.Totals.{Totals}
@@ -14,6 +15,7 @@ use Rattle.night_chain.specs.Texts.{printed, Short, AllShort, another, printed_a
 use Rattle.night_chain.specs.Reads.{joined_of, answer_of, Reads, joined, malformed}
 use Rattle.night_chain.specs.Chain.{chain_at, start_of, fed_of, told_of}
 use Rattle.night_chain.specs.declared.chain.Chain.{Chain}
+use Rattle.night_chain.specs.declared.chain.Stand.TheVariants as stands
 use Rattle.night_chain.specs.declared.chain.ChainError.{ChainError}
 use Rattle.night_chain.specs.declared.chain.ChainError.TheVariants as chain_error
 use Rattle.night_chain.proofs.TextLaws.{ended, ended-append}
@@ -32,15 +34,15 @@ next-line ts come =
     mod-add-mod (14 * length ts + ended come) (2 ^ 64) 1 ∙ ap (λ n. n % 2 ^ 64) z
 
 module _ (q : Filling) (n : ℕ) (j : Result Totals JoinError) where
-  told-joined : eqb q.at 0 ≡ true → told_of (chain_at (Some q) n j) ≡ answer_of j
+  told-joined : eqb q.at 0 ≡ true → told_of (chain_at (stands.Open q) n j) ≡ answer_of j
   unfolding told_of
   told-joined e = pick_yes _ _ e
 
-  told-open : eqb q.at 0 ≡ false → told_of (chain_at (Some q) n j) ≡ Err (chain_error.Malformed (plus n 1))
+  told-open : eqb q.at 0 ≡ false → told_of (chain_at (stands.Open q) n j) ≡ Err (chain_error.Malformed (plus n 1))
   unfolding told_of
   told-open e = pick_no _ _ e
 
-told-wrong : (n : ℕ) (j : Result Totals JoinError) → told_of (chain_at None n j)
+told-wrong : (n : ℕ) (j : Result Totals JoinError) → told_of (chain_at (stands.Wrong blank_of) n j)
     ≡ Err (chain_error.Malformed (plus n 1))
 unfolding told_of
 told-wrong n j = refl

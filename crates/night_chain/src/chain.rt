@@ -14,10 +14,18 @@ use std::num::wrapping_add_u64;
 
 const LINE_END: u8 = 10;
 
+// How the totals stand that have begun.
+#[derive(Clone, Copy)]
+pub enum Stand {
+    Open(Filling),
+    // A line of them is wrong.
+    Wrong(Filling),
+}
+
 #[derive(Clone, Copy)]
 pub struct Chain {
-    // The totals that have begun, unless a line is wrong.
-    pub filling: Option<Filling>,
+    // The totals that have begun.
+    pub stand: Stand,
     // The lines before.
     pub lines: u64,
     // The totals before, joined.
@@ -44,7 +52,7 @@ pub fn start() -> Chain
     ensures { result ≡ start_of }
 {
     Chain {
-        filling: Some(blank()),
+        stand: Stand::Open(blank()),
         lines: 0,
         joined: Ok(Totals::from([0u64; 16])),
     }
@@ -75,20 +83,20 @@ fn taken(lines: u64, joined: Result<Totals, JoinError>, next: Option<Filling>, b
 {
     let Some(filling) = next else {
         return Chain {
-            filling: None,
+            stand: Stand::Wrong(blank()),
             lines: lines,
             joined: joined,
         };
     };
     if filling.at != TOTALS_FORM.len() {
         return Chain {
-            filling: Some(filling),
+            stand: Stand::Open(filling),
             lines: lines_of(lines, byte),
             joined: joined,
         };
     }
     Chain {
-        filling: Some(blank()),
+        stand: Stand::Open(blank()),
         lines: lines_of(lines, byte),
         joined: then_join(joined, Totals::from(filling.values)),
     }
@@ -98,12 +106,12 @@ fn taken(lines: u64, joined: Result<Totals, JoinError>, next: Option<Filling>, b
 fn step(chain: Chain, byte: u8) -> Chain
     ensures { result ≡ step_of chain byte }
 {
-    match chain.filling {
-        Some(filling) => {
+    match chain.stand {
+        Stand::Open(filling) => {
             let next = filled(TOTALS_FORM, filling, byte);
             taken(chain.lines, chain.joined, next, byte)
         }
-        None => chain,
+        Stand::Wrong(_) => chain,
     }
 }
 
@@ -123,8 +131,8 @@ pub fn fed(chain: Chain, piece: &[u8]) -> Chain
 pub fn told(chain: Chain) -> Result<Totals, ChainError>
     ensures { result ≡ told_of chain }
 {
-    match chain.filling {
-        Some(filling) if filling.at == 0 => Ok(chain.joined?),
+    match chain.stand {
+        Stand::Open(filling) if filling.at == 0 => Ok(chain.joined?),
         _ => Err(ChainError::Malformed(wrapping_add_u64(chain.lines, 1))),
     }
 }

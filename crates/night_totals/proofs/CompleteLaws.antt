@@ -14,6 +14,7 @@ use Rattle.night_totals.specs.Form.{spelt}
 use Rattle.night_totals.specs.Filling.{blank_of, numbered_at, onward, valued_of, kept, longer_of, grown}
 use Rattle.night_totals.specs.Filling.{passed_of, passed_from, digit_of, stored_of, behind_of, number_of, filled_of}
 use Rattle.night_totals.specs.declared.filling.Filling.{Filling}
+use Rattle.night_totals.specs.declared.filling.Number.TheVariants as numbers
 use Rattle.night_totals.proofs.NumeralLaws.{numeral-one, numeral-more}
 use Rattle.night_totals.proofs.FormLaws.{slots_in, spelt-byte, spelt-number, split}
 
@@ -44,18 +45,18 @@ module _ (form : List ℕ) (q : Filling) (slot : numbered_at form q.at ≡ true)
       ∙ pick_no _ _ (le-ltb (48 + d) 48 (omega arith)) ∙ pick_no _ _ (le-ltb 57 (48 + d) (omega arith))
       ∙ ap (λ e. grown q (longer_of q.number e)) z
 
-  first-digit : q.number ≡ None → (d : ℕ) → d < 10 → filled_of form q (48 + d) ≡ Some (valued_of q d)
+  first-digit : q.number ≡ numbers.Awaited 0 → (d : ℕ) → d < 10 → filled_of form q (48 + d) ≡ Some (valued_of q d)
   unfolding longer_of
   first-digit idle d h = digit-filled d h ∙ ap (λ o. grown q (longer_of o d)) idle
 
-  next-digit : (v : ℕ) → q.number ≡ Some v → 0 < v → v < 1000000000000000 → (d : ℕ) → d < 10
+  next-digit : (v : ℕ) → q.number ≡ numbers.Begun v → 0 < v → v < 1000000000000000 → (d : ℕ) → d < 10
       → filled_of form q (48 + d) ≡ Some (valued_of q (v * 10 + d))
   unfolding longer_of
   next-digit v going some few d h =
       digit-filled d h ∙ ap (λ o. grown q (longer_of o d)) going
       ∙ ap (grown q) (pick_no _ _ (ne_eqb v 0 (λ e. omega arith)) ∙ pick_no _ _ (lt-leb 1000000000000000 v few))
 
-module _ (form : List ℕ) (q : Filling) (idle : q.number ≡ None) (slot : numbered_at form q.at ≡ true) where
+module _ (form : List ℕ) (q : Filling) (idle : q.number ≡ numbers.Awaited 0) (slot : numbered_at form q.at ≡ true) where
   -- by how large it is
   numeral-by : (n v : ℕ) → v ≤ n → v < 10000000000000000 → fill_of form (Some q) (numeral_of v) ≡ Some (valued_of q v)
   unfolding fill_of
@@ -106,11 +107,11 @@ set-number f k vs ws = let z : k + 1 ≡ suc k = omega arith in ap (λ j. set_in
 
 abbrev pub state_at : List ℕ → ℕ → List ℕ → Filling
 state_at done k vs =
-    record { at = length done; number = None; filled = k; values = vs }
+    record { at = length done; number = numbers.Awaited 0; filled = k; values = vs }
 
 abbrev number_at : List ℕ → ℕ → List ℕ → ℕ → Filling
 number_at done k vs v =
-    record { at = length done; number = Some v; filled = k; values = vs }
+    record { at = length done; number = numbers.Begun v; filled = k; values = vs }
 
 at-seam : (done f : List ℕ) (x : ℕ) → length done < length (done ++ (x ∷ f))
 at-seam done f x = omega (arith, length-append done (x ∷ f))
@@ -165,7 +166,7 @@ module _ (ws : List ℕ) (few : (k : ℕ) → get_or ws k 0 < 10000000000000000)
       let step : filled_of form q x ≡ Some (state_at more k vs) =
       pick_no _ _ e ∙ pick_no _ _ (numbered-seam done f x ∙ e)
       ∙ passed-seam done f x q refl
-      ∙ ap (λ n. Some (record { at = n; number = None; filled = k; values = vs })) (length-one done x) in
+      ∙ ap (λ n. Some (record { at = n; number = numbers.Awaited 0; filled = k; values = vs })) (length-one done x) in
       let z : k + slots_in f ≡ k + (pick (eqb x 35) 1 0 + slots_in f) = omega (arith, pick_no {A = ℕ} 1 0 e) in
       ap (fill_of form (Some q)) (spelt-byte x f k ws e)
       ∙ ap (λ (r : Option Filling). fill_of form r rest) step
@@ -214,7 +215,7 @@ module _ (ws : List ℕ) (few : (k : ℕ) → get_or ws k 0 < 10000000000000000)
       ∙ ap (λ (r : Option Filling). passed_from form r y) (pick_no _ _ (lt-leb 16 k (omega arith)))
       ∙ ap (λ f'. passed_of f' (kept q v) y) s
       ∙ passed-seam front f y (kept q v) (a ∙ sym l₁)
-      ∙ ap (λ j. Some (record { at = j; number = None; filled = k + 1; values = us })) at
+      ∙ ap (λ j. Some (record { at = j; number = numbers.Awaited 0; filled = k + 1; values = us })) at
       ∙ ap (λ j. Some (state_at more j us)) n in
       let z : suc k + slots_in f ≡ suc k + (pick (eqb y 35) 1 0 + slots_in f) = omega (arith, pick_no {A = ℕ} 1 0 e) in
       ap (fill_of form (Some q)) (spelt-byte y f (suc k) ws e)

@@ -5,6 +5,8 @@ use Rattle.words.specs.Loop.{pick}
 use Rattle.words.proofs.Branch.{pick_yes, pick_no}
 use Rattle.forecast_text.specs.Printed.{numeral_of}
 use Rattle.night_totals.specs.Form.{spelt}
+use Rattle.night_totals.specs.declared.filling.Number.{Number}
+use Rattle.night_totals.specs.declared.filling.Number.TheVariants as numbers
 
 module _ {G : Type 0} where
   pub split : (b : Bool) → (b ≡ true → G) → (b ≡ false → G) → G
@@ -16,6 +18,12 @@ module _ {A G : Type 0} where
   pub opened : (o : Option A) → (o ≡ None → G) → ((x : A) → o ≡ Some x → G) → G
   opened None p q = p refl
   opened (Some x) p q = q x refl
+
+-- a number that has begun, or not
+module _ {G : Type 0} where
+  pub by_number : (n : Number) → ((v : ℕ) → n ≡ numbers.Awaited v → G) → ((v : ℕ) → n ≡ numbers.Begun v → G) → G
+  by_number (numbers.Awaited v) p q = p v refl
+  by_number (numbers.Begun v) p q = q v refl
 
 pub none-some : {A : Type 0} {x : A} → None ≡ Some x → ⊥
 none-some e = let z : ◌≡◌ {A = ℕ} 0 1 = cc in omega arith

@@ -13,13 +13,20 @@ use Rattle.night_totals.specs.Filling.{blank_of, numbered_at, onward, valued_of,
 use Rattle.night_totals.specs.Filling.{passed_of, passed_from, digit_of, stored_of}
 use Rattle.night_totals.specs.Filling.{behind_from, behind_of, number_of, filled_of}
 use Rattle.night_totals.specs.declared.filling.Filling.{Filling}
+use Rattle.night_totals.specs.declared.filling.Number.{Number}
+use Rattle.night_totals.specs.declared.filling.Number.TheVariants as numbers
 use Rattle.night_totals.proofs.NumeralLaws.{numeral-one, numeral-more}
-use Rattle.night_totals.proofs.FormLaws.{opened, slots_in, slots-one, slots-number, spelt-append, spelt-set}
+use Rattle.night_totals.proofs.FormLaws.{by_number, slots_in, slots-one, slots-number, spelt-append, spelt-set}
 
 -- the number that has begun, as far as it has come
-abbrev pub begun : Option ℕ → List ℕ
-begun None = []
-begun (Some v) = numeral_of v
+abbrev pub begun : Number → List ℕ
+begun (numbers.Awaited v) = []
+begun (numbers.Begun v) = numeral_of v
+
+-- none has begun
+pub record Idle (n : Number) : Type 0 where
+  pub value : ℕ
+  pub is : n ≡ numbers.Awaited value
 
 unfoldable pub past : List ℕ → Filling → List ℕ
 past form q = spelt (take q.at form) 0 q.values ++ begun q.number
@@ -28,7 +35,7 @@ pub record Sound (form : List ℕ) (q : Filling) : Type 0 where
   pub within : q.at ≤ length form
   pub counted : q.filled ≡ slots_in (take q.at form)
   pub room : length q.values ≡ 16
-  pub here : (v : ℕ) → q.number ≡ Some v → numbered_at form q.at ≡ true
+  pub here : (v : ℕ) → q.number ≡ numbers.Begun v → numbered_at form q.at ≡ true
 
 pub blank-sound : (form : List ℕ) → Sound form blank_of
 unfolding slots_in
@@ -53,8 +60,9 @@ nonzero zero h = absurd (h refl)
 nonzero (suc n) h = omega arith
 
 -- where no number stands, none has begun
-pub idle-off : (form : List ℕ) (q : Filling) → Sound form q → numbered_at form q.at ≡ false → q.number ≡ None
-idle-off form q s off = opened q.number (λ n. n) (λ v e. absurd (true≢false (sym (s.here v e) ∙ off)))
+pub idle-off : (form : List ℕ) (q : Filling) → Sound form q → numbered_at form q.at ≡ false → Idle q.number
+idle-off form q s off =
+    by_number q.number (λ v e. record { value = v; is = e }) (λ v e. absurd (true≢false (sym (s.here v e) ∙ off)))
 
 module _ (form : List ℕ) (short : length form < 2 ^ 32) where
   -- what one byte more comes to, where the text is of the form then
@@ -68,7 +76,7 @@ module _ (form : List ℕ) (short : length form < 2 ^ 32) where
     take-one : q.at < length form → take (q.at + 1) form ≡ take q.at form ++ (get_or form q.at 0 ∷ [])
     take-one h = ap (λ k. take k form) (add-one q.at) ∙ take-suc form q.at 0 h
 
-    onward-next : (b ≡ 35 → ⊥) → q.number ≡ None → q.at < length form → get_or form q.at 0 ≡ b
+    onward-next : (b ≡ 35 → ⊥) → {v : ℕ} → q.number ≡ numbers.Awaited v → q.at < length form → get_or form q.at 0 ≡ b
         → Next (past form q) b (Some (onward q))
     unfolding past spelt slots_in
     onward-next plain idle low same =
@@ -88,7 +96,7 @@ module _ (form : List ℕ) (short : length form < 2 ^ 32) where
               ∙ ap (λ l. l ++ (b ∷ [])) (sym (append-nil (spelt (take q.at form) 0 q.values)))),
         )
 
-    pub passed-next : (b ≡ 35 → ⊥) → q.number ≡ None → Next (past form q) b (passed_of form q b)
+    pub passed-next : (b ≡ 35 → ⊥) → {v : ℕ} → q.number ≡ numbers.Awaited v → Next (past form q) b (passed_of form q b)
     unfolding passed_of
     passed-next plain idle =
         pick_all (Next (past form q) b) (leb (length form) q.at) None _ (λ e. tt)
@@ -120,7 +128,7 @@ module _ (form : List ℕ) (short : length form < 2 ^ 32) where
             here = λ w e. absurd (let z : ◌≡◌ {A = ℕ} 0 1 = cc in omega arith);
           }
 
-      pub kept-past : q.number ≡ Some v → q.filled < 16 → past form (kept q v) ≡ past form q
+      pub kept-past : q.number ≡ numbers.Begun v → q.filled < 16 → past form (kept q v) ≡ past form q
       unfolding past spelt
       kept-past going few =
           let vs = set q.values q.filled v in
@@ -139,9 +147,9 @@ module _ (form : List ℕ) (short : length form < 2 ^ 32) where
     behind-next : (b : ℕ) → (b ≡ 35 → ⊥) → Next (past form q) b (behind_of form q b)
     unfolding behind_of stored_of
     behind-next b plain =
-        let F = λ (o : Option ℕ). Next (past form q) b (behind_from form q o b) in
-        opened q.number
-        (λ idle. subst F (sym idle) tt)
+        let F = λ (n : Number). Next (past form q) b (behind_from form q n b) in
+        by_number q.number
+        (λ v idle. subst F (sym idle) tt)
         (λ v going. subst F (sym going) (pick_all (λ r. Next (past form q) b (passed_from form r b))
         (leb 16 q.filled) None
         (Some (kept q v)) (λ e. tt)
@@ -162,16 +170,16 @@ module _ (form : List ℕ) (short : length form < 2 ^ 32) where
     unfolding digit_of longer_of past
     digit-next d h =
         let P = λ (o : Option ℕ). Next (past form q) (48 + d) (grown q o) in
-        let F = λ (o : Option ℕ). Next (past form q) (48 + d) (grown q (longer_of o d)) in
-        opened q.number
-        (λ idle. subst F (sym idle) (valued-next d (48 + d) [] (numeral-one d h)
-        (ap (λ o. spelt (take q.at form) 0 q.values ++ begun o) idle)))
+        let F = λ (n : Number). Next (past form q) (48 + d) (grown q (longer_of n d)) in
+        by_number q.number
+        (λ v idle. subst F (sym idle) (valued-next d (48 + d) [] (numeral-one d h)
+        (ap (λ n. spelt (take q.at form) 0 q.values ++ begun n) idle)))
         (λ v going. subst F (sym going) (pick_all P (eqb v 0) None _ (λ e. tt)
         (λ some. pick_all P (leb 1000000000000000 v) None _ (λ e. tt)
         (λ e. let l : v < 1000000000000000 = leb-false _ _ e in
         let p : 0 < v = nonzero v (eqb-false _ _ some) in
         valued-next (v * 10 + d) (48 + d) (numeral_of v) (numeral-more v d p l h)
-        (ap (λ o. spelt (take q.at form) 0 q.values ++ begun o) going)))))
+        (ap (λ n. spelt (take q.at form) 0 q.values ++ begun n) going)))))
 
     number-next : (b : ℕ) → (b ≡ 35 → ⊥) → Next (past form q) b (number_of form q b)
     unfolding number_of
@@ -189,4 +197,4 @@ module _ (form : List ℕ) (short : length form < 2 ^ 32) where
       pick_all (Next (past form q) b) (eqb b 35) None _ (λ e. tt)
       (λ plain. pick_all (Next (past form q) b) (numbered_at form q.at) _ _
       (λ slot. number-next q s slot b (eqb-false _ _ plain))
-      (λ off. passed-next q s b (eqb-false _ _ plain) (idle-off form q s off)))
+      (λ off. passed-next q s b (eqb-false _ _ plain) (idle-off form q s off).is))

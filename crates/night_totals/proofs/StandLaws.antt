@@ -82,7 +82,7 @@ past-idle : (q : Filling) → Sound line_form q → numbered_at line_form q.at �
     → past line_form q ≡ spelt (take q.at line_form) 0 q.values
 unfolding past
 past-idle q s off =
-    ap (λ o. spelt (take q.at line_form) 0 q.values ++ begun o) (idle-off line_form q s off) ∙ append-nil _
+    ap (λ n. spelt (take q.at line_form) 0 q.values ++ begun n) (idle-off line_form q s off).is ∙ append-nil _
 
 end-plain : numbered_at line_form 56 ≡ false
 unfolding numbered_at text

@@ -5,11 +5,13 @@ use Rattle.std.specs.Prelude.{nat_lt, ◌&&◌, slice_index, slice_set, Option, 
 use Rattle.words.specs.Loop.{pick}
 use Rattle.bits.specs.Digit.{byte0, byte9}
 use Rattle.night_totals.specs.declared.filling.Filling.{Filling}
+use Rattle.night_totals.specs.declared.filling.Number.{Number}
+use Rattle.night_totals.specs.declared.filling.Number.TheVariants as numbers
 use Rattle.night_totals.specs.Form.{slot}
 
 -- nothing has come yet
 abbrev pub blank_of : Filling
-blank_of = record { at = 0; number = None; filled = 0; values = replicate 16 0 }
+blank_of = record { at = 0; number = numbers.Awaited 0; filled = 0; values = replicate 16 0 }
 
 -- whether a number stands at a place of the form
 unfoldable pub numbered_at : List ℕ → ℕ → Bool
@@ -20,13 +22,13 @@ abbrev pub onward : Filling → Filling
 onward q = record { at = q.at + 1; number = q.number; filled = q.filled; values = q.values }
 
 abbrev pub valued_of : Filling → ℕ → Filling
-valued_of q v = record { at = q.at; number = Some v; filled = q.filled; values = q.values }
+valued_of q v = record { at = q.at; number = numbers.Begun v; filled = q.filled; values = q.values }
 
 abbrev pub kept : Filling → ℕ → Filling
 kept q v =
     record {
       at = (q.at + 1) % 2 ^ 64;
-      number = None;
+      number = numbers.Awaited 0;
       filled = q.filled + 1;
       values = slice_set q.values q.filled v;
     }
@@ -37,9 +39,9 @@ passed_of form q b =
     pick (nat_le (length form) q.at) None (pick (slice_index form q.at == b) (Some (onward q)) None)
 
 -- one digit more: behind a 0 there is none, and a number has no more than sixteen
-unfoldable pub longer_of : Option ℕ → ℕ → Option ℕ
-longer_of None d = Some d
-longer_of (Some v) d = pick (v == 0) None (pick (nat_le 1000000000000000 v) None (Some (v * 10 + d)))
+unfoldable pub longer_of : Number → ℕ → Option ℕ
+longer_of (numbers.Awaited v) d = Some d
+longer_of (numbers.Begun v) d = pick (v == 0) None (pick (nat_le 1000000000000000 v) None (Some (v * 10 + d)))
 
 abbrev pub grown : Filling → Option ℕ → Option Filling
 grown q None = None
@@ -56,9 +58,9 @@ abbrev pub passed_from : List ℕ → Option Filling → ℕ → Option Filling
 passed_from form None b = None
 passed_from form (Some q) b = passed_of form q b
 
-abbrev pub behind_from : List ℕ → Filling → Option ℕ → ℕ → Option Filling
-behind_from form q None b = None
-behind_from form q (Some v) b = passed_from form (stored_of q v) b
+abbrev pub behind_from : List ℕ → Filling → Number → ℕ → Option Filling
+behind_from form q (numbers.Awaited v) b = None
+behind_from form q (numbers.Begun v) b = passed_from form (stored_of q v) b
 
 unfoldable pub behind_of : List ℕ → Filling → ℕ → Option Filling
 behind_of form q b = behind_from form q q.number b

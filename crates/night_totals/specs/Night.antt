@@ -77,6 +77,13 @@ start_of = night_at stands.Open blank_of no_totals
 unfoldable pub full_of : Filling → Totals → Bool
 full_of q t = (q.at == 0) && nat_le most_lines t.lines
 
+-- a line is one too many; that one was wrong is not forgotten
+abbrev pub beyond_of : Stand → Stand
+beyond_of stands.Open = stands.Beyond
+beyond_of stands.Wrong = stands.WrongBeyond
+beyond_of stands.Beyond = stands.Beyond
+beyond_of stands.WrongBeyond = stands.WrongBeyond
+
 -- nothing more can come
 abbrev pub wrong_at : Totals → Night
 wrong_at t = night_at stands.Wrong blank_of t
@@ -94,9 +101,10 @@ abbrev pub stepped : Stand → Filling → Totals → ℕ → Night
 stepped stands.Open q t b = judged_of t (filled_of line_form q b)
 stepped stands.Wrong q t b = wrong_at t
 stepped stands.Beyond q t b = night_at stands.Beyond q t
+stepped stands.WrongBeyond q t b = night_at stands.WrongBeyond q t
 
 unfoldable pub step_of : Night → ℕ → Night
-step_of n b = pick (full_of n.filling n.totals) (night_at stands.Beyond n.filling n.totals)
+step_of n b = pick (full_of n.filling n.totals) (night_at (beyond_of n.stand) n.filling n.totals)
     (stepped n.stand n.filling n.totals b)
 
 unfoldable pub fed_of : Night → List ℕ → Night
@@ -107,6 +115,7 @@ abbrev pub told_by : Stand → Filling → Totals → Result Totals NightError
 told_by stands.Open q t = pick (q.at == 0) (Ok t) (Err (night_error.Malformed (plus t.lines 1)))
 told_by stands.Wrong q t = Err (night_error.Malformed (plus t.lines 1))
 told_by stands.Beyond q t = Err night_error.TooMany
+told_by stands.WrongBeyond q t = Err night_error.TooMany
 
 unfoldable pub told_of : Night → Result Totals NightError
 told_of n = told_by n.stand n.filling n.totals

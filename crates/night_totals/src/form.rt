@@ -4,7 +4,7 @@ ghost use Rattle.std.specs.Prelude.{◌≡◌, ◌<◌};
 ghost use Rattle.night_totals.specs.Filling.{blank_of, numbered_at, passed_of, longer_of, digit_of};
 ghost use Rattle.night_totals.specs.Filling.{stored_of, behind_of, number_of, filled_of};
 
-use crate::filling::Filling;
+use crate::filling::{Filling, Number};
 use std::num::wrapping_add_usize;
 
 pub const SLOT: u8 = b'#';
@@ -21,7 +21,7 @@ pub fn blank() -> Filling
 {
     Filling {
         at: 0,
-        number: None,
+        number: Number::Awaited(0),
         filled: 0,
         values: [0u64; 16],
     }
@@ -54,11 +54,11 @@ fn passed(form: &[u8], filling: Filling, byte: u8) -> Option<Filling>
 
 // One digit more of a number, or the first one.
 #[tactic(auto, unfolding(crate::specs::Filling::longer_of, words::specs::Loop::pick))]
-fn longer(number: Option<u64>, figure: u64) -> Option<u64>
+fn longer(number: Number, figure: u64) -> Option<u64>
     requires { figure < 10 }
     ensures { result ≡ longer_of number figure }
 {
-    let Some(value) = number else {
+    let Number::Begun(value) = number else {
         return Some(figure);
     };
     if value == 0 {
@@ -78,7 +78,7 @@ fn digit(filling: Filling, figure: u64) -> Option<Filling>
 {
     let value = longer(filling.number, figure)?;
     Some(Filling {
-        number: Some(value),
+        number: Number::Begun(value),
         ..filling
     })
 }
@@ -96,7 +96,7 @@ fn stored(filling: Filling, value: u64) -> Option<Filling>
     values[filled] = value;
     Some(Filling {
         at: wrapping_add_usize(filling.at, 1),
-        number: None,
+        number: Number::Awaited(0),
         filled: filled + 1,
         values: values,
     })
@@ -107,7 +107,9 @@ fn stored(filling: Filling, value: u64) -> Option<Filling>
 fn behind(form: &[u8], filling: Filling, byte: u8) -> Option<Filling>
     ensures { result ≡ behind_of form.now filling byte }
 {
-    let value = filling.number?;
+    let Number::Begun(value) = filling.number else {
+        return None;
+    };
     let next = stored(filling, value)?;
     passed(form, next, byte)
 }

@@ -1,6 +1,7 @@
 // The lines of a night, taken in pieces of any size: a record goes in by value, and the next comes back.
 ghost use Rattle.std.specs.Prelude.{◌≡◌};
-ghost use Rattle.night_totals.specs.Night.{night_at, start_of, full_of, wrong_at, judged_of, step_of, fed_of, told_of};
+ghost use Rattle.night_totals.specs.Night.{night_at, start_of, full_of, beyond_of, wrong_at, judged_of, step_of};
+ghost use Rattle.night_totals.specs.Night.{fed_of, told_of};
 
 use crate::adding::{added, none};
 use crate::entry::Entry;
@@ -22,6 +23,8 @@ pub enum Stand {
     Wrong,
     // It is one too many.
     Beyond,
+    // It is one too many, behind a wrong one.
+    WrongBeyond,
 }
 
 #[derive(Clone, Copy)]
@@ -57,6 +60,18 @@ fn full(filling: Filling, totals: Totals) -> bool
     ensures { result ≡ full_of filling totals }
 {
     filling.at == 0 && MOST_LINES <= totals.lines
+}
+
+// A line is one too many; that one was wrong is not forgotten.
+fn beyond(stand: Stand) -> Stand
+    ensures { result ≡ beyond_of stand }
+{
+    match stand {
+        Stand::Open => Stand::Beyond,
+        Stand::Wrong => Stand::WrongBeyond,
+        Stand::Beyond => Stand::Beyond,
+        Stand::WrongBeyond => Stand::WrongBeyond,
+    }
 }
 
 // Behind a wrong line nothing more can come.
@@ -102,14 +117,14 @@ fn step(night: Night, byte: u8) -> Night
 {
     if full(night.filling, night.totals) {
         return Night {
-            stand: Stand::Beyond,
+            stand: beyond(night.stand),
             ..night
         };
     }
     match night.stand {
         Stand::Open => judged(night.totals, filled(FORM, night.filling, byte)),
         Stand::Wrong => wrong(night.totals),
-        Stand::Beyond => night,
+        Stand::Beyond | Stand::WrongBeyond => night,
     }
 }
 
@@ -131,7 +146,7 @@ pub fn told(night: Night) -> Result<Totals, NightError>
 {
     match night.stand {
         Stand::Open if night.filling.at == 0 => Ok(night.totals),
-        Stand::Beyond => Err(NightError::TooMany),
+        Stand::Beyond | Stand::WrongBeyond => Err(NightError::TooMany),
         _ => Err(NightError::Malformed(wrapping_add_u64(night.totals.lines, 1))),
     }
 }

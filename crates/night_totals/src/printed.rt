@@ -1,13 +1,17 @@
 // What is printed of a night.
-ghost use Rattle.std.specs.Prelude.{◌≡◌, ◌≤◌, length};
+ghost use Rattle.std.specs.Prelude.{◌≡◌, ◌≤◌, length, Ok, Err};
 ghost use Rattle.sheet.specs.Reader.{over};
-ghost use Rattle.night_totals.specs.Printed.{totals_numbers, totals_from, one_number, printed_of};
+ghost use Rattle.forecast_text.specs.Put.{put};
+ghost use Rattle.night_totals.specs.Printed.{totals_numbers, totals_from, printed_of};
 
 use crate::counts::{Counts, Runs};
 use crate::night::NightError;
 use crate::totals::Totals;
-use crate::written::{ROOM, spelled};
+use crate::written::put_form;
 use forecast_text::texts::Text;
+
+// As many bytes as the longest refusal: eleven, a number of at most 20 digits, and LF.
+const REFUSAL: usize = 32;
 
 // The form of printed totals.
 pub const TOTALS_FORM: &[u8; 138] =
@@ -67,22 +71,33 @@ impl From<[u64; 16]> for Totals {
     }
 }
 
-fn one_number(number: u64) -> [u64; 16]
-    ensures { result ≡ one_number number }
+fn print_totals(totals: Totals, out: &mut [u8; 4096]) -> usize
+    ensures out_after { out.new ≡ over (printed_of (Ok totals)) out.old }
+    ensures value { (result ≡ length (printed_of (Ok totals))) × (result ≤ 4096) }
 {
-    [number, 0, 0, 0, 0, 0, 0, 0, 0, 0, 0, 0, 0, 0, 0, 0]
+    let mut text = Text::new();
+    put_form(&mut text, TOTALS_FORM, totals.into());
+    text.copy_over(out);
+    text.len()
 }
 
-// The text that is printed.
-
-fn text_of(outcome: Result<Totals, NightError>) -> Text<ROOM>
-    ensures { result ≡ printed_of outcome }
+fn put_refusal(text: &mut Text<REFUSAL>, refused: NightError)
+    ensures { text.new ≡ put 32 text.old (printed_of (Err refused)) }
 {
-    match outcome {
-        Ok(totals) => spelled(TOTALS_FORM, totals.into()),
-        Err(NightError::Malformed(line)) => spelled(b"refused 20 #\n", one_number(line)),
-        Err(NightError::TooMany) => spelled(b"refused 26\n", one_number(0)),
+    match refused {
+        NightError::Malformed(line) => text.put_line(b"refused 20 ", line),
+        NightError::TooMany => text.put(b"refused 26\n"),
     }
+}
+
+fn print_refusal(refused: NightError, out: &mut [u8; 4096]) -> usize
+    ensures out_after { out.new ≡ over (printed_of (Err refused)) out.old }
+    ensures value { (result ≡ length (printed_of (Err refused))) × (result ≤ 4096) }
+{
+    let mut text = Text::new();
+    put_refusal(&mut text, refused);
+    text.copy_over(out);
+    text.len()
 }
 
 // Puts the bytes over the first of `out` and returns how many they are. The others stay as they were.
@@ -90,7 +105,8 @@ pub fn print(outcome: Result<Totals, NightError>, out: &mut [u8; 4096]) -> usize
     ensures out_after { out.new ≡ over (printed_of outcome) out.old }
     ensures value { (result ≡ length (printed_of outcome)) × (result ≤ 4096) }
 {
-    let text = text_of(outcome);
-    text.copy_over(out);
-    text.len()
+    match outcome {
+        Ok(totals) => print_totals(totals, out),
+        Err(refused) => print_refusal(refused, out),
+    }
 }

@@ -1,15 +1,13 @@
 // A text of a form.
-ghost use Rattle.std.specs.Prelude.{◌≡◌, ◌+◌, ◌≤◌, [], ◌∷◌, length, ◌==◌, slice_index};
-ghost use Rattle.words.specs.Loop.{pick};
-ghost use Rattle.forecast_text.specs.Printed.{numeral_of};
+ghost use Rattle.std.specs.Prelude.{◌≡◌, ◌≤◌, length, slice_index};
 ghost use Rattle.forecast_text.specs.Put.{put};
-ghost use Rattle.night_totals.specs.Form.{slot, spelt};
+ghost use Rattle.night_totals.specs.Form.{spelt};
 
 use crate::form::SLOT;
 use forecast_text::texts::Text;
 
-// More bytes than anything is printed with.
-pub const ROOM: usize = 4096;
+// As many bytes as the longest of what is printed: 138 of a form, where 15 are numbers of at most 20 digits.
+pub const ROOM: usize = 423;
 
 fn value_at(values: [u64; 16], place: usize) -> u64
     ensures { result ≡ slice_index values place }
@@ -17,38 +15,19 @@ fn value_at(values: [u64; 16], place: usize) -> u64
     if place < 16 { values[place] } else { 0 }
 }
 
-// A byte of the form, or the number that stands there.
-#[tactic(auto, unfolding(words::specs::Loop::pick))]
-fn put_piece(text: &mut Text<ROOM>, byte: u8, value: u64)
-    ensures { text.new ≡ put 4096 text.old (pick (byte == slot) (numeral_of value) (byte ∷ [])) }
-{
-    if byte == SLOT {
-        text.put_number(value);
-        return;
-    }
-    text.put(&[byte]);
-}
-
-// How many numbers have been put.
-#[tactic(auto, unfolding(words::specs::Loop::pick))]
-fn counted(byte: u8, numbers: usize) -> usize
-    requires { numbers ≤ 200 }
-    ensures value { result ≡ numbers + pick (byte == slot) 1 0 }
-    ensures upper_bound { result ≤ numbers + 1 }
-{
-    if byte == SLOT { numbers + 1 } else { numbers }
-}
-
-// The form with numbers in place of its slots.
-pub fn spelled(form: &[u8], values: [u64; 16]) -> Text<ROOM>
+// Puts the form with numbers in place of its slots. What stands in front of a slot is put in one.
+pub fn put_form(text: &mut Text<ROOM>, form: &[u8], values: [u64; 16])
     requires { length form.now ≤ 200 }
-    ensures { result ≡ spelt form.now 0 values }
+    ensures { text.new ≡ put 423 text.old (spelt form.now 0 values) }
 {
-    let mut text = Text::new();
+    let mut from = 0;
     let mut numbers = 0;
-    for byte in form {
-        put_piece(&mut text, *byte, value_at(values, numbers));
-        numbers = counted(*byte, numbers);
+    for (at, byte) in form.iter().enumerate() {
+        if *byte == SLOT {
+            text.put_named(&form[from..at], value_at(values, numbers));
+            from = at + 1;
+            numbers += 1;
+        }
     }
-    text
+    text.put(&form[from..]);
 }

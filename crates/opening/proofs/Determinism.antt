@@ -5,6 +5,7 @@ use Rattle.words.proofs.OneOutcome.{◌▹◌, one-part, one-result}
 use Rattle.opening.specs.Opening.{OpeningOutcome}
 use Rattle.opening.proofs.admission.asking_at as asking-at
 use Rattle.opening.proofs.admission.admission as admission
+use Rattle.opening.proofs.admission.admission_lent as admission-lent
 use Rattle.opening.proofs.opening.open as opens
 
 pub asking-at-once : Settles asking-at.Kinds.ps asking-at.Kinds.r asking-at.Reads.Asked asking-at.Reads.Post
@@ -12,6 +13,10 @@ asking-at-once κs a = (tt, λ o p. one-result o.1)
 
 pub admission-once : Settles admission.Kinds.ps admission.Kinds.r admission.Reads.Asked admission.Reads.Post
 admission-once κs a = (tt, λ o p. one-result o.1)
+
+pub admission-lent-once
+    : Settles admission-lent.Kinds.ps admission-lent.Kinds.r admission-lent.Reads.Asked admission-lent.Reads.Post
+admission-lent-once κs a = (tt, λ o p. one-result o.1)
 
 pub open-once : Settles opens.Kinds.ps opens.Kinds.r opens.Reads.Asked opens.Reads.Post
 open-once κs a = (

@@ -1,6 +1,7 @@
 // The tests that stand before an advance: 13 for an unfit state, 14 for a run that has ended, 15 for a reply of another
 // kind than was asked for.
 ghost use Rattle.std.specs.Prelude.{◌≡◌, ◌≤◌, ◌+◌, ◌*◌, [], ◌∷◌, ◌++◌};
+ghost use Rattle.state.specs.Memory.{memory, amounts, newton, given, factors, differences};
 ghost use Rattle.state.specs.Lent.{memory_of};
 ghost use Rattle.opening.specs.Rows.{verdict_of, range_rows};
 ghost use Rattle.opening.specs.Admission.{unfit, all_unfit, asking, asking_at, answers_report, stride_below};
@@ -156,6 +157,59 @@ pub fn admission(
     reply: Reply,
     y: &[f64],
     f0: &[f64],
+    scal: &[f64],
+    cont: &[f64],
+    z1: &[f64],
+    z2: &[f64],
+    z3: &[f64],
+    f1: &[f64],
+    f2: &[f64],
+    f3: &[f64],
+    rtol: &[f64],
+    atol: &[f64],
+    mass: &[f64],
+    jac: &[f64],
+    e1: &[f64],
+    e2r: &[f64],
+    e2i: &[f64],
+    ip1: &[usize],
+    ip2: &[usize],
+    y_perturbed: &[f64],
+    f_perturbed: &[f64],
+    f_origin: &[f64],
+) -> Result<(), Refusal>
+    ensures { result
+        ≡ verdict_of (admission_rows run reply (memory
+        (amounts y.now f0.now scal.now cont.now)
+        (newton z1.now z2.now z3.now
+        f1.now f2.now f3.now)
+        (given rtol.now atol.now mass.now jac.now)
+        (factors e1.now e2r.now e2i.now ip1.now ip2.now)
+        (differences y_perturbed.now f_perturbed.now f_origin.now))) }
+{
+    let shape = run.shape;
+    let n = shape.n;
+    if (n < 1) | (32 < n) {
+        return Err(Refusal::Unfit);
+    }
+    let fit = amounts_fit(n, y.len(), f0.len(), scal.len(), cont.len())
+        & vectors_fit(n, z1.len(), z2.len(), z3.len())
+        & vectors_fit(n, f1.len(), f2.len(), f3.len())
+        & given_fit(n, rtol.len(), atol.len(), mass.len(), jac.len())
+        & factors_fit(n, e1.len(), e2r.len(), e2i.len(), ip1.len(), ip2.len())
+        & vectors_fit(n, y_perturbed.len(), f_perturbed.len(), f_origin.len());
+    if !fit {
+        return Err(Refusal::Unfit);
+    }
+    admit(run, reply, ip1, ip2)
+}
+
+// As `admission`, the working parts as one.
+pub fn admission_lent(
+    run: Run,
+    reply: Reply,
+    y: &[f64],
+    f0: &[f64],
     rtol: &[f64],
     atol: &[f64],
     mass: &[f64],
@@ -164,31 +218,30 @@ pub fn admission(
     ensures { result
         ≡ verdict_of (admission_rows run reply (memory_of y.now f0.now rtol.now atol.now mass.now work.now)) }
 {
-    let shape = run.shape;
-    let n = shape.n;
-    if (n < 1) | (32 < n) {
-        return Err(Refusal::Unfit);
-    }
-    let fit = amounts_fit(n, y.len(), f0.len(), work.scal.len(), work.cont.len())
-        & vectors_fit(n, work.z1.len(), work.z2.len(), work.z3.len())
-        & vectors_fit(n, work.f1.len(), work.f2.len(), work.f3.len())
-        & given_fit(n, rtol.len(), atol.len(), mass.len(), work.jac.len())
-        & factors_fit(
-            n,
-            work.e1.len(),
-            work.e2r.len(),
-            work.e2i.len(),
-            work.ip1.len(),
-            work.ip2.len(),
-        )
-        & vectors_fit(
-            n,
-            work.y_perturbed.len(),
-            work.f_perturbed.len(),
-            work.f_origin.len(),
-        );
-    if !fit {
-        return Err(Refusal::Unfit);
-    }
-    admit(run, reply, work.ip1, work.ip2)
+    admission(
+        run,
+        reply,
+        y,
+        f0,
+        work.scal,
+        work.cont,
+        work.z1,
+        work.z2,
+        work.z3,
+        work.f1,
+        work.f2,
+        work.f3,
+        rtol,
+        atol,
+        mass,
+        work.jac,
+        work.e1,
+        work.e2r,
+        work.e2i,
+        work.ip1,
+        work.ip2,
+        work.y_perturbed,
+        work.f_perturbed,
+        work.f_origin,
+    )
 }

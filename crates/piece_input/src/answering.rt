@@ -1,13 +1,10 @@
 // An input taken piece by piece to its end, and answered there.
 ghost use Rattle.std.specs.Prelude.{◌≡◌, ◌≤◌};
 
-use crate::reading::{PIECE, read_piece};
+use crate::reading::{MOST_READS, PIECE, read_piece};
 use crate::telling::{unreadable, write_first};
 use replay::out::Out;
 use std::io::{self, Read};
-
-// No input is as long.
-const MOST_READS: u64 = 0xffff_ffff_ffff_ffff;
 
 // What takes a text in pieces of any size, and prints what all of it comes to.
 pub trait Taker: Copy {

@@ -5,7 +5,7 @@ ghost use Rattle.state.specs.Memory.{memory, amounts, newton, given, factors, di
 ghost use Rattle.state.specs.Lent.{memory_of, SameWork};
 ghost use Rattle.solve_blocks.specs.Advance.{advance_outcome, advance_of};
 
-use opening::admission::admission;
+use opening::admission::admission_lent;
 use radau_core::advance::advanced;
 use radau_core::pack::{doubles_of, run_at, words_of};
 use state::lent::Work;
@@ -27,7 +27,7 @@ fn taken(
     ensures outcome { advance_outcome result (memory_of y.new f0.now rtol.now atol.now mass.now work.new)
         ≡ (advance_of run reply (memory_of y.old f0.now rtol.now atol.now mass.now work.old)).core }
 {
-    if let Err(refusal) = admission(run, reply, y, f0, rtol, atol, mass, work) {
+    if let Err(refusal) = admission_lent(run, reply, y, f0, rtol, atol, mass, work) {
         return Err(Refused { run, refusal });
     }
     let mut words = words_of(run);

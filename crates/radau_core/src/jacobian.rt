@@ -30,6 +30,17 @@ fn wanted(words: &mut [usize; WORDS], doubles: &mut [f64; DOUBLES])
     words[MADE_HERE] = 1;
 }
 
+// Copies one part into another of the same length, entry by entry: the library's copy of one lent part into another is
+// a call of C's `memmove`, which an archive would need.
+fn copy(from: &[f64], to: &mut [f64])
+    requires { length to.old ≡ length from.now }
+    ensures { to.new ≡ from.now }
+{
+    for i in 0..from.len() {
+        to[i] = from[i];
+    }
+}
+
 pub fn ask_jacobian(
     words: &mut [usize; WORDS],
     doubles: &mut [f64; DOUBLES],
@@ -62,7 +73,7 @@ pub fn ask_jacobian(
             }
         }
         Source::Differences => {
-            y_perturbed.copy_from_slice(y);
+            copy(y, y_perturbed);
             zero(f_perturbed);
             zero(f_origin);
             at_stage(words, doubles, Stage::Column(0));

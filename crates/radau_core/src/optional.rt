@@ -12,6 +12,7 @@ pub fn option_tag<T: Copy>(x: Option<T>) -> usize
     }
 }
 
+#[tactic(auto, unfolding(crate::specs::Choices::option_at, words::specs::Loop::pick))]
 pub fn option_at<T: Copy>(given: usize, x: T) -> Option<T>
     ensures { result ≡ option_at given x }
 {

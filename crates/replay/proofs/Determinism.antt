@@ -18,12 +18,14 @@ use Rattle.replay.proofs.settings.number as number
 use Rattle.replay.proofs.settings.whole as whole
 use Rattle.replay.proofs.settings.tolerances_of as tolerances-of
 use Rattle.replay.proofs.settings.settings_of as settings-of
+use Rattle.replay.proofs.memory.Memory.lend as lend
 use Rattle.replay.proofs.told.Teller.malformed as malformed
 use Rattle.replay.proofs.told.Teller.counted as counted
 use Rattle.replay.proofs.told.Teller.summary as summary
 use Rattle.replay.proofs.word.spelled as spelled
 use Rattle.replay.proofs.word.quarter as quarter
 use Rattle.replay.proofs.out.Out.write as write
+use Rattle.replay.proofs.out.Out.decimal as decimal
 use Rattle.replay.proofs.out.Out.hex as hex
 
 pub none-once : Settles none.Kinds.ps none.Kinds.r none.Reads.Asked none.Reads.Post
@@ -76,6 +78,9 @@ tolerances-of-once κs a = (tt, λ o p. one-result o.1)
 pub settings-of-once : Settles settings-of.Kinds.ps settings-of.Kinds.r settings-of.Reads.Asked settings-of.Reads.Post
 settings-of-once κs a = (tt, λ o p. one-result o.1)
 
+pub lend-once : Settles lend.Kinds.ps lend.Kinds.r lend.Reads.Asked lend.Reads.Post
+lend-once κs a = (tt, λ o p. one-result o.1)
+
 pub malformed-once : Settles malformed.Kinds.ps malformed.Kinds.r malformed.Reads.Asked malformed.Reads.Post
 malformed-once κs a = (tt, λ o p. one-result o.1)
 
@@ -93,6 +98,9 @@ quarter-once κs a = (tt, λ o p. λ e f. one-result o.1 e.1 f.1)
 
 pub write-once : Settles write.Kinds.ps write.Kinds.r write.Reads.Asked write.Reads.Post
 write-once κs a = (tt, λ o p. one-result o.1)
+
+pub decimal-once : Settles decimal.Kinds.ps decimal.Kinds.r decimal.Reads.Asked decimal.Reads.Post
+decimal-once κs a = (tt, λ o p. one-result o.1)
 
 pub hex-once : Settles hex.Kinds.ps hex.Kinds.r hex.Reads.Asked hex.Reads.Post
 hex-once κs a = (tt, λ o p. one-result o.1)

@@ -10,23 +10,24 @@ use Rattle.replay.specs.declared.word.ReadError.{ReadError}
 abbrev pub one_more : ℕ → ℕ
 one_more k = (k + 1) % 2 ^ 64
 
-abbrev pub found : ℕ → Option Difference → Bool → Found
-found values first malformed = record { values = values; first = first; malformed = malformed }
+abbrev pub found : ℕ → ℕ → Option Difference → Bool → Found
+found values differ first malformed =
+    record { values = values; differ = differ; first = first; malformed = malformed }
 
 abbrev pub difference : ℕ → ℕ → ℕ → Difference
 difference place gave wanted = record { place = place; gave = gave; wanted = wanted }
 
 abbrev pub nothing_of : Found
-nothing_of = found 0 None false
+nothing_of = found 0 0 None false
 
--- the first that differs is kept
+-- each that differs is counted, and the first is kept
 abbrev pub compared_of : Found → ℕ → ℕ → Found
 compared_of f gave wanted =
-    found (one_more f.values)
+    found (one_more f.values) (pick (gave == wanted) f.differ (one_more f.differ))
     (pick (gave == wanted) f.first (option_or f.first (Some (difference f.values gave wanted)))) f.malformed
 
 abbrev pub unread_value_of : Found → Found
-unread_value_of f = found f.values f.first true
+unread_value_of f = found f.values f.differ f.first true
 
 abbrev pub number_of : Bool → ℕ
 number_of b = pick b 1 0

@@ -5,4 +5,5 @@ pub mod Read
 pub mod Settings
 pub mod Found
 pub mod Count
+pub mod Parts
 pub mod Memory

@@ -15,10 +15,12 @@ pub struct Difference {
     pub wanted: u64,
 }
 
-// How many values were compared, the first that differs, and whether what a value was to be could not be read.
+// How many values were compared, how many of them differ, the first that does, and whether what a value was to be
+// could not be read.
 #[derive(Clone, Copy)]
 pub struct Found {
     pub values: u64,
+    pub differ: u64,
     pub first: Option<Difference>,
     pub malformed: bool,
 }
@@ -29,6 +31,7 @@ impl Found {
     {
         Found {
             values: 0,
+            differ: 0,
             first: None,
             malformed: false,
         }
@@ -42,6 +45,7 @@ impl Found {
         let place = self.values;
         self.values = wrapping_add_u64(place, 1);
         if gave != wanted {
+            self.differ = wrapping_add_u64(self.differ, 1);
             self.first = self.first.or(Some(Difference {
                 place,
                 gave,

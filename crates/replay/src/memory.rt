@@ -1,10 +1,11 @@
 // The lent memory of a run, by value: 22 parts, each in an array that has room for every order that is replayed.
 ghost use Rattle.std.specs.Prelude.{◌≡◌, ℕ, take};
-ghost use Rattle.replay.specs.Memory.{IsLent};
+ghost use Rattle.replay.specs.Memory.{lent_of};
 ghost use Rattle.words.specs.Words.{double};
 ghost use Rattle.bits.specs.Pattern.{pattern_of};
 
 use bits::{double, pattern};
+use std::marker::Model;
 
 // The entries of an array for n amounts, 4 n coefficients or n n entries of a matrix, where n is at
 // most 33, and one entry more.
@@ -111,6 +112,38 @@ pub struct Lent<'a> {
     pub f_origin: &'a mut [f64],
 }
 
+// A clause sees what stands in the parts, and not where they lie or under which names they are borrowed.
+impl<'a> Model for Lent<'a> {
+    ghost use Rattle.replay.specs.Parts.{Parts};
+
+    ghost Value = { Parts };
+
+    ghost view = { λ l. record {
+      y = l.y.now;
+      f0 = l.f0.now;
+      scal = l.scal.now;
+      cont = l.cont.now;
+      z1 = l.z1.now;
+      z2 = l.z2.now;
+      z3 = l.z3.now;
+      f1 = l.f1.now;
+      f2 = l.f2.now;
+      f3 = l.f3.now;
+      rtol = l.rtol.now;
+      atol = l.atol.now;
+      mass = l.mass.now;
+      jac = l.jac.now;
+      e1 = l.e1.now;
+      e2r = l.e2r.now;
+      e2i = l.e2i.now;
+      ip1 = l.ip1.now;
+      ip2 = l.ip2.now;
+      y_perturbed = l.y_perturbed.now;
+      f_perturbed = l.f_perturbed.now;
+      f_origin = l.f_origin.now;
+    } };
+}
+
 // As much of an array as its part is long.
 fn cut<E, const N: usize>(entries: &mut [E; N], length: usize) -> &mut [E]
     ensures { result.now ≡ take length entries.old }
@@ -123,7 +156,7 @@ fn cut<E, const N: usize>(entries: &mut [E; N], length: usize) -> &mut [E]
 impl Memory {
     // Each part as far as its length goes, and as far as there is room for it.
     pub fn lend(&mut self, lengths: [usize; PARTS]) -> Lent<'_>
-        ensures { IsLent self.old lengths result }
+        ensures { result ≡ lent_of self.old lengths }
     {
         Lent {
             y: cut(&mut self.y, lengths[0]),

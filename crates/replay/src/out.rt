@@ -36,6 +36,12 @@ impl Out {
         self.keep(self.to.print(value));
     }
 
+    pub fn decimal(&self, number: u64)
+        ensures { result ≡ tt }
+    {
+        self.print(number);
+    }
+
     // In sixteen digits, with zeros in front.
     pub fn hex(&self, number: u64)
         ensures { result ≡ tt }

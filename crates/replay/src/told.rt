@@ -13,7 +13,7 @@ pub const MOST_TOLD: u64 = 8;
 #[derive(Clone, Copy)]
 pub struct Teller<'a> {
     pub out: &'a Out,
-    pub names: &'a [&'a str],
+    pub names: &'a [&'a [u8]],
 }
 
 impl<'a> Teller<'a> {
@@ -25,8 +25,9 @@ impl<'a> Teller<'a> {
         for (name, row) in self.names.iter().zip(&counts.rows) {
             let agree = row.agree;
             let differ = row.differ;
+            self.out.write(name);
             self.out
-                .print(format_args!("{name} {agree} agree {differ} differ\n"));
+                .print(format_args!(" {agree} agree {differ} differ\n"));
         }
         let malformed = counts.malformed;
         self.out.print(format_args!("malformed {malformed}\n"));
@@ -47,7 +48,7 @@ impl<'a> Teller<'a> {
         ensures { result ≡ differed_of counts row }
     {
         if counts.missed < MOST_TOLD {
-            let name = self.names.get(row).copied().unwrap_or("");
+            self.out.write(self.names.get(row).copied().unwrap_or(b""));
             let seen = counts.seen;
             let Difference {
                 place,
@@ -55,7 +56,7 @@ impl<'a> Teller<'a> {
                 wanted,
             } = first;
             self.out.print(format_args!(
-                "{name} case {seen} value {place} gave {gave:016x} wanted {wanted:016x}\n"
+                " case {seen} value {place} gave {gave:016x} wanted {wanted:016x}\n"
             ));
         }
         counts.differed(row)

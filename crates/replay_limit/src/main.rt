@@ -145,12 +145,12 @@ fn replayed<R: Read>(input: &mut R, to: Teller<'_>) -> Counts {
 }
 
 fn main(rt: HostRuntime) -> io::Result<()> {
-    let names = [
-        "status 0, the same:",
-        "status 3, the same:",
-        "status 5, the same:",
-        "status 2, then 2:",
-        "status 2, then another:",
+    let names: [&[u8]; 5] = [
+        b"status 0, the same:",
+        b"status 3, the same:",
+        b"status 5, the same:",
+        b"status 2, then 2:",
+        b"status 2, then another:",
     ];
     let out = Out::new(rt.stdout());
     let mut input = rt.stdin();

@@ -110,14 +110,14 @@ fn replayed<R: Read>(input: &mut R, to: Teller<'_>) -> Counts {
 }
 
 fn main(rt: HostRuntime) -> io::Result<()> {
-    let names = [
-        "lu_decomp",
-        "lu_decomp_complex",
-        "lin_solve",
-        "lin_solve_complex",
-        "interpolate",
-        "bounds",
-        "refusals",
+    let names: [&[u8]; 7] = [
+        b"lu_decomp",
+        b"lu_decomp_complex",
+        b"lin_solve",
+        b"lin_solve_complex",
+        b"interpolate",
+        b"bounds",
+        b"refusals",
     ];
     let out = Out::new(rt.stdout());
     let mut input = rt.stdin();

@@ -33,20 +33,20 @@ fn replayed<R: Read>(input: &mut R, to: Teller<'_>) -> Counts {
 }
 
 fn main(rt: HostRuntime) -> io::Result<()> {
-    let names = [
-        "accepted:",
-        "refused 1:",
-        "refused 2:",
-        "refused 3:",
-        "refused 4:",
-        "refused 5:",
-        "refused 6:",
-        "refused 7:",
-        "refused 8:",
-        "refused 9:",
-        "refused 10:",
-        "refused 11:",
-        "refused 12:",
+    let names: [&[u8]; 13] = [
+        b"accepted:",
+        b"refused 1:",
+        b"refused 2:",
+        b"refused 3:",
+        b"refused 4:",
+        b"refused 5:",
+        b"refused 6:",
+        b"refused 7:",
+        b"refused 8:",
+        b"refused 9:",
+        b"refused 10:",
+        b"refused 11:",
+        b"refused 12:",
     ];
     let out = Out::new(rt.stdout());
     let mut input = rt.stdin();

@@ -64,20 +64,20 @@ fn replayed<R: Read>(input: &mut R, out: &Out) -> Counts {
 
 // The names of the rows, in the order of `Routine`.
 fn main(rt: HostRuntime) -> io::Result<()> {
-    let names = [
-        "sqrt",
-        "root",
-        "inverse_root",
-        "power",
-        "two_thirds",
-        "four_fifths",
-        "quarter",
-        "abs",
-        "max",
-        "min",
-        "clamp",
-        "signum",
-        "coefficient",
+    let names: [&[u8]; 13] = [
+        b"sqrt",
+        b"root",
+        b"inverse_root",
+        b"power",
+        b"two_thirds",
+        b"four_fifths",
+        b"quarter",
+        b"abs",
+        b"max",
+        b"min",
+        b"clamp",
+        b"signum",
+        b"coefficient",
     ];
     let out = Out::new(rt.stdout());
     let mut input = rt.stdin();

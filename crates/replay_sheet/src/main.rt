@@ -127,16 +127,16 @@ fn replayed<R: Read>(input: &mut R, to: Teller<'_>) -> Counts {
 }
 
 fn main(rt: HostRuntime) -> io::Result<()> {
-    let names = [
-        "status 0:",
-        "status 2:",
-        "status 3:",
-        "status 5:",
-        "refused 3:",
-        "refused 4:",
-        "refused 9:",
-        "refused 20:",
-        "refused 21:",
+    let names: [&[u8]; 9] = [
+        b"status 0:",
+        b"status 2:",
+        b"status 3:",
+        b"status 5:",
+        b"refused 3:",
+        b"refused 4:",
+        b"refused 9:",
+        b"refused 20:",
+        b"refused 21:",
     ];
     let out = Out::new(rt.stdout());
     let mut input = rt.stdin();

@@ -2,7 +2,7 @@
 -- a square, and m * 2 ^ w.
 use Prim.Native.Nat.{ℕ, zero, suc, ◌+◌, ◌-◌, ◌*◌, ◌/◌, ◌%◌, ◌^◌, ◌≤◌, ◌<◌}
 use mathlib.Core.Path.{◌≡◌, sym, ap, subst, ◌∙◌}
-use native.Mathlib.Nat.{pow-succ', mul_assoc, mul_left_comm, lt_of_not-le, mul-le-mul_right}
+use native.Mathlib.Nat.{pow-succ', mul_assoc, mul_left_comm, lt_of_not-le, mul-le-mul_left, mul-le-mul_right}
 use native.Mathlib.Nat.{not-suc-le-zero, mod-eq_of_lt}
 use native.Mathlib.Nat.{le_trans, le_of_eq, not-le_of_lt}
 use native.Mathlib.Omega.{arith}
@@ -30,9 +30,11 @@ zeros-more m k p e =
     let two : 2 * (k + 1) ≡ 2 * k + 2 = omega arith in
     rw (two, pow-add 2 (2 * k) 2) (omega arith)
 
--- the root of such a number is small
-pub root-small : (m q r : ℕ) → m < 2 ^ 54 → q * q + r ≡ m * 2 ^ 52 → q < 2 ^ 53
-root-small m q r h e = square-shows (omega arith)
+-- the root of such a number is small, where l pairs of 26 are left
+pub root-small : (m l q r : ℕ) → m < 2 ^ 54 → q * q + r ≡ m * 2 ^ (52 - 2 * l) → q < 2 ^ 53
+root-small m l q r h e =
+    let p : m * 2 ^ (52 - 2 * l) ≤ m * 2 ^ 52 = mul-le-mul_left m (pow_mono {i = 52 - 2 * l} {j = 52} (omega arith)) in
+    square-shows (omega arith)
 
 -- ---- what m * 2 ^ 52 has beyond the square of q = h * 2 ^ 27 + l
 

@@ -129,7 +129,7 @@ module _ (u m w : ℕ) (f : EvenPlace u m w) where
     digits-full = full q r (m * 2 ^ 52) d.sum d.left (omega arith)
 
     digits-fit : q < 2 ^ 53
-    digits-fit = root-small m q r f.fits d.sum
+    digits-fit = root-small m 0 q r f.fits d.sum
 
     rounded-down : r ≤ q → nearest_root (u * units_in_one) ≡ half * 2 ^ 52 + q
     rounded-down g =
@@ -144,7 +144,7 @@ module _ (u m w : ℕ) (f : EvenPlace u m w) where
   -- the digits may be one less than the root's
   module _ (q r : ℕ) (n : Near (m * 2 ^ 52) q r) where
     pub near_fits : q < 2 ^ 53
-    near_fits = root-small m q r f.fits n.sum
+    near_fits = root-small m 0 q r f.fits n.sum
 
     this : r ≤ 2 * q → Digits (m * 2 ^ 52) q r
     this h = record { sum = n.sum; left = h }

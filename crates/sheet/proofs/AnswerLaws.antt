@@ -17,7 +17,7 @@ use Rattle.sheet.specs.declared.sheet.Heading.{Heading}
 use Rattle.sheet.specs.declared.sheet.SheetError.{SheetError}
 use Rattle.sheet.specs.declared.sheet.SheetError.TheVariants as error
 use Rattle.sheet.proofs.Parts.{Lengths, parts-of, lengths-of}
-use Rattle.sheet.proofs.FillLaws.{copied-over, rates-over, species-over, length-reactions}
+use Rattle.sheet.proofs.FillLaws.{copied-over, amounts-over, rates-over, species-over, length-reactions}
 
 pub read-long : (s : List ℕ) → 4096 < length s → read_of s ≡ too_long
 unfolding read_of
@@ -64,20 +64,31 @@ module _ (s h g n R : List ℕ) {x : Result Unit ℕ} (good : x ≡ Ok tt)
   pub lengths : Lengths h (take (get_or h 7 0) g) n (take (get_or n 0 0 * 5) R)
   lengths = lengths-of (parts-of h (take (get_or h 7 0) g) n (take (get_or n 0 0 * 5) R) s (sym read-all))
 
-  pub outcome-whole : (short : length s ≤ 4096) → length g ≡ 32 → (a b c : List ℕ) → length a ≡ 32
+  pub outcome-whole : (short : length s ≤ 4096) → length g ≡ 32 → (a b c : List ℕ)
+      → {x : Heading} {a' b' c' : List ℕ} → x ≡ heading_from h (get_or n 0 0)
+      → a' ≡ loop (placed (λ i. get_or g i 0)) 0 (get_or h 7 0) a
+      → b' ≡ loop (placed (rate_at R)) 0 (get_or n 0 0) b → c' ≡ loop (placed (species_at R)) 0 (get_or n 0 0 * 4) c
+      → ReadOutcome s (Ok x) a a' b b' c c'
+  unfolding answer_of amounts_left rates_left species_left model_from
+  outcome-whole short lg a b c ex ea eb ec =
+      rw (read_whole s h (take (get_or h 7 0) g) n (take (get_or n 0 0 * 5) R) short read-all) (
+        ap Ok (ex ∙ heading-same h (take (get_or h 7 0) g) n (take (get_or n 0 0 * 5) R) lengths),
+        (
+          ea ∙ amounts-over g a (get_or h 7 0) (omega (arith, lengths.few)),
+          (eb ∙ rates-over R b (get_or n 0 0), ec ∙ species-over R c (get_or n 0 0)),
+        ),
+      )
+
+  -- the same where the amounts are copied, for which there has to be room
+  pub outcome-copied : (short : length s ≤ 4096) → length g ≡ 32 → (a b c : List ℕ) → length a ≡ 32
       → {x : Heading} {a' b' c' : List ℕ} → x ≡ heading_from h (get_or n 0 0)
       → a' ≡ take (get_or h 7 0) g ++ drop (get_or h 7 0) a
       → b' ≡ loop (placed (rate_at R)) 0 (get_or n 0 0) b → c' ≡ loop (placed (species_at R)) 0 (get_or n 0 0 * 4) c
       → ReadOutcome s (Ok x) a a' b b' c c'
-  unfolding answer_of amounts_left rates_left species_left model_from
-  outcome-whole short lg a b c la ex ea eb ec =
-      rw (read_whole s h (take (get_or h 7 0) g) n (take (get_or n 0 0 * 5) R) short read-all) (
-        ap Ok (ex ∙ heading-same h (take (get_or h 7 0) g) n (take (get_or n 0 0 * 5) R) lengths),
-        (
-          ea ∙ copied-over (get_or h 7 0) g a (omega (arith, lengths.few)) (omega (arith, lengths.few)),
-          (eb ∙ rates-over R b (get_or n 0 0), ec ∙ species-over R c (get_or n 0 0)),
-        ),
-      )
+  outcome-copied short lg a b c la ex ea eb ec =
+      outcome-whole short lg a b c ex
+      (ea ∙ copied-over (get_or h 7 0) g a (omega (arith, lengths.few)) (omega (arith, lengths.few))
+      ∙ sym (amounts-over g a (get_or h 7 0) (omega (arith, lengths.few)))) eb ec
 
 same-value : {A B : Type 0} {u v : A} → ◌≡◌ {A = Result A B} (Ok u) (Ok v) → u ≡ v
 same-value h = cc

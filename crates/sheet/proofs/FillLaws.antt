@@ -84,6 +84,14 @@ species-at (suc m) r (suc (suc (suc (suc j)))) h =
     ∙ get_or-drop 5 r (j / 4 * 5 + j % 4 + 1) 0 ∙ ap (λ k. get_or r k 0) e
 
 module _ (listed memory : List ℕ) where
+  pub amounts-over : (n : ℕ) → n ≤ length listed
+      → loop (placed (λ i. get_or listed i 0)) 0 n memory ≡ over (take n listed) memory
+  amounts-over n h =
+      let e : length (take n listed) ≡ n = length-take-le n listed h in
+      ap (λ k. loop (placed (λ i. get_or listed i 0)) 0 k memory) (sym e)
+      ∙ filled-over (λ i. get_or listed i 0) (take n listed) memory
+      (λ j q. sym (get_or-take n listed j 0 (let z : j < n = omega arith in z)))
+
   pub rates-over : (m : ℕ)
       → loop (placed (rate_at listed)) 0 m memory ≡ over (rates_of (reactions_from m (take (m * 5) listed))) memory
   rates-over m =

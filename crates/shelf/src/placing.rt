@@ -1,6 +1,6 @@
 // A step is put on the shelf, and a shelf is emptied.
-ghost use Rattle.std.specs.Prelude.{◌≡◌};
-ghost use Rattle.shelf.specs.Shelf.{empty_shelf};
+ghost use Rattle.std.specs.Prelude.{◌+◌, ◌≤◌, ◌≡◌, length};
+ghost use Rattle.shelf.specs.Shelf.{over, empty_shelf};
 ghost use Rattle.shelf.specs.Answers.{placed};
 ghost use Rattle.shelf.specs.Put.{put_of};
 
@@ -13,6 +13,17 @@ pub fn empty() -> Shelf
     ensures { result ≡ empty_shelf }
 {
     Shelf { steps: 0, place: 0 }
+}
+
+// Puts the coefficients into the room from `start` on, entry by entry: the library's copy of one lent part into another
+// is a call of C's `memmove`, which an archive would need.
+fn copy(cont: &[f64], start: usize, coefficients: &mut [f64])
+    requires { start + length cont.now ≤ length coefficients.old }
+    ensures { coefficients.new ≡ over start cont.now coefficients.old }
+{
+    for i in 0..cont.len() {
+        coefficients[start + i] = cont[i];
+    }
 }
 
 // Keeps the step from xold by h with its coefficients, in the place of the oldest where all 48 are taken. The parts
@@ -38,8 +49,7 @@ pub fn put(
         return Err(ShelfError::State);
     }
     let place = shelf.place;
-    let start = place * cont.len();
-    coefficients[start..start + cont.len()].copy_from_slice(cont);
+    copy(cont, place * cont.len(), coefficients);
     let end = 2 * place;
     ends[end..end + 2].copy_from_slice(&[xold, h]);
     Ok(Shelf {

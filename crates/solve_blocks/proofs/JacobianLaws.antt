@@ -1,4 +1,6 @@
--- The ways out of `ask_jacobian` and `column`, and that a run which fits still fits past a column.
+-- The loop of `copy` in src/jacobian.rt, the ways out of `ask_jacobian` and `column`, and that a run which fits
+-- still fits past a column.
+--     Copied xs i ys                            ys is as long as xs, and its first i entries are those of xs
 --     asked_by                                  the Jacobian is asked of who makes it
 --     column-first, column-next, column-last    the derivative at the point, of a column, and of the last column
 use Prim.Native.Nat.{ℕ, zero, suc, ◌+◌, ◌≤◌, ◌<◌}
@@ -6,8 +8,9 @@ use mathlib.Core.Path.{◌≡◌, refl, sym, ap, ◌∙◌}
 use mathlib.Core.List.{List}
 use native.Mathlib.Numerals.{add-one}
 use native.Mathlib.Omega.{arith}
-use lib.ListN.{set}
-use lib.Ieee.{Float}
+use lib.ListN.{length, take, set, length-set}
+use lib.Seq.{take_all, take-suc, take-suc-set}
+use lib.Ieee.{Float, nan}
 use borrow.Author.Tests.{lt-ltb, le-ltb}
 use Rattle.words.specs.Words.{◌!◌}
 use Rattle.words.specs.Loop.{loop}
@@ -19,6 +22,29 @@ use Rattle.solve_blocks.specs.declared.step.Step.TheVariants as step
 use Rattle.solve_blocks.specs.Jacobian.{Asking, ask_jacobian_by, Columned, columned}
 use Rattle.solve_blocks.specs.Jacobian.{perturbation, ask_column_of, column_at, column_of}
 use Rattle.solve_blocks.specs.Needs.{Fit, StepFit}
+
+-- ---- a copy
+
+pub record Copied (xs : List Float) (i : ℕ) (ys : List Float) : Type 0 where
+  pub within : i ≤ length xs
+  pub long : length ys ≡ length xs
+  pub is : take i ys ≡ take i xs
+
+module _ {xs ys : List Float} where
+  pub copying : length ys ≡ length xs → Copied xs 0 ys
+  copying e = record { within = omega arith; long = e; is = refl }
+
+  pub copied_next : {i : ℕ} → Copied xs i ys → i < length xs → Copied xs (i + 1) (set ys i (xs ! i))
+  copied_next {i} c l =
+      let m : i < length ys = omega (arith, c.long) in
+      record {
+        within = omega arith;
+        long = length-set ys i (xs ! i) ∙ c.long;
+        is = rw (add-one, take-suc-set ys i (xs ! i), take-suc xs i nan, c.is);
+      }
+
+  pub copied : {i : ℕ} → Copied xs i ys → length xs ≤ i → ys ≡ xs
+  copied {i} c l = sym (take_all i ys (omega (arith, c.long))) ∙ c.is ∙ take_all i xs l
 
 -- ---- who makes the Jacobian
 

@@ -3,6 +3,9 @@
 use Prim.Native.Nat.{ℕ}
 use mathlib.Core.List.{List}
 use lib.Ieee.{Float}
+use Rattle.state.specs.declared.lent.Newton.{Newton}
+use Rattle.state.specs.declared.lent.Factors.{Factors}
+use Rattle.state.specs.declared.lent.Differences.{Differences}
 use Rattle.words.specs.Contract.{Settles}
 use Rattle.words.proofs.OneOutcome.{◌▹◌, one-part, one-result}
 use Rattle.state.proofs.numbers.status_number as status-number
@@ -18,6 +21,12 @@ use Rattle.state.proofs.run.Run.held_step as held-step
 use Rattle.state.proofs.run.blamed as blamed
 use Rattle.state.proofs.settings.Settings.new as new
 use Rattle.state.proofs.stray.stray_pivot as stray-pivot
+use Rattle.state.proofs.lent.Newton.fits as newton-fits
+use Rattle.state.proofs.lent.Newton.clear as newton-clear
+use Rattle.state.proofs.lent.Factors.fits as factors-fits
+use Rattle.state.proofs.lent.Factors.clear as factors-clear
+use Rattle.state.proofs.lent.Differences.fits as differences-fits
+use Rattle.state.proofs.lent.Differences.clear as differences-clear
 use Rattle.state.proofs.parts.zero as zero
 use Rattle.state.proofs.parts.zero_pivots as zero-pivots
 
@@ -72,3 +81,28 @@ zero-once κs a = (tt, λ o p. one-part (λ (part : List Float). tt ▹ part ▹
 
 pub zero-pivots-once : Settles zero-pivots.Kinds.ps zero-pivots.Kinds.r zero-pivots.Reads.Asked zero-pivots.Reads.Post
 zero-pivots-once κs a = (tt, λ o p. one-part (λ (part : List ℕ). tt ▹ part ▹ tt))
+
+pub newton-fits-once : Settles newton-fits.Kinds.ps newton-fits.Kinds.r newton-fits.Reads.Asked newton-fits.Reads.Post
+newton-fits-once κs a = (tt, λ o p. one-result o.1)
+
+pub newton-clear-once
+    : Settles newton-clear.Kinds.ps newton-clear.Kinds.r newton-clear.Reads.Asked newton-clear.Reads.Post
+newton-clear-once κs a = (tt, λ o p. λ e f. one-part (λ (w : Newton). tt ▹ w ▹ tt) e.1.1 f.1.1)
+
+pub factors-fits-once
+    : Settles factors-fits.Kinds.ps factors-fits.Kinds.r factors-fits.Reads.Asked factors-fits.Reads.Post
+factors-fits-once κs a = (tt, λ o p. one-result o.1)
+
+pub factors-clear-once
+    : Settles factors-clear.Kinds.ps factors-clear.Kinds.r factors-clear.Reads.Asked factors-clear.Reads.Post
+factors-clear-once κs a = (tt, λ o p. λ e f. one-part (λ (w : Factors). tt ▹ w ▹ tt) e.1.1 f.1.1)
+
+pub differences-fits-once
+    : Settles differences-fits.Kinds.ps differences-fits.Kinds.r
+    differences-fits.Reads.Asked differences-fits.Reads.Post
+differences-fits-once κs a = (tt, λ o p. one-result o.1)
+
+pub differences-clear-once
+    : Settles differences-clear.Kinds.ps differences-clear.Kinds.r
+    differences-clear.Reads.Asked differences-clear.Reads.Post
+differences-clear-once κs a = (tt, λ o p. λ e f. one-part (λ (w : Differences). tt ▹ w ▹ tt) e.1.1 f.1.1)

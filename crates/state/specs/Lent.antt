@@ -65,6 +65,37 @@ abbrev pub zero_differences : m.Differences → m.Differences
 zero_differences d =
     m.differences (m.zeros (length d.y_perturbed)) (m.zeros (length d.f_perturbed)) (m.zeros (length d.f_origin))
 
+-- ---- a group at the end of its clearing: the same slices, their parts set to +0
+
+abbrev pub cleared_newton : Newton → Newton
+cleared_newton a =
+    record {
+      z1 = record a.z1 { now = m.zeros (length a.z1.now) };
+      z2 = record a.z2 { now = m.zeros (length a.z2.now) };
+      z3 = record a.z3 { now = m.zeros (length a.z3.now) };
+      f1 = record a.f1 { now = m.zeros (length a.f1.now) };
+      f2 = record a.f2 { now = m.zeros (length a.f2.now) };
+      f3 = record a.f3 { now = m.zeros (length a.f3.now) };
+    }
+
+abbrev pub cleared_factors : Factors → Factors
+cleared_factors a =
+    record {
+      e1 = record a.e1 { now = m.zeros (length a.e1.now) };
+      e2r = record a.e2r { now = m.zeros (length a.e2r.now) };
+      e2i = record a.e2i { now = m.zeros (length a.e2i.now) };
+      ip1 = record a.ip1 { now = m.noughts (length a.ip1.now) };
+      ip2 = record a.ip2 { now = m.noughts (length a.ip2.now) };
+    }
+
+abbrev pub cleared_differences : Differences → Differences
+cleared_differences a =
+    record {
+      y_perturbed = record a.y_perturbed { now = m.zeros (length a.y_perturbed.now) };
+      f_perturbed = record a.f_perturbed { now = m.zeros (length a.f_perturbed.now) };
+      f_origin = record a.f_origin { now = m.zeros (length a.f_origin.now) };
+    }
+
 -- ---- the 17 working parts as one, beside y, f0, rtol, atol and mass
 
 abbrev pub memory_of : List Float → List Float → List Float → List Float → List Float → Work → m.Memory

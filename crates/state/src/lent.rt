@@ -1,9 +1,10 @@
 // Groups of the lent memory that travel as one. A clause `same` says that a group still holds the slices that it was
 // made of, so that who lent them learns what they hold.
-ghost use Rattle.std.specs.Prelude.{◌≡◌, ◌≤◌};
+ghost use Rattle.std.specs.Prelude.{◌≡◌, ◌*◌, eqb};
 ghost use Rattle.state.specs.Lent.{newton_of, SameNewton, newton_fits, zero_newton};
 ghost use Rattle.state.specs.Lent.{factors_of, SameFactors, factors_fits, zero_factors};
 ghost use Rattle.state.specs.Lent.{differences_of, SameDifferences, differences_fits, zero_differences};
+ghost use Rattle.state.specs.Lent.{cleared_newton, cleared_factors, cleared_differences};
 
 use crate::parts::{zero, zero_pivots};
 
@@ -72,6 +73,7 @@ impl Newton<'_> {
     pub fn clear(&mut self)
         ensures same { SameNewton self.new self.old }
         ensures cleared { newton_of self.new ≡ zero_newton (newton_of self.old) }
+        ensures whole { self.new ≡ cleared_newton self.old }
     {
         zero(self.z1);
         zero(self.z2);
@@ -82,17 +84,25 @@ impl Newton<'_> {
     }
 }
 
+// Whether a matrix of n rows has so many entries. Where n * n wraps, none has.
+fn is_square(entries: usize, n: usize) -> bool
+    ensures { result ≡ eqb entries (n * n) }
+{
+    match n.checked_mul(n) {
+        Some(square) => entries == square,
+        None => false,
+    }
+}
+
 impl Factors<'_> {
     // Whether the matrices have n * n entries, the pivots n.
     #[tactic(auto, unfolding(crate::specs::Memory::factors_fit))]
     pub fn fits(&self, n: usize) -> bool
-        requires { n ≤ 32 }
         ensures { result ≡ factors_fits n (factors_of self.now) }
     {
-        let square = n * n;
-        (self.e1.len() == square)
-            & (self.e2r.len() == square)
-            & (self.e2i.len() == square)
+        is_square(self.e1.len(), n)
+            & is_square(self.e2r.len(), n)
+            & is_square(self.e2i.len(), n)
             & (self.ip1.len() == n)
             & (self.ip2.len() == n)
     }
@@ -100,6 +110,7 @@ impl Factors<'_> {
     pub fn clear(&mut self)
         ensures same { SameFactors self.new self.old }
         ensures cleared { factors_of self.new ≡ zero_factors (factors_of self.old) }
+        ensures whole { self.new ≡ cleared_factors self.old }
     {
         zero(self.e1);
         zero(self.e2r);
@@ -121,6 +132,7 @@ impl Differences<'_> {
     pub fn clear(&mut self)
         ensures same { SameDifferences self.new self.old }
         ensures cleared { differences_of self.new ≡ zero_differences (differences_of self.old) }
+        ensures whole { self.new ≡ cleared_differences self.old }
     {
         zero(self.y_perturbed);
         zero(self.f_perturbed);

@@ -7,7 +7,7 @@ use Rattle.state.proofs.Pivots.{all-rows}
 use Rattle.matrix.specs.Answers.{solution}
 use Rattle.matrix.specs.Linear.{lin_solve_of}
 use Rattle.matrix.proofs.Sizes.{order, three}
-use Rattle.matrix.proofs.Sides.{real-lawful}
+use Rattle.matrix.proofs.Sides.{real-lawful, real-once}
 use Rattle.matrix.proofs.Backward.{solved-by}
 use Rattle.matrix.proofs.linear.lin_solve.Goals as goal
 
@@ -44,5 +44,5 @@ returns c = let l = three c.args.n _ c.args.n _ _ c.if-not-fits.false in
     (yes _ _ _ c.if-not-fits.false (no _ _ _
     (sym c.stray_pivot.ensures ∙ c.if-stray_pivot.false)
     (ap (solution (Ok tt)) (c.solve.ensures
-    ∙ solved-by _ _ _ real-lawful _ _ _ _
+    ∙ solved-by _ _ _ real-lawful _ _ real-once _ _
     (order c.args.n (sym c.is_order.ensures ∙ c.if-not-is_order.false)).low l.1))))

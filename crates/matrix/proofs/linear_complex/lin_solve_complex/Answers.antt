@@ -7,7 +7,7 @@ use Rattle.state.proofs.Pivots.{all-rows}
 use Rattle.matrix.specs.Answers.{solution}
 use Rattle.matrix.specs.LinearComplex.{lin_solve_complex_of}
 use Rattle.matrix.proofs.Sizes.{order, five}
-use Rattle.matrix.proofs.Sides.{complex-lawful}
+use Rattle.matrix.proofs.Sides.{complex-lawful, complex-once}
 use Rattle.matrix.proofs.Backward.{solved-by}
 use Rattle.matrix.proofs.linear_complex.lin_solve_complex.Goals as goal
 
@@ -51,5 +51,5 @@ returns c = let l = five c.args.n _ _ _ _ _ c.if-not-fits.false in
     (yes _ _ _ c.if-not-fits.false (no _ _ _
     (sym c.stray_pivot.ensures ∙ c.if-stray_pivot.false)
     (ap (solution (Ok tt)) (c.solve.ensures
-    ∙ solved-by _ _ _ complex-lawful _ _ _ _
+    ∙ solved-by _ _ _ complex-lawful _ _ complex-once _ _
     (order c.args.n (sym c.is_order.ensures ∙ c.if-not-is_order.false)).low (l.2, l.3)))))

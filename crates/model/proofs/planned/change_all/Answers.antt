@@ -31,8 +31,8 @@ loop-i-preserved c = let a = c.args in
     l.invariant.2 in
     (omega arith, m.0, m.1)
 
-pub returns : goal.returns
-returns c = let a = c.args in
+pub returns-clause-changed : goal.returns-clause-changed
+returns-clause-changed c = let a = c.args in
     let l = c.loop-i in
     subst (λ (k : ℕ). Changes k a.y.now a.rates.now a.species.now l.changes)
     (le_antisymm l.invariant.0 c.loop-i-test.false) l.invariant.2

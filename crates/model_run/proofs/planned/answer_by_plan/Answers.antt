@@ -1,5 +1,6 @@
 -- `answer_by_plan` meets its contract: what was matched says what is asked, and only a derivative is written.
 use mathlib.Core.Path.{refl, sym, ap}
+use native.Mathlib.Omega.{arith}
 use Rattle.history.specs.Host.{modified, wrote}
 use Rattle.model_run.specs.Host.{reply_to, answered_by}
 use Rattle.model_run.proofs.HostLaws.{hosted, wrote_at}
@@ -15,7 +16,8 @@ returns-in-Derivative c =
       value = ap reply_to (sym c.in-Derivative.is);
       f_origin_after = λ scal f2 f3 g f.
           wrote_at a.reactions a.rates.now a.species.now a.request _ a.place (lent scal f2 f3 g f) c.in-Derivative.is
-          (c.fill.ensures scal f2 f3 g f);
+          (c.fill.ensures.f_origin_after scal f2 f3 g f);
+      changes_len = c.fill.ensures.changes_len;
     }
 
 pub returns-in-Jacobian : goal.returns-in-Jacobian
@@ -29,6 +31,7 @@ returns-in-Jacobian c =
       f_origin_after = λ scal f2 f3 g f.
           wrote_at a.reactions a.rates.now a.species.now a.request _ a.place (lent scal f2 f3 g f) c.in-Jacobian.is
           refl;
+      changes_len = omega arith;
     }
 
 pub returns-in-Report : goal.returns-in-Report
@@ -41,6 +44,7 @@ returns-in-Report c =
       value = ap reply_to (sym c.in-Report.is);
       f_origin_after = λ scal f2 f3 g f.
           wrote_at a.reactions a.rates.now a.species.now a.request _ a.place (lent scal f2 f3 g f) c.in-Report.is refl;
+      changes_len = omega arith;
     }
 
 pub returns-in-Ended : goal.returns-in-Ended
@@ -53,4 +57,5 @@ returns-in-Ended c =
       value = ap reply_to (sym c.in-Ended.is);
       f_origin_after = λ scal f2 f3 g f.
           wrote_at a.reactions a.rates.now a.species.now a.request _ a.place (lent scal f2 f3 g f) c.in-Ended.is refl;
+      changes_len = omega arith;
     }

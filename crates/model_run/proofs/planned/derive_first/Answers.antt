@@ -11,8 +11,8 @@ use Rattle.model_run.proofs.planned.derive_first.Goals as goal
 pub slice_bounds-derivative_by_plan-end : goal.slice_bounds-derivative_by_plan-end
 slice_bounds-derivative_by_plan-end c = simp length-take (omega arith)
 
-pub returns-else-n-cont : goal.returns-else-n-cont
-returns-else-n-cont c = let a = c.args in
-    c.derivative_by_plan-else-n-cont.ensures ∙ ap
+pub returns-else-n-cont-clause-part_after : goal.returns-else-n-cont-clause-part_after
+returns-else-n-cont-clause-part_after c = let a = c.args in
+    c.derivative_by_plan-else-n-cont.ensures.dy_after ∙ ap
     (λ (l : List Float). (derived_of a.reactions l a.rates.now a.species.now a.part.now).dy)
     (sym (take_all a.n a.cont.now c.if-n-cont.false))

@@ -6,9 +6,9 @@ use Rattle.model_run.specs.Host.{source_at}
 use Rattle.model_run.proofs.HostLaws.{hosted, filled_at}
 use Rattle.model_run.proofs.planned.fill.Goals as goal
 
-pub returns-in-Nowhere : goal.returns-in-Nowhere
+pub returns-in-Nowhere-clause-f_origin_after : goal.returns-in-Nowhere-clause-f_origin_after
 unfolding filled part_at source_at
-returns-in-Nowhere c =
+returns-in-Nowhere-clause-f_origin_after c =
     let a = c.args in
     let lent = hosted a.y.now a.f0.now a.cont.now a.z1.now a.z2.now a.z3.now a.f1.now
     a.y_perturbed.now a.f_perturbed.now a.f_origin.now in
@@ -16,73 +16,74 @@ returns-in-Nowhere c =
     filled_at a.reactions a.rates.now a.species.now a.place place.Nowhere (lent scal f2 f3 g f) c.in-Nowhere.is
     refl
 
-pub returns-in-YToF0 : goal.returns-in-YToF0
+pub returns-in-YToF0-clause-f_origin_after : goal.returns-in-YToF0-clause-f_origin_after
 unfolding filled part_at source_at
-returns-in-YToF0 c =
+returns-in-YToF0-clause-f_origin_after c =
     let a = c.args in
     let lent = hosted a.y.now a.f0.now a.cont.now a.z1.now a.z2.now a.z3.now a.f1.now
     a.y_perturbed.now a.f_perturbed.now a.f_origin.now in
     λ scal f2 f3 g f.
     filled_at a.reactions a.rates.now a.species.now a.place place.YToF0 (lent scal f2 f3 g f) c.in-YToF0.is
-    c.derivative_by_plan.ensures
+    c.derivative_by_plan.ensures.dy_after
 
-pub returns-in-ContToZ1 : goal.returns-in-ContToZ1
+pub returns-in-ContToZ1-clause-f_origin_after : goal.returns-in-ContToZ1-clause-f_origin_after
 unfolding filled part_at source_at
-returns-in-ContToZ1 c =
+returns-in-ContToZ1-clause-f_origin_after c =
     let a = c.args in
     let lent = hosted a.y.now a.f0.now a.cont.now a.z1.now a.z2.now a.z3.now a.f1.now
     a.y_perturbed.now a.f_perturbed.now a.f_origin.now in
     λ scal f2 f3 g f.
     filled_at a.reactions a.rates.now a.species.now a.place place.ContToZ1 (lent scal f2 f3 g f) c.in-ContToZ1.is
-    c.derive_first.ensures
+    c.derive_first.ensures.part_after
 
-pub returns-in-ContToZ2 : goal.returns-in-ContToZ2
+pub returns-in-ContToZ2-clause-f_origin_after : goal.returns-in-ContToZ2-clause-f_origin_after
 unfolding filled part_at source_at
-returns-in-ContToZ2 c =
+returns-in-ContToZ2-clause-f_origin_after c =
     let a = c.args in
     let lent = hosted a.y.now a.f0.now a.cont.now a.z1.now a.z2.now a.z3.now a.f1.now
     a.y_perturbed.now a.f_perturbed.now a.f_origin.now in
     λ scal f2 f3 g f.
     filled_at a.reactions a.rates.now a.species.now a.place place.ContToZ2 (lent scal f2 f3 g f) c.in-ContToZ2.is
-    c.derive_first-in-ContToZ2.ensures
+    c.derive_first-in-ContToZ2.ensures.part_after
 
-pub returns-in-ContToZ3 : goal.returns-in-ContToZ3
+pub returns-in-ContToZ3-clause-f_origin_after : goal.returns-in-ContToZ3-clause-f_origin_after
 unfolding filled part_at source_at
-returns-in-ContToZ3 c =
+returns-in-ContToZ3-clause-f_origin_after c =
     let a = c.args in
     let lent = hosted a.y.now a.f0.now a.cont.now a.z1.now a.z2.now a.z3.now a.f1.now
     a.y_perturbed.now a.f_perturbed.now a.f_origin.now in
     λ scal f2 f3 g f.
     filled_at a.reactions a.rates.now a.species.now a.place place.ContToZ3 (lent scal f2 f3 g f) c.in-ContToZ3.is
-    c.derive_first-in-ContToZ3.ensures
+    c.derive_first-in-ContToZ3.ensures.part_after
 
-pub returns-in-ContToF1 : goal.returns-in-ContToF1
+pub returns-in-ContToF1-clause-f_origin_after : goal.returns-in-ContToF1-clause-f_origin_after
 unfolding filled part_at source_at
-returns-in-ContToF1 c =
+returns-in-ContToF1-clause-f_origin_after c =
     let a = c.args in
     let lent = hosted a.y.now a.f0.now a.cont.now a.z1.now a.z2.now a.z3.now a.f1.now
     a.y_perturbed.now a.f_perturbed.now a.f_origin.now in
     λ scal f2 f3 g f.
     filled_at a.reactions a.rates.now a.species.now a.place place.ContToF1 (lent scal f2 f3 g f) c.in-ContToF1.is
-    c.derive_first-in-ContToF1.ensures
+    c.derive_first-in-ContToF1.ensures.part_after
 
-pub returns-in-YToFOrigin : goal.returns-in-YToFOrigin
+pub returns-in-YToFOrigin-clause-f_origin_after : goal.returns-in-YToFOrigin-clause-f_origin_after
 unfolding filled part_at source_at
-returns-in-YToFOrigin c =
+returns-in-YToFOrigin-clause-f_origin_after c =
     let a = c.args in
     let lent = hosted a.y.now a.f0.now a.cont.now a.z1.now a.z2.now a.z3.now a.f1.now
     a.y_perturbed.now a.f_perturbed.now a.f_origin.now in
     λ scal f2 f3 g f.
     filled_at a.reactions a.rates.now a.species.now a.place place.YToFOrigin (lent scal f2 f3 g f)
     c.in-YToFOrigin.is
-    c.derivative_by_plan-in-YToFOrigin.ensures
+    c.derivative_by_plan-in-YToFOrigin.ensures.dy_after
 
-pub returns-in-YPerturbedToFPerturbed : goal.returns-in-YPerturbedToFPerturbed
+pub returns-in-YPerturbedToFPerturbed-clause-f_origin_after :
+    goal.returns-in-YPerturbedToFPerturbed-clause-f_origin_after
 unfolding filled part_at source_at
-returns-in-YPerturbedToFPerturbed c =
+returns-in-YPerturbedToFPerturbed-clause-f_origin_after c =
     let a = c.args in
     let lent = hosted a.y.now a.f0.now a.cont.now a.z1.now a.z2.now a.z3.now a.f1.now
     a.y_perturbed.now a.f_perturbed.now a.f_origin.now in
     λ scal f2 f3 g f.
     filled_at a.reactions a.rates.now a.species.now a.place place.YPerturbedToFPerturbed (lent scal f2 f3 g f)
-    c.in-YPerturbedToFPerturbed.is c.derivative_by_plan-in-YPerturbedToFPerturbed.ensures
+    c.in-YPerturbedToFPerturbed.is c.derivative_by_plan-in-YPerturbedToFPerturbed.ensures.dy_after

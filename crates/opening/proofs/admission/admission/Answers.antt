@@ -1,6 +1,6 @@
 -- `admission` meets its contract.
 use mathlib.Core.Path.{◌∙◌}
-use Rattle.state.specs.Lent.{memory_of}
+use Rattle.state.specs.Memory.{memory, amounts, newton, given, factors, differences}
 use Rattle.opening.proofs.OpeningLaws.{in_order, fits-are}
 use Rattle.opening.proofs.AdmissionLaws.{unfit-order, unfit-length, fit-later}
 use Rattle.opening.proofs.admission.admission.Goals as goal
@@ -8,7 +8,12 @@ use Rattle.opening.proofs.admission.admission.Goals as goal
 pub returns-then-n : goal.returns-then-n
 returns-then-n c =
     let a = c.args in
-    unfit-order a.run a.reply (memory_of a.y.now a.f0.now a.rtol.now a.atol.now a.mass.now a.work.now)
+    unfit-order a.run a.reply (memory
+    (amounts a.y.now a.f0.now a.scal.now a.cont.now)
+    (newton a.z1.now a.z2.now a.z3.now a.f1.now a.f2.now a.f3.now)
+    (given a.rtol.now a.atol.now a.mass.now a.jac.now)
+    (factors a.e1.now a.e2r.now a.e2i.now a.ip1.now a.ip2.now)
+    (differences a.y_perturbed.now a.f_perturbed.now a.f_origin.now))
     c.if-n.true
 
 pub amounts_fit-requires : goal.amounts_fit-requires

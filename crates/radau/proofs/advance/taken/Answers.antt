@@ -19,14 +19,14 @@ advanced-call-requires c =
     let memory-at : Memory = let a = c.args in
     memory_of a.y.now a.f0.now a.rtol.now a.atol.now a.mass.now a.work.now in
     let all = admitted-at c.args.run c.words_of-words.ensures c.doubles_of-doubles.ensures
-    (admitted c.args.run c.args.reply memory-at (sym c.admission.ensures ∙ c.in_default.is)) in
+    (admitted c.args.run c.args.reply memory-at (sym c.admission_lent.ensures ∙ c.in_default.is)) in
     record { sized = all.0; fit = all.1.0; memory_long = all.1.1 }
 
 pub returns-in-Err-clause-outcome : goal.returns-in-Err-clause-outcome
 returns-in-Err-clause-outcome c =
     let memory-at : Memory = let a = c.args in
     memory_of a.y.now a.f0.now a.rtol.now a.atol.now a.mass.now a.work.now in
-    advance-refused c.args.run c.args.reply memory-at _ (sym c.admission.ensures ∙ c.in-Err.is)
+    advance-refused c.args.run c.args.reply memory-at _ (sym c.admission_lent.ensures ∙ c.in-Err.is)
 
 pub returns-clause-outcome : goal.returns-clause-outcome
 returns-clause-outcome c =
@@ -39,4 +39,4 @@ returns-clause-outcome c =
     ∙ ap (λ (r : Run). (advance_by passed_all r c.args.reply memory-at).core)
     (held_at c.args.run c.words_of-words.ensures c.doubles_of-doubles.ensures)
     ∙ ap (λ (v : Verdict). (advance_by v c.args.run c.args.reply memory-at).core)
-    (sym (sym c.admission.ensures ∙ c.in_default.is)))
+    (sym (sym c.admission_lent.ensures ∙ c.in_default.is)))

@@ -40,7 +40,7 @@ returns-in-Differences c = record {
       (rw (
         c.zero-in-Differences.ensures,
         c.zero.ensures,
-        c.copy_from_slice.ensures.after,
+        c.copy.ensures,
         c.requires.words_bound.3,
         c.requires.words_bound.4,
       )

@@ -4,7 +4,7 @@ use native.Mathlib.Omega.{arith}
 use Rattle.std.proofs.lemmas.Result.{err_from_is_err_and}
 use Rattle.sheet.specs.declared.sheet.SheetError.TheVariants as error
 use Rattle.sheet.proofs.Parts.{Lengths}
-use Rattle.sheet.proofs.AnswerLaws.{outcome-long, outcome-broken, outcome-whole, lengths, mapped-err, mapped-ok}
+use Rattle.sheet.proofs.AnswerLaws.{outcome-long, outcome-broken, outcome-copied, lengths, mapped-err, mapped-ok}
 use Rattle.sheet.proofs.sheet.read.Goals as goal
 use Rattle.sheet.proofs.sheet.read.Goals.{In_ok-map_err}
 
@@ -44,7 +44,7 @@ fill_species-requires c = omega (arith, (counts (goal.at.fill_species-requires c
 
 pub returns : goal.returns
 returns c =
-    let all = outcome-whole c.args.bytes.now c.judge.new.settings c.judge.new.amounts
+    let all = outcome-copied c.args.bytes.now c.judge.new.settings c.judge.new.amounts
     c.judge.new.count c.judge.new.listed (mapped-ok _ c.judge.result c.map_err.ensures.cases c.in_ok-map_err.was)
     c.judge.ensures.result_after c.if-bytes-gt-MOST_BYTES.false (omega arith) c.args.amounts.now c.args.rates.now
     c.args.species.now (omega arith) c.heading_from.ensures

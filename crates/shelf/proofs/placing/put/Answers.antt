@@ -50,29 +50,17 @@ returns-then-not-shelf_fits c = let a = c.args in
     c.if-cont-ne0.false (sym c.room_fits.ensures ∙ c.if-not-room_fits.false)
     (sym c.shelf_fits.ensures ∙ c.if-not-shelf_fits.true)
 
-pub overflow_mul-start : goal.overflow_mul-start
-overflow_mul-start c = let a = c.args in
+pub overflow_mul-place : goal.overflow_mul-place
+overflow_mul-place c = let a = c.args in
     let known = tested (length a.cont.now) (length a.coefficients.now) (length a.ends.now) a.shelf c.if-cont-ne0.false
     (sym c.room_fits.ensures ∙ c.if-not-room_fits.false) (sym c.shelf_fits.ensures ∙ c.if-not-shelf_fits.false) in
     omega (arith, known.room)
 
-pub overflow_add-start : goal.overflow_add-start
-overflow_add-start c = let a = c.args in
+pub copy-requires : goal.copy-requires
+copy-requires c = let a = c.args in
     let known = tested (length a.cont.now) (length a.coefficients.now) (length a.ends.now) a.shelf c.if-cont-ne0.false
     (sym c.room_fits.ensures ∙ c.if-not-room_fits.false) (sym c.shelf_fits.ensures ∙ c.if-not-shelf_fits.false) in
-    omega (arith, known.room)
-
-pub offset_bounds-coefficients-start : goal.offset_bounds-coefficients-start
-offset_bounds-coefficients-start c = let a = c.args in
-    let known = tested (length a.cont.now) (length a.coefficients.now) (length a.ends.now) a.shelf c.if-cont-ne0.false
-    (sym c.room_fits.ensures ∙ c.if-not-room_fits.false) (sym c.shelf_fits.ensures ∙ c.if-not-shelf_fits.false) in
-    omega (arith, known.room)
-
-pub slice_bounds-copy_from_slice-end : goal.slice_bounds-copy_from_slice-end
-slice_bounds-copy_from_slice-end c = let a = c.args in
-    let known = tested (length a.cont.now) (length a.coefficients.now) (length a.ends.now) a.shelf c.if-cont-ne0.false
-    (sym c.room_fits.ensures ∙ c.if-not-room_fits.false) (sym c.shelf_fits.ensures ∙ c.if-not-shelf_fits.false) in
-    omega (arith, known.room)
+    known.room
 
 pub steps_after-requires : goal.steps_after-requires
 steps_after-requires c = let a = c.args in
@@ -104,8 +92,8 @@ offset_bounds-ends-end c = let a = c.args in
     (sym c.room_fits.ensures ∙ c.if-not-room_fits.false) (sym c.shelf_fits.ensures ∙ c.if-not-shelf_fits.false) in
     omega (arith, known.ends)
 
-pub slice_bounds-copy_from_slice-end-2 : goal.slice_bounds-copy_from_slice-end-2
-slice_bounds-copy_from_slice-end-2 c = let a = c.args in
+pub slice_bounds-copy_from_slice-end : goal.slice_bounds-copy_from_slice-end
+slice_bounds-copy_from_slice-end c = let a = c.args in
     let known = tested (length a.cont.now) (length a.coefficients.now) (length a.ends.now) a.shelf c.if-cont-ne0.false
     (sym c.room_fits.ensures ∙ c.if-not-room_fits.false) (sym c.shelf_fits.ensures ∙ c.if-not-shelf_fits.false) in
     omega (arith, known.ends)
@@ -117,5 +105,5 @@ returns c = let a = c.args in
     put-done a.shelf a.cont.now a.xold a.h a.coefficients.now a.ends.now
     c.if-cont-ne0.false wide fits
     (λ i. placed (Ok (shelf (c.steps_after.ensures i) (c.place_after.ensures i)))
-    (put-over (a.shelf.place * length a.cont.now) a.cont.now a.coefficients.now c.copy_from_slice.ensures.after i)
-    (put-over (2 * a.shelf.place) (a.xold ∷ a.h ∷ []) a.ends.now c.copy_from_slice-2.ensures.after i))
+    (c.copy.ensures i)
+    (put-over (2 * a.shelf.place) (a.xold ∷ a.h ∷ []) a.ends.now c.copy_from_slice.ensures.after i))

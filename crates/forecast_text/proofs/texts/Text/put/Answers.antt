@@ -1,11 +1,8 @@
--- `put` meets its contract.
-use Rattle.std.proofs.Common.{◌≡◌, ◌-◌, ap, take, ◌∙◌, arith}
-use Rattle.forecast_text.proofs.PutLaws.{put-copied}
+-- `put` meets its contract: what fits is put whole.
+use Rattle.std.proofs.Common.{arith}
+use Rattle.forecast_text.proofs.PutLaws.{put-fits}
 use Rattle.forecast_text.proofs.texts.Text.put.Goals as goal
 
-pub returns : goal.returns
-returns g c =
-    let bytes = c.args.bytes.now in
-    let fit : c.min-fit.result - 0 ≡ c.min-fit.result = omega arith in
-    put-copied bytes (omega arith) (omega arith) c.self.view_is
-    (ap (λ n. take n bytes) (fit ∙ c.min-fit.ensures)) c.put_text-self-inside.ensures
+pub returns-then-bytes-self : goal.returns-then-bytes-self
+returns-then-bytes-self g c =
+    put-fits c.args.bytes.now (omega arith) (omega arith) c.self.view_is (omega arith) c.put_text-self-inside.ensures

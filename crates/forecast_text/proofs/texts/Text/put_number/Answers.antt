@@ -1,8 +1,8 @@
 -- `put_number` meets its contract.
 use Rattle.std.proofs.Common.{arith}
-use Rattle.forecast_text.proofs.DigitLaws.{width-spells, twenty}
+use Rattle.forecast_text.proofs.DigitLaws.{numeral-lowest}
 use Rattle.forecast_text.proofs.texts.Text.put_number.Goals as goal
 
-pub digits_of-digits-requires-clause-spelt : goal.digits_of-digits-requires-clause-spelt
-digits_of-digits-requires-clause-spelt g c =
-    rw c.decimal_width-width.ensures.value (width-spells 19 _ (omega (arith, twenty)))
+pub returns : goal.returns
+returns g c = rw (numeral-lowest c.args.value c.decimal_width.result (omega arith) c.decimal_width.ensures.value)
+    at c.put_lowest.ensures
