@@ -56,8 +56,8 @@ fn put_fraction(text: &mut Text<ROOM>, fraction: u64)
     text.put_digits(16, kept.width, kept.value);
 }
 
-// Puts the exponent with its sign. Laid into the loop over a record, as what calls it is: that saves the calls for each
-// number.
+// Puts the exponent with its sign. Inlined, as its callers are, into the loop over a record: that saves a few calls for
+// each number.
 #[inline(always)]
 fn put_exponent(text: &mut Text<ROOM>, exponent: u64)
     requires { exponent < 2048 }
