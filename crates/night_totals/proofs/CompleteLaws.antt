@@ -45,7 +45,8 @@ module _ (form : List ℕ) (q : Filling) (slot : numbered_at form q.at ≡ true)
       ∙ pick_no _ _ (le-ltb (48 + d) 48 (omega arith)) ∙ pick_no _ _ (le-ltb 57 (48 + d) (omega arith))
       ∙ ap (λ e. grown q (longer_of q.number e)) z
 
-  first-digit : q.number ≡ numbers.Awaited 0 → (d : ℕ) → d < 10 → filled_of form q (48 + d) ≡ Some (valued_of q d)
+  first-digit : {w : ℕ} → q.number ≡ numbers.Awaited w → (d : ℕ) → d < 10
+      → filled_of form q (48 + d) ≡ Some (valued_of q d)
   unfolding longer_of
   first-digit idle d h = digit-filled d h ∙ ap (λ o. grown q (longer_of o d)) idle
 
@@ -56,7 +57,9 @@ module _ (form : List ℕ) (q : Filling) (slot : numbered_at form q.at ≡ true)
       digit-filled d h ∙ ap (λ o. grown q (longer_of o d)) going
       ∙ ap (grown q) (pick_no _ _ (ne_eqb v 0 (λ e. omega arith)) ∙ pick_no _ _ (lt-leb 1000000000000000 v few))
 
-module _ (form : List ℕ) (q : Filling) (idle : q.number ≡ numbers.Awaited 0) (slot : numbered_at form q.at ≡ true) where
+-- whatever value a number holds that has not begun
+module _ (form : List ℕ) (q : Filling) {w : ℕ} (idle : q.number ≡ numbers.Awaited w)
+    (slot : numbered_at form q.at ≡ true) where
   -- by how large it is
   numeral-by : (n v : ℕ) → v ≤ n → v < 10000000000000000 → fill_of form (Some q) (numeral_of v) ≡ Some (valued_of q v)
   unfolding fill_of

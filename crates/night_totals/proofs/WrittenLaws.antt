@@ -111,13 +111,25 @@ piece-few x v =
     (λ e. omega (arith, ap length (pick_yes (numeral_of v) (x ∷ []) e), pick_yes {A = ℕ} 1 0 e, numeral-few v))
     (λ e. omega (arith, ap length (pick_no (numeral_of v) (x ∷ []) e), pick_no {A = ℕ} 1 0 e))
 
-spelt-few : (form : List ℕ) (k : ℕ) (vs : List ℕ) → length (spelt form k vs) ≤ length form + 19 * slots_in form
+spelt-within : (form : List ℕ) (k : ℕ) (vs : List ℕ) → length (spelt form k vs) ≤ length form + 19 * slots_in form
 unfolding spelt slots_in
-spelt-few [] k vs = omega arith
-spelt-few (x ∷ form) k vs =
+spelt-within [] k vs = omega arith
+spelt-within (x ∷ form) k vs =
     let piece = pick (eqb x 35) (numeral_of (get_or vs k 0)) (x ∷ []) in
     let next = k + pick (eqb x 35) 1 0 in
-    omega (arith, length-append piece (spelt form next vs), piece-few x (get_or vs k 0), spelt-few form next vs)
+    omega (arith, length-append piece (spelt form next vs), piece-few x (get_or vs k 0), spelt-within form next vs)
+
+slots-few : (form : List ℕ) → slots_in form ≤ length form
+unfolding slots_in
+slots-few [] = omega arith
+slots-few (x ∷ form) =
+    split (eqb x 35)
+    (λ e. omega (arith, pick_yes {A = ℕ} 1 0 e, slots-few form))
+    (λ e. omega (arith, pick_no {A = ℕ} 1 0 e, slots-few form))
+
+-- twenty bytes at most for each byte of the form
+pub spelt-few : (form : List ℕ) (k : ℕ) (vs : List ℕ) → length (spelt form k vs) ≤ 20 * length form
+spelt-few form k vs = omega (arith, spelt-within form k vs, slots-few form)
 
 -- ---- what is printed
 
@@ -139,13 +151,13 @@ many-slots = refl
 
 pub totals-few : (t : Totals) → length (printed_of (Ok t)) ≤ 423
 unfolding printed_of
-totals-few t = omega (arith, form-length, form-slots, spelt-few totals_form 0 (totals_numbers t))
+totals-few t = omega (arith, form-length, form-slots, spelt-within totals_form 0 (totals_numbers t))
 
 pub refusal-few : (e : NightError) → length (printed_of (Err e)) ≤ 32
 unfolding printed_of text
 refusal-few (night_error.Malformed line) =
-    omega (arith, line-slots, spelt-few (text "refused 20 #\n") 0 (one_number line))
-refusal-few night_error.TooMany = omega (arith, many-slots, spelt-few (text "refused 26\n") 0 (one_number 0))
+    omega (arith, line-slots, spelt-within (text "refused 20 #\n") 0 (one_number line))
+refusal-few night_error.TooMany = omega (arith, many-slots, spelt-within (text "refused 26\n") 0 (one_number 0))
 
 -- what is put of a refusal
 pub line-put : (line : ℕ) → text "refused 20 " ++ numeral_of line ++ text "\n" ≡ printed_of (Err (night_error.Malformed
